@@ -1,0 +1,144 @@
+//! A queue of indices in the order of entry.
+ghost use Rattle.std.specs.Prelude.{◌≡◌, ℕ, ◌+◌, ◌<◌, ◌≤◌, List, [], ◌∷◌, ◌++◌, length, drop, slice_get, Option, Some, None, IfSome, IfNone, Contains};
+ghost use Rattle.thp_links.specs.Indices.{without};
+ghost use Rattle.thp_links.specs.Standing.{SameOutside, Stands};
+
+use crate::index_list::IndexList;
+use crate::link::{Link, NIL};
+use crate::table::{LinkTable, set_next, set_prev};
+use std::marker::Model;
+
+/// A queue of indices in the order of entry, linked both ways through a table that each call is given.
+///
+/// Contracts see the list of the indices, oldest first. Every call asks that this list stands in the links of the table,
+/// and leaves it so. No call takes memory, and none walks the queue.
+#[derive(Drop)]
+pub struct Queue {
+    // The oldest index, or `NIL`.
+    head: u32,
+    // The newest index, or `NIL`.
+    tail: u32,
+    // How many indices the queue holds.
+    len: u32,
+    // The indices in order, for contracts.
+    list: IndexList,
+}
+
+impl Model for Queue {
+    ghost use Rattle.std.specs.Prelude.{ℕ, List};
+    ghost use Rattle.thp_links.specs.Ends.{HasEnds};
+
+    ghost Value = { List ℕ };
+
+    ghost view = { λ q. q.list };
+
+    ghost invariant = { λ q. HasEnds q.head q.tail q.len q.list };
+}
+
+impl Queue {
+    /// A queue with no index, which stands in any table.
+    pub fn new() -> Queue
+        ensures { result ≡ [] }
+    {
+        Queue {
+            head: NIL,
+            tail: NIL,
+            len: 0,
+            list: IndexList::new(),
+        }
+    }
+
+    /// Puts index `i` behind all others.
+    pub fn push_back<T: LinkTable>(&mut self, t: &mut T, i: u32)
+        requires stands { Stands self.old (T.links t.old) }
+        requires inside { i < length (T.links t.old) }
+        requires absent { ¬ Contains self.old i }
+        ensures list { self.new ≡ self.old ++ i ∷ [] }
+        ensures stands { Stands self.new (T.links t.new) }
+
+        // Other pairs, and all else that the table holds, stay.
+        ensures outside { SameOutside self.new (T.links t.old) (T.links t.new) }
+        ensures rest { T.same_rest t.old t.new }
+        ensures accesses { T.accesses t.new ≤ T.accesses t.old + 4 }
+    {
+        // Tells the proof that each index is below `NIL`, as in the calls below.
+        let _count = t.len();
+        set_next(t, self.tail, i);
+        t.set_link(
+            i,
+            Link {
+                prev: self.tail,
+                next: NIL,
+            },
+        );
+        let head = if self.len == 0 { i } else { self.head };
+        self.head = head;
+        self.tail = i;
+        self.len += 1;
+        self.list.push_back(i);
+    }
+
+    /// Takes index `i` out, wherever it stands. The others keep their order.
+    pub fn remove<T: LinkTable>(&mut self, t: &mut T, i: u32)
+        requires stands { Stands self.old (T.links t.old) }
+        requires present { Contains self.old i }
+        ensures list { self.new ≡ without i self.old }
+        ensures stands { Stands self.new (T.links t.new) }
+
+        // Other pairs, and all else that the table holds, stay.
+        ensures outside { SameOutside self.old (T.links t.old) (T.links t.new) }
+        ensures rest { T.same_rest t.old t.new }
+        ensures accesses { T.accesses t.new ≤ T.accesses t.old + 6 }
+    {
+        let _count = t.len();
+        let pair = t.link(i);
+        set_next(t, pair.prev, pair.next);
+        set_prev(t, pair.next, pair.prev);
+        let head = if pair.prev == NIL { pair.next } else { self.head };
+        let tail = if pair.next == NIL { pair.prev } else { self.tail };
+        self.head = head;
+        self.tail = tail;
+        self.len -= 1;
+        self.list.remove(i);
+    }
+
+    /// Takes the oldest index out, or answers `None` where there is none.
+    pub fn pop_front<T: LinkTable>(&mut self, t: &mut T) -> Option<u32>
+        requires stands { Stands self.old (T.links t.old) }
+        ensures value { result ≡ slice_get self.old 0 }
+        ensures inside { IfSome result (λ i. i < length (T.links t.new)) }
+        ensures list { self.new ≡ drop 1 self.old }
+        ensures stands { Stands self.new (T.links t.new) }
+        ensures none { IfNone result (t.new ≡ t.old) }
+
+        // Other pairs, and all else that the table holds, stay.
+        ensures outside { SameOutside self.old (T.links t.old) (T.links t.new) }
+        ensures rest { T.same_rest t.old t.new }
+        ensures accesses { T.accesses t.new ≤ T.accesses t.old + 4 }
+    {
+        let _count = t.len();
+        let i = self.front()?;
+        let pair = t.link(i);
+        set_prev(t, pair.next, NIL);
+        let tail = if pair.next == NIL { NIL } else { self.tail };
+        self.head = pair.next;
+        self.tail = tail;
+        self.len -= 1;
+        self.list.pop_front();
+        Some(i)
+    }
+
+    /// The oldest index, if there is one.
+    pub fn front(&self) -> Option<u32>
+        ensures { result ≡ slice_get self.now 0 }
+    {
+        if self.len == 0 { None } else { Some(self.head) }
+    }
+
+    /// How many indices the queue holds.
+    pub fn len(&self) -> u32
+        ensures { result ≡ length self.now }
+    {
+        self.len
+    }
+}

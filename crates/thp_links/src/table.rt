@@ -1,0 +1,83 @@
+//! Tables of link pairs.
+ghost use Rattle.std.specs.Prelude.{◌≡◌, ℕ, ◌+◌, ◌<◌, ◌≤◌, List, length, slice_get, slice_set, Some};
+ghost use Rattle.thp_links.specs.declared.link.Link.{Link};
+ghost use Rattle.thp_links.specs.Neighbours.{with_next, with_prev};
+
+use crate::link::{Link, NIL};
+
+/// A table with a link pair for each of its indices, which are the numbers below `len`.
+///
+/// A read or a write of a pair is one access. Contracts count accesses; the running table need not.
+pub trait LinkTable {
+    // The pair of each index.
+    ghost links: { Self → List Link };
+
+    // How many accesses there were so far.
+    ghost accesses: { Self → ℕ };
+
+    // All that the later table holds besides pairs and accesses is as it was in the earlier one.
+    ghost same_rest: { Self → Self → Type 0 };
+
+    /// The number of indices.
+    fn len(&self) -> u32
+        ensures { result ≡ length (links self.now) };
+
+    /// The pair of index `i`.
+    fn link(&mut self, i: u32) -> Link
+        requires inside { i < length (links self.old) }
+        ensures value { slice_get (links self.old) i ≡ Some result }
+        ensures links { links self.new ≡ links self.old }
+        ensures accesses { accesses self.new ≡ accesses self.old + 1 }
+        ensures rest { same_rest self.old self.new };
+
+    /// Makes `link` the pair of index `i`.
+    fn set_link(&mut self, i: u32, link: Link)
+        requires inside { i < length (links self.old) }
+        ensures links { links self.new ≡ slice_set (links self.old) i link }
+        ensures accesses { accesses self.new ≡ accesses self.old + 1 }
+        ensures rest { same_rest self.old self.new };
+
+    ghost same_rest_refl: { (t : Self) → same_rest t t };
+
+    ghost same_rest_trans: { (a b c : Self) → same_rest a b → same_rest b c → same_rest a c };
+}
+
+// Sets the successor of `at`, and does nothing at `NIL`. The one equation for both keeps removal free of cases.
+pub(crate) fn set_next<T: LinkTable>(t: &mut T, at: u32, next: u32)
+    requires small { length (T.links t.old) ≤ NIL }
+    requires inside { (at ≡ NIL → ⊥) → at < length (T.links t.old) }
+    ensures links { T.links t.new ≡ with_next (T.links t.old) at next }
+    ensures accesses { T.accesses t.new ≤ T.accesses t.old + 2 }
+    ensures rest { T.same_rest t.old t.new }
+{
+    if at != NIL {
+        let pair = t.link(at);
+        t.set_link(
+            at,
+            Link {
+                prev: pair.prev,
+                next,
+            },
+        );
+    }
+}
+
+// Sets the predecessor of `at`, and does nothing at `NIL`.
+pub(crate) fn set_prev<T: LinkTable>(t: &mut T, at: u32, prev: u32)
+    requires small { length (T.links t.old) ≤ NIL }
+    requires inside { (at ≡ NIL → ⊥) → at < length (T.links t.old) }
+    ensures links { T.links t.new ≡ with_prev (T.links t.old) at prev }
+    ensures accesses { T.accesses t.new ≤ T.accesses t.old + 2 }
+    ensures rest { T.same_rest t.old t.new }
+{
+    if at != NIL {
+        let pair = t.link(at);
+        t.set_link(
+            at,
+            Link {
+                prev,
+                next: pair.next,
+            },
+        );
+    }
+}

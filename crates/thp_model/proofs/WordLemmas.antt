@@ -1,0 +1,215 @@
+-- Sets as words.
+use Rattle.std.proofs.Common.{◌≡◌, ◌≢◌, ℕ, suc, zero, ◌+◌, ◌-◌, ◌*◌, ◌/◌, ◌%◌, ◌^◌, ◌<◌, ◌≤◌, max, Bool, true, false, cond, ◌&&◌, ◌||◌, List, [], ◌∷◌, ◌++◌, length, map, set, get_or, refl, ap, sym, ◌∙◌, subst, arith, inl, inr, nat_eq, nat_le, nat_lt, All, eq-eqb, ne_eqb}
+use Rattle.std.specs.Int.{bit_at, w64}
+use Rattle.std.specs.Prelude.{bit_and, bit_or, count_ones, count_by, sum_by}
+use Rattle.std.specs.List.{range_with_len}
+use Rattle.std.proofs.lemmas.List.{same_lists, length-append, get_or_append_left, get_or-append_right, length-set, get_or-set_same, get_or-set_other, get_or_default}
+use Rattle.std.proofs.lemmas.List.FromFn.{get_or-map-range_with_len}
+use Rattle.std.proofs.lemmas.Nat.Bits.{shr_and_one, bit_at_or, bit_at_set_same, bit_at_set_other, bit_at-lt, bit_at_lowest, bit_at-suc}
+use Rattle.std.proofs.lemmas.Nat.{or_lt, one_shl, pow_below}
+use Rattle.std.proofs.lemmas.Bool.Decides.{eqb_tells, nat_tests}
+use lib.Count.{ones, ones_step}
+use Rattle.std.proofs.lemmas.List.Sums.{sum_by-append, sum_by-cons}
+use Rattle.std.proofs.Math.Nat.{pow-suc}
+use Rattle.thp_model.proofs.Counting.{count-cons}
+use Rattle.thp_model.specs.Sets.{set_of, has, set_size}
+use Rattle.thp_model.specs.Words.{in_words, words_of, words_are, AreWords, get_or-set_of, length-set_of}
+
+-- a list of 512 truths is the set of a test that agrees with it
+pub set_of_is : (t : List Bool) (test : ℕ → Bool) → length t ≡ 512 → ((i : ℕ) → i < 512 → get_or t i false ≡ test i) → t ≡ set_of test
+set_of_is t test e f =
+    same_lists t (set_of test) (e ∙ sym (length-set_of test))
+    (λ k d h. get_or_default t k d false h ∙ f k (omega arith) ∙ sym (get_or-set_of test k (omega arith)) ∙ get_or_default (set_of test) k false d (omega (arith, length-set_of test)))
+
+pub set_of-ext : (f g : ℕ → Bool) → ((i : ℕ) → i < 512 → f i ≡ g i) → set_of f ≡ set_of g
+set_of-ext f g h = set_of_is (set_of f) g (length-set_of f) (λ i below. get_or-set_of f i below ∙ h i below)
+
+pub has_word : (ws : List ℕ) (i : ℕ) → i < 512 → nat_eq (bit_and (get_or ws (i / 64) 0 / 2 ^ (i % 64)) 1) 1 ≡ has (set_of (in_words ws)) i
+unfolding in_words
+has_word ws i h = ap (λ n. nat_eq n 1) (shr_and_one (get_or ws (i / 64) 0) (i % 64)) ∙ sym (get_or-set_of (in_words ws) i h)
+
+pub none_set : set_of (in_words (0 ∷ 0 ∷ 0 ∷ 0 ∷ 0 ∷ 0 ∷ 0 ∷ 0 ∷ [])) ≡ set_of (λ i. false)
+unfolding set_of in_words
+none_set = refl
+
+pub all_set : set_of (in_words (18446744073709551615 ∷ 18446744073709551615 ∷ 18446744073709551615 ∷ 18446744073709551615 ∷ 18446744073709551615 ∷ 18446744073709551615 ∷ 18446744073709551615 ∷ 18446744073709551615 ∷ [])) ≡ set_of (λ i. true)
+unfolding set_of in_words
+all_set = refl
+
+-- one bit set
+abbrev pub with_bit : List ℕ → ℕ → List ℕ
+with_bit ws i = set ws (i / 64) (bit_or (get_or ws (i / 64) 0) (1 * 2 ^ (i % 64) % 2 ^ 64))
+
+mask_below : (i : ℕ) → 1 * 2 ^ (i % 64) % 2 ^ 64 < 2 ^ 64
+mask_below i = omega (arith, one_shl (i % 64) 64 (omega arith), pow_below (i % 64) 64 (omega arith))
+
+at_least : (ws : List ℕ) → AreWords ws → (k d : ℕ) → k < 8 → get_or ws k d < 2 ^ 64
+at_least ws a k d h = a.fit k d (omega (arith, a.eight))
+
+pub with_bit-AreWords : (ws : List ℕ) (i : ℕ) → i < 512 → AreWords ws → AreWords (with_bit ws i)
+with_bit-AreWords ws i h a = record {
+  eight = length-set ws (i / 64) _ ∙ a.eight;
+  fit = λ k d below.
+      let in_range : k < length ws = omega (arith, length-set ws (i / 64) (bit_or (get_or ws (i / 64) 0) (1 * 2 ^ (i % 64) % 2 ^ 64))) in
+      elim (eqb_tells k (i / 64)) [
+        | inl y ↦
+            let P : ℕ → Type 0 = λ q. get_or (with_bit ws i) q d < 2 ^ 64 in
+            subst P (sym y.1) (rw (get_or-set_same ws (i / 64) _ d (omega (arith, a.eight))) (or_lt 64 _ _ (at_least ws a (i / 64) 0 (omega arith)) (mask_below i)))
+        | inr y ↦ rw (get_or-set_other ws (i / 64) k _ d y.1) (a.fit k d in_range)
+      ];
+}
+
+put_bit : (w r s : ℕ) → s < 64 → nat_eq (bit_at (bit_or w (1 * 2 ^ s % 2 ^ 64)) r) 1 ≡ (nat_eq r s || nat_eq (bit_at w r) 1)
+put_bit w r s h =
+    elim (eqb_tells r s) [
+      | inl y ↦
+          let P : ℕ → Type 0 = λ x. bit_at (bit_or w (1 * 2 ^ s % 2 ^ 64)) x ≡ 1 in
+          eq-eqb _ 1 (subst P (sym y.1) (bit_at_set_same w64 w s h)) ∙ sym (ap (λ b. b || nat_eq (bit_at w r) 1) y.0)
+      | inr y ↦ ap (λ n. nat_eq n 1) (bit_at_set_other w64 w s h r y.1) ∙ sym (ap (λ b. b || nat_eq (bit_at w r) 1) y.0)
+    ]
+
+same_place : (k i : ℕ) → k / 64 ≡ i / 64 → nat_eq (k % 64) (i % 64) ≡ nat_eq k i
+same_place k i e =
+    elim (eqb_tells k i) [
+      | inl y ↦ eq-eqb _ _ (ap (λ n. n % 64) y.1) ∙ sym y.0
+      | inr y ↦ ne_eqb _ _ (λ f. y.1 (omega arith)) ∙ sym y.0
+    ]
+
+other_place : (k i : ℕ) → (k / 64 ≢ i / 64) → nat_eq k i ≡ false
+other_place k i f = ne_eqb k i (λ e. f (ap (λ n. n / 64) e))
+
+with_bit-in : (ws : List ℕ) (i k : ℕ) → i < 512 → length ws ≡ 8 → in_words (with_bit ws i) k ≡ (nat_eq k i || in_words ws k)
+unfolding in_words
+with_bit-in ws i k h e =
+    elim (eqb_tells (k / 64) (i / 64)) [
+      | inl y ↦
+          let v : ℕ = bit_or (get_or ws (i / 64) 0) (1 * 2 ^ (i % 64) % 2 ^ 64) in
+          let read : get_or (set ws (i / 64) v) (k / 64) 0 ≡ v = ap (λ q. get_or (set ws (i / 64) v) q 0) y.1 ∙ get_or-set_same ws (i / 64) v 0 (omega arith) in
+          ap (λ x. nat_eq (bit_at x (k % 64)) 1) read ∙ put_bit (get_or ws (i / 64) 0) (k % 64) (i % 64) (omega arith)
+          ∙ ap (λ b. b || nat_eq (bit_at (get_or ws (i / 64) 0) (k % 64)) 1) (same_place k i y.1)
+          ∙ ap (λ q. nat_eq k i || nat_eq (bit_at (get_or ws q 0) (k % 64)) 1) (sym y.1)
+      | inr y ↦
+          ap (λ x. nat_eq (bit_at x (k % 64)) 1) (get_or-set_other ws (i / 64) (k / 64) _ 0 y.1)
+          ∙ sym (ap (λ b. b || nat_eq (bit_at (get_or ws (k / 64) 0) (k % 64)) 1) (other_place k i y.1))
+    ]
+
+pub set_set_of : (t : List Bool) (i : ℕ) → length t ≡ 512 → i < 512 → set t i true ≡ set_of (λ k. nat_eq k i || has t k)
+set_set_of t i e h =
+    set_of_is (set t i true) _ (length-set t i true ∙ e)
+    (λ k below.
+    elim (eqb_tells k i) [
+      | inl y ↦ ap (λ q. get_or (set t i true) q false) y.1 ∙ get_or-set_same t i true false (omega arith) ∙ sym (ap (λ b. b || has t k) y.0)
+      | inr y ↦ get_or-set_other t i k true false y.1 ∙ sym (ap (λ b. b || has t k) y.0)
+    ])
+
+pub with_bit-set_of : (ws : List ℕ) (i : ℕ) → i < 512 → length ws ≡ 8 → set_of (in_words (with_bit ws i)) ≡ set (set_of (in_words ws)) i true
+with_bit-set_of ws i h e =
+    set_of-ext _ _ (λ k below. with_bit-in ws i k h e ∙ ap (λ b. nat_eq k i || b) (sym (get_or-set_of (in_words ws) k below)))
+    ∙ sym (set_set_of (set_of (in_words ws)) i (length-set_of (in_words ws)) h)
+
+-- the bits of either
+abbrev pub or_words : List ℕ → List ℕ → List ℕ
+or_words ws vs = map (λ k. bit_or (get_or ws k 0) (get_or vs k 0)) (range_with_len 0 8)
+
+pub or_words-AreWords : (ws vs : List ℕ) → AreWords ws → AreWords vs → AreWords (or_words ws vs)
+or_words-AreWords ws vs a b = record {
+  eight = refl;
+  fit = λ k d h.
+      rw (get_or-map-range_with_len (λ k. bit_or (get_or ws k 0) (get_or vs k 0)) 0 8 k k d h (omega arith)) (or_lt 64 _ _ (at_least ws a k 0 h) (at_least vs b k 0 h));
+}
+
+either_bit : (a b : ℕ) → a < 2 → b < 2 → nat_eq (max a b) 1 ≡ (nat_eq a 1 || nat_eq b 1)
+either_bit a b f g = grind arith
+
+pub or_words-set_of : (ws vs : List ℕ) → set_of (in_words (or_words ws vs)) ≡ set_of (λ i. has (set_of (in_words ws)) i || has (set_of (in_words vs)) i)
+unfolding in_words
+or_words-set_of ws vs =
+    set_of-ext _ _
+    (λ i h.
+    ap (λ x. nat_eq (bit_at x (i % 64)) 1) (get_or-map-range_with_len (λ k. bit_or (get_or ws k 0) (get_or vs k 0)) 0 8 (i / 64) (i / 64) 0 (omega arith) (omega arith))
+    ∙ ap (λ n. nat_eq n 1) (bit_at_or (get_or ws (i / 64) 0) (get_or vs (i / 64) 0) (i % 64))
+    ∙ either_bit _ _ (bit_at-lt (get_or ws (i / 64) 0) (i % 64)) (bit_at-lt (get_or vs (i / 64) 0) (i % 64))
+    ∙ sym (ap (λ b. b || in_words vs i) (get_or-set_of (in_words ws) i h))
+    ∙ sym (ap (λ b. has (set_of (in_words ws)) i || b) (get_or-set_of (in_words vs) i h)))
+
+pub words_back : (ws : List ℕ) (t : List Bool) → set_of (in_words ws) ≡ t → AreWords ws → words_of t ≡ ws
+words_back ws t e a = ap words_of (sym e) ∙ words_are ws a
+
+-- one more number of a range
+pub range_more : (t : List Bool) (f i : ℕ) → f ≤ i → i < 512 → t ≡ set_of (λ j. nat_le f j && nat_lt j i) →
+    set t i true ≡ set_of (λ j. nat_le f j && nat_lt j (i + 1))
+range_more t f i h b e =
+    set_set_of t i (ap length e ∙ length-set_of _) b
+    ∙ set_of-ext _ _ (λ j below. ap (λ x. nat_eq j i || has x j) e ∙ ap (λ y. nat_eq j i || y) (get_or-set_of (λ j. nat_le f j && nat_lt j i) j below) ∙ go j) where
+      go : (j : ℕ) → (nat_eq j i || (nat_le f j && nat_lt j i)) ≡ (nat_le f j && nat_lt j (i + 1))
+      go j = grind (arith, nat_tests)
+
+-- the lowest n bits of a word
+bits_from : ℕ → ℕ → List Bool
+bits_from zero w = []
+bits_from (suc n) w = nat_eq (w % 2) 1 ∷ bits_from n (w / 2)
+
+-- all bits of the words, one word after another
+flat : List ℕ → List Bool
+flat [] = []
+flat (w ∷ ws) = bits_from 64 w ++ flat ws
+
+length-bits_from : (n w : ℕ) → length (bits_from n w) ≡ n
+unfolding bits_from
+length-bits_from zero w = refl
+length-bits_from (suc n) w = omega (arith, length-bits_from n (w / 2))
+
+get-bits_from : (n w i : ℕ) → i < n → get_or (bits_from n w) i false ≡ nat_eq (bit_at w i) 1
+unfolding bits_from
+get-bits_from zero w i h = absurd (omega arith)
+get-bits_from (suc n) w zero h = ap (λ x. nat_eq x 1) (sym (bit_at_lowest w))
+get-bits_from (suc n) w (suc i) h = get-bits_from n (w / 2) i (omega arith) ∙ ap (λ x. nat_eq x 1) (sym (bit_at-suc w i))
+
+odd : (w : ℕ) → cond {A = ℕ} (nat_eq (w % 2) 1) 1 0 ≡ w % 2
+odd w = grind (arith, nat_tests)
+
+no_ones : ones 0 ≡ 0
+unfolding ones
+no_ones = refl
+
+size-bits_from : (n w : ℕ) → w < 2 ^ n → count_by (λ b. b) (bits_from n w) ≡ ones w
+unfolding bits_from
+size-bits_from zero w h = let none : 0 ≡ w = omega arith in sym no_ones ∙ ap ones none
+size-bits_from (suc n) w h =
+    omega (arith, count-cons (λ b. b) (nat_eq (w % 2) 1) (bits_from n (w / 2)), odd w, ones_step w, size-bits_from n (w / 2) (omega (arith, pow-suc 2 n)))
+
+length-flat : (ws : List ℕ) → length (flat ws) ≡ 64 * length ws
+unfolding flat
+length-flat [] = refl
+length-flat (w ∷ ws) = omega (arith, length-append (bits_from 64 w) (flat ws), length-bits_from 64 w, length-flat ws)
+
+get-flat : (ws : List ℕ) (k r : ℕ) → r < 64 → k < length ws → get_or (flat ws) (64 * k + r) false ≡ nat_eq (bit_at (get_or ws k 0) r) 1
+unfolding flat
+get-flat [] k r h g = absurd (omega arith)
+get-flat (w ∷ ws) zero r h g =
+    ap (λ i. get_or (bits_from 64 w ++ flat ws) i false) (here r)
+    ∙ get_or_append_left (bits_from 64 w) (flat ws) false r (omega (arith, length-bits_from 64 w))
+    ∙ get-bits_from 64 w r h where
+      here : (r : ℕ) → 64 * 0 + r ≡ r
+      here r = omega arith
+get-flat (w ∷ ws) (suc k) r h g =
+    get_or-append_right (bits_from 64 w) (flat ws) 64 (64 * suc k + r) false (length-bits_from 64 w) (omega arith)
+    ∙ ap (λ i. get_or (flat ws) i false) (there k r)
+    ∙ get-flat ws k r h (omega arith) where
+      there : (k r : ℕ) → 64 * suc k + r - 64 ≡ 64 * k + r
+      there k r = omega arith
+
+size-flat : (ws : List ℕ) → All (λ w. w < 2 ^ 64) ws → count_by (λ b. b) (flat ws) ≡ sum_by count_ones ws
+unfolding flat
+size-flat [] a = refl
+size-flat (w ∷ ws) a =
+    omega (arith, sum_by-append (λ (b : Bool). cond b 1 0) (bits_from 64 w) (flat ws), sum_by-cons count_ones w ws, size-bits_from 64 w (a 0 0 (omega arith)), size-flat ws (λ k d h. a (suc k) d (omega (arith, h))))
+
+pub set_size-words : (ws : List ℕ) → AreWords ws → sum_by count_ones ws ≡ set_size (set_of (in_words ws))
+unfolding in_words
+set_size-words ws a =
+    sym (size-flat ws a.fit)
+    ∙ ap set_size (set_of_is (flat ws) (in_words ws) (length-flat ws ∙ ap (λ n. 64 * n) a.eight)
+    (λ i h. ap (λ j. get_or (flat ws) j false) (parts i) ∙ get-flat ws (i / 64) (i % 64) (omega arith) (omega (arith, a.eight)))) where
+      parts : (i : ℕ) → i ≡ 64 * (i / 64) + i % 64
+      parts i = omega arith

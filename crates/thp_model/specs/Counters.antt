@@ -1,0 +1,50 @@
+-- The node's statistics, by the names of /proc/vmstat.
+-- (admin-guide/mm/transhuge.rst, "Monitoring usage", for the names; when each rises is this project's profile)
+use Rattle.std.specs.Prelude.{ℕ, ◌+◌, Bool, true, false, List, [], ◌∷◌, ◌++◌}
+use Rattle.std.specs.List.{fold}
+use Rattle.thp_model.specs.declared.events.Event.{Event}
+use Rattle.thp_model.specs.declared.events.What.{What}
+use Rattle.thp_model.specs.declared.events.What.TheVariants.{UnmapWhole, UnmapSub, SplitPmd, Unpin, Split, Pinned}
+use Rattle.thp_model.specs.History.{History, count_of}
+use Rattle.thp_model.specs.Counts.{whole, is_queued}
+
+abbrev pub is_page_split : What → Bool
+is_page_split (Split p set) = true
+is_page_split _ = false
+
+abbrev pub is_failed_try : What → Bool
+is_failed_try (Pinned p) = true
+is_failed_try _ = false
+
+-- the event's outcome is that its page was queued; a put-back doesn't count
+abbrev pub queues : What → Bool
+queues (UnmapWhole p outcome set) = is_queued outcome
+queues (UnmapSub p first count outcome set) = is_queued outcome
+queues (Unpin p outcome set) = is_queued outcome
+queues _ = false
+
+-- how many pages were split
+abbrev pub thp_split_page : History → ℕ
+thp_split_page h = count_of is_page_split h
+
+-- how many tries of a page failed
+abbrev pub thp_split_page_failed : History → ℕ
+thp_split_page_failed h = count_of is_failed_try h
+
+-- how often a page was queued
+abbrev pub thp_deferred_split_page : History → ℕ
+thp_deferred_split_page h = count_of queues h
+
+-- how many PMD mappings an event splits at h: one, or all that a page has when it is split itself
+abbrev pub splits_pmds : History → What → ℕ
+splits_pmds h (SplitPmd p) = 1
+splits_pmds h (Split p set) = whole h p
+splits_pmds h _ = 0
+
+-- the history so far and the PMD mappings split so far, after one more event
+abbrev pub add_split_pmds : History × ℕ → Event → History × ℕ
+add_split_pmds sofar e = (sofar.0 ++ e ∷ [], sofar.1 + splits_pmds sofar.0 e.what)
+
+-- how many PMD mappings were split
+unfoldable pub thp_split_pmd : History → ℕ
+thp_split_pmd h = (fold add_split_pmds ([], 0) h).1

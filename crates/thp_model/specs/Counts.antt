@@ -1,0 +1,127 @@
+-- What a history says of one page: its map counts, its pins and its states. Each is a count over the history's events.
+-- (mm/transhuge.rst, "Refcounts and transparent huge pages"; the count of each page by itself is this project's profile)
+use Rattle.std.specs.Prelude.{ℕ, ◌-◌, Bool, true, false, not, ◌&&◌, if◌then◌else◌, nat_eq, nat_lt, IsTrue}
+use Rattle.thp_model.specs.declared.events.Outcome.{Outcome}
+use Rattle.thp_model.specs.declared.events.Outcome.TheVariants.{Freed, Queued}
+use Rattle.thp_model.specs.declared.events.What.{What}
+use Rattle.thp_model.specs.declared.events.What.TheVariants.{Alloc, MapWhole, UnmapWhole, MapSub, UnmapSub, SplitPmd, Pin, Unpin, Split, Close}
+use Rattle.thp_model.specs.Sets.{covers}
+use Rattle.thp_model.specs.History.{History, count_of, some_event}
+
+-- the event adds a mapping of subpage i of page p
+abbrev pub maps : ℕ → ℕ → What → Bool
+maps p i (Alloc q block) = nat_eq p q
+maps p i (MapWhole q) = nat_eq p q
+maps p i (MapSub q first count) = nat_eq p q && covers first count i
+maps p i _ = false
+
+-- the event takes a mapping of subpage i of page p away
+abbrev pub unmaps : ℕ → ℕ → What → Bool
+unmaps p i (UnmapWhole q outcome released) = nat_eq p q
+unmaps p i (UnmapSub q first count outcome released) = nat_eq p q && covers first count i
+unmaps p i _ = false
+
+-- the event adds a mapping of the whole page p
+abbrev pub maps_whole : ℕ → What → Bool
+maps_whole p (Alloc q block) = nat_eq p q
+maps_whole p (MapWhole q) = nat_eq p q
+maps_whole p _ = false
+
+-- the event takes a mapping of the whole page p away, or makes it one of each subpage
+abbrev pub unmaps_whole : ℕ → What → Bool
+unmaps_whole p (UnmapWhole q outcome released) = nat_eq p q
+unmaps_whole p (SplitPmd q) = nat_eq p q
+unmaps_whole p _ = false
+
+-- the event pins page p
+abbrev pub pins_page : ℕ → What → Bool
+pins_page p (Pin q) = nat_eq p q
+pins_page p _ = false
+
+-- the event takes a pin of page p away
+abbrev pub unpins_page : ℕ → What → Bool
+unpins_page p (Unpin q outcome released) = nat_eq p q
+unpins_page p _ = false
+
+-- the event allocates page p
+abbrev pub allocates : ℕ → What → Bool
+allocates p (Alloc q block) = nat_eq p q
+allocates p _ = false
+
+-- the event allocates a page
+abbrev pub is_alloc : What → Bool
+is_alloc (Alloc q block) = true
+is_alloc _ = false
+
+abbrev pub is_freed : Outcome → Bool
+is_freed Freed = true
+is_freed _ = false
+
+abbrev pub is_queued : Outcome → Bool
+is_queued Queued = true
+is_queued _ = false
+
+-- the event frees page p
+abbrev pub frees : ℕ → What → Bool
+frees p (UnmapWhole q outcome released) = nat_eq p q && is_freed outcome
+frees p (UnmapSub q first count outcome released) = nat_eq p q && is_freed outcome
+frees p (Unpin q outcome released) = nat_eq p q && is_freed outcome
+frees p _ = false
+
+-- the event splits page p
+abbrev pub splits : ℕ → What → Bool
+splits p (Split q released) = nat_eq p q
+splits p _ = false
+
+abbrev pub closes : What → Bool
+closes Close = true
+closes _ = false
+
+-- how many pages were allocated
+abbrev pub allocations : History → ℕ
+allocations h = count_of is_alloc h
+
+-- how often subpage i of page p is mapped, by PMD and by PTE entries
+abbrev pub total : History → ℕ → ℕ → ℕ
+total h p i = count_of (maps p i) h - count_of (unmaps p i) h
+
+-- page p was split into base pages
+abbrev pub is_split : History → ℕ → Bool
+is_split h p = some_event (splits p) h
+
+-- the entire map count of page p: how often it is mapped by a PMD entry
+abbrev pub whole : History → ℕ → ℕ
+whole h p = if is_split h p then 0 else count_of (maps_whole p) h - count_of (unmaps_whole p) h
+
+-- the own map count of subpage i: how often it is mapped by a PTE entry
+abbrev pub own : History → ℕ → ℕ → ℕ
+own h p i = total h p i - whole h p
+
+-- the extra pins of page p
+abbrev pub pins : History → ℕ → ℕ
+pins h p = count_of (pins_page p) h - count_of (unpins_page p) h
+
+-- page p was allocated and not freed
+abbrev pub is_live : History → ℕ → Bool
+is_live h p = some_event (allocates p) h && not (some_event (frees p) h)
+
+-- the node was closed
+abbrev pub is_closed : History → Bool
+is_closed h = some_event closes h
+
+-- subpage i of live page p is in use: some entry maps it
+abbrev pub is_used : History → ℕ → ℕ → Bool
+is_used h p i = is_live h p && nat_lt 0 (total h p i)
+
+-- the same as facts
+abbrev pub IsLive : History → ℕ → Type 0
+IsLive h p = IsTrue (is_live h p)
+
+abbrev pub IsSplit : History → ℕ → Type 0
+IsSplit h p = IsTrue (is_split h p)
+
+abbrev pub IsClosed : History → Type 0
+IsClosed h = IsTrue (is_closed h)
+
+abbrev pub IsUsed : History → ℕ → ℕ → Type 0
+IsUsed h p i = IsTrue (is_used h p i)

@@ -1,0 +1,92 @@
+-- Which frames a page holds, which an event gives back, and the outcome of an unmap or an unpin.
+-- (mm/transhuge.rst, "Partial unmap and deferred_split_folio()"; the record of frames is this project's profile)
+use Rattle.std.specs.Prelude.{ℕ, zero, suc, ◌+◌, Bool, false, not, ◌&&◌, ◌||◌, nat_eq, nat_lt, cond, if◌then◌else◌, List, [], ◌∷◌, IsTrue, Option, Some, None}
+use Rattle.std.specs.List.{filter_map, sum_by}
+use Rattle.thp_model.specs.declared.events.Event.{Event}
+use Rattle.thp_model.specs.declared.events.Outcome.{Outcome}
+use Rattle.thp_model.specs.declared.events.Outcome.TheVariants.{Freed, Queued, Stays}
+use Rattle.thp_model.specs.declared.events.What.{What}
+use Rattle.thp_model.specs.declared.events.What.TheVariants.{Alloc, UnmapWhole, UnmapSub, Unpin, Split}
+use Rattle.thp_model.specs.declared.shape.Shape.{Shape}
+use Rattle.thp_model.specs.Sets.{set_of, set_size, some_below}
+use Rattle.thp_model.specs.Shapes.{subpages}
+use Rattle.thp_model.specs.History.{History, some_event}
+use Rattle.thp_model.specs.Counts.{total, pins, is_live, is_split, is_closed, is_used, allocations}
+use Rattle.thp_model.specs.Places.{stands}
+
+-- page p holds the frame of its subpage i: all frames until it is split, those of its subpages in use from then on
+abbrev pub is_held : Shape → History → ℕ → ℕ → Bool
+is_held s h p i = nat_lt i (subpages s) && (is_live h p && (not (is_split h p) || is_used h p i))
+
+abbrev pub IsHeld : Shape → History → ℕ → ℕ → Type 0
+IsHeld s h p i = IsTrue (is_held s h p i)
+
+-- the frames of page p that are held before and not after
+abbrev pub released : Shape → History → History → ℕ → List Bool
+released s before after p = set_of (λ i. is_held s before p i && not (is_held s after p i))
+
+-- some subpage of page p is mapped
+abbrev pub is_mapped : Shape → History → ℕ → Bool
+is_mapped s h p = some_below (subpages s) (λ i. nat_lt 0 (total h p i))
+
+-- some subpage of page p was mapped before and isn't after
+abbrev pub loses_use : Shape → History → History → ℕ → Bool
+loses_use s before after p = some_below (subpages s) (λ i. nat_lt 0 (total before p i) && nat_eq (total after p i) 0)
+
+-- the outcome for page p of an unmap or an unpin: freed where no mapping and no pin is left; queued where a subpage of
+-- a page that isn't split went out of use, another is in use, the node is open and the page stands nowhere yet
+abbrev pub outcome : Shape → History → History → ℕ → Outcome
+outcome s before after p =
+    if not (is_mapped s after p) && nat_eq (pins after p) 0
+    then Freed
+    else
+    if not (is_split before p)
+    && (loses_use s before after p
+    && (is_mapped s after p && (not (is_closed before) && not (stands before p))))
+    then Queued
+    else Stays
+
+-- page p was allocated in block b
+abbrev pub places : ℕ → ℕ → What → Bool
+places p b (Alloc q c) = nat_eq p q && nat_eq b c
+places p b _ = false
+
+-- the event allocates a page in block b that is live
+abbrev pub places_live : History → ℕ → What → Bool
+places_live h b (Alloc p c) = nat_eq b c && is_live h p
+places_live h b _ = false
+
+-- block b is that of a live page
+abbrev pub block_in_use : History → ℕ → Bool
+block_in_use h b = some_event (places_live h b) h
+
+-- the page of an event and the frames of it that the event gave back
+abbrev pub gives_back : Event → Option (ℕ × List Bool)
+gives_back e = by_kind e.what where
+  by_kind : What → Option (ℕ × List Bool)
+  by_kind (UnmapWhole p outcome set) = Some (p, set)
+  by_kind (UnmapSub p first count outcome set) = Some (p, set)
+  by_kind (Unpin p outcome set) = Some (p, set)
+  by_kind (Split p set) = Some (p, set)
+  by_kind _ = None
+
+-- the record of frames given back: a page and a set for each event that has one, in order
+unfoldable pub given : History → List (ℕ × List Bool)
+given h = filter_map gives_back h
+
+-- how many frames were given back
+abbrev pub frames_given : History → ℕ
+frames_given h = sum_by (λ (g : ℕ × List Bool). set_size g.1) (given h)
+
+-- the sum of f below n
+unfoldable pub sum_below : ℕ → (ℕ → ℕ) → ℕ
+sum_below zero f = 0
+sum_below (suc n) f = sum_below n f + f n
+
+-- how many numbers below n pass a test
+abbrev pub count_below : ℕ → (ℕ → Bool) → ℕ
+count_below n test = sum_below n (λ i. cond (test i) 1 0)
+
+-- how many frames are held: the pairs of a page and a subpage
+abbrev pub frames_held : Shape → History → ℕ
+frames_held s h = sum_below (allocations h) (λ p. count_below (subpages s) (is_held s h p))

@@ -1,0 +1,67 @@
+-- Which events fit a history, and which histories are legal.
+use Rattle.std.specs.Prelude.{◌≡◌, ℕ, Bool, true, false, ◌||◌, ◌<◌, List, [], ◌∷◌, ◌++◌, Some, None, slice_get, take}
+use Rattle.thp_model.specs.declared.events.Event.{Event}
+use Rattle.thp_model.specs.declared.events.Outcome.{Outcome}
+use Rattle.thp_model.specs.declared.events.What.{What}
+use Rattle.thp_model.specs.declared.events.What.TheVariants.{Alloc, MapWhole, UnmapWhole, MapSub, UnmapSub, SplitPmd, Pin, Unpin, Taken, Split, Pinned, Back, Dropped, Close}
+use Rattle.thp_model.specs.declared.shape.Shape.{Shape}
+use Rattle.thp_model.specs.History.{History}
+use Rattle.thp_model.specs.Counts.{pins, is_closed, allocations}
+use Rattle.thp_model.specs.Places.{queue, flight, has_page, no_pages, is_taking}
+use Rattle.thp_model.specs.Frames.{released, outcome, block_in_use}
+use Rattle.thp_model.specs.Refusals.{refusal}
+use Rattle.thp_model.specs.Refusals as call
+
+-- the call of an event of page p isn't refused at h, and the event tells its outcome and the set that it gives back;
+-- k is h with the event
+pub record Gives (s : Shape) (h k : History) (p : ℕ) (o : Outcome) (set : List Bool) : Type 0 where
+  pub outcome_is : o ≡ outcome s h k p
+  pub set_is : set ≡ released s h k p
+
+-- a new page has the next number, and a block of no live page; which one is free to choose
+pub record FitsAlloc (s : Shape) (h : History) (p b : ℕ) : Type 0 where
+  pub allowed : refusal s h call.alloc_page ≡ None
+  pub number : p ≡ allocations h
+  pub inside : b < s.blocks
+  pub free : block_in_use h b ≡ false
+
+-- a take is of the oldest page, by a caller with no page in flight or one that goes on taking
+pub record FitsTaken (h : History) (c p : ℕ) : Type 0 where
+  pub oldest : slice_get (queue h) 0 ≡ Some p
+  pub may_take : (no_pages (flight h c) || is_taking h c) ≡ true
+
+-- a split is of a page without pins in the caller's flight
+pub record FitsSplit (s : Shape) (h k : History) (c p : ℕ) (set : List Bool) : Type 0 where
+  pub in_flight : has_page p (flight h c) ≡ true
+  pub unpinned : pins h p ≡ 0
+  pub set_is : set ≡ released s h k p
+
+-- what c does fits the history h, and makes of it the history k
+abbrev pub FitsBy : Shape → History → History → ℕ → What → Type 0
+FitsBy s h k c (Alloc p b) = FitsAlloc s h p b
+FitsBy s h k c (MapWhole p) = refusal s h (call.map_whole p) ≡ None
+FitsBy s h k c (UnmapWhole p o set) = (refusal s h (call.unmap_whole p) ≡ None) × Gives s h k p o set
+FitsBy s h k c (MapSub p first count) = refusal s h (call.map_sub p first count) ≡ None
+FitsBy s h k c (UnmapSub p first count o set) = (refusal s h (call.unmap_sub p first count) ≡ None) × Gives s h k p o set
+FitsBy s h k c (SplitPmd p) = refusal s h (call.split_pmd p) ≡ None
+FitsBy s h k c (Pin p) = refusal s h (call.pin p) ≡ None
+FitsBy s h k c (Unpin p o set) = (refusal s h (call.unpin p) ≡ None) × Gives s h k p o set
+FitsBy s h k c (Taken p) = FitsTaken h c p
+FitsBy s h k c (Split p set) = FitsSplit s h k c p set
+FitsBy s h k c (Pinned p) = (has_page p (flight h c) ≡ true) × (0 < pins h p)
+FitsBy s h k c (Back p) = (slice_get (flight h c) 0 ≡ Some p) × (is_closed h ≡ false)
+FitsBy s h k c (Dropped p) = (slice_get (flight h c) 0 ≡ Some p) × (is_closed h ≡ true)
+FitsBy s h k c Close = refusal s h call.close ≡ None
+
+-- the event may follow the history
+abbrev pub Fits : Shape → History → Event → Type 0
+Fits s h e = FitsBy s h (h ++ e ∷ []) e.caller e.what
+
+-- every event fits the events before it
+pub record IsLegal (s : Shape) (h : History) : Type 0 where
+  pub each : (k : ℕ) (e : Event) → slice_get h k ≡ Some e → Fits s (take k h) e
+
+-- the event at k is the first that doesn't fit
+pub record IsFirstMisfit (s : Shape) (h : History) (k : ℕ) : Type 0 where
+  pub legal_before : IsLegal s (take k h)
+  pub misfit : (e : Event) × (slice_get h k ≡ Some e) × (Fits s (take k h) e → ⊥)

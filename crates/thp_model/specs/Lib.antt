@@ -1,0 +1,12 @@
+pub mod Sets
+pub mod Words
+pub mod Shapes
+pub mod History
+pub mod Counts
+pub mod Places
+pub mod Frames
+pub mod Refusals
+pub mod Legal
+pub mod Runs
+pub mod Counters
+pub mod Pages

@@ -1,0 +1,27 @@
+-- Sets of subpages, as lists of 512 truth values: subpage i is in the set where the i-th is true.
+use Rattle.std.specs.Prelude.{ℕ, Bool, false, ◌&&◌, ◌+◌, nat_le, nat_lt, List, map, slice_index_or}
+use Rattle.std.specs.List.{range_with_len, count_by, list_any, list_all}
+
+-- the set of the numbers below 512 that pass a test
+unfoldable pub set_of : (ℕ → Bool) → List Bool
+set_of test = map test (range_with_len 0 512)
+
+-- whether i is in the set
+abbrev pub has : List Bool → ℕ → Bool
+has set i = slice_index_or set i false
+
+-- how many numbers the set has
+abbrev pub set_size : List Bool → ℕ
+set_size set = count_by (λ b. b) set
+
+-- the range of `count` subpages from `first` on covers i
+abbrev pub covers : ℕ → ℕ → ℕ → Bool
+covers first count i = nat_le first i && nat_lt i (first + count)
+
+-- some number below n passes the test
+unfoldable pub some_below : ℕ → (ℕ → Bool) → Bool
+some_below n test = list_any test (range_with_len 0 n)
+
+-- each number below n passes the test
+unfoldable pub each_below : ℕ → (ℕ → Bool) → Bool
+each_below n test = list_all test (range_with_len 0 n)

@@ -1,0 +1,37 @@
+//! How large a node is.
+ghost use Rattle.std.specs.Prelude.{◌≡◌, ◌≤◌, IsTrue, ◌↔◌};
+ghost use Rattle.thp_model.specs.Shapes.{subpages, IsShape};
+
+/// How many blocks a node has, and the order of its pages: each page has `2 ^ order` subpages, and each block as many
+/// frames. On x86-64 a THP that one PMD entry maps has order 9.
+#[derive(Clone, Copy, PartialEq, Eq, Debug)]
+pub struct Shape {
+    pub blocks: u32,
+    pub order: u32,
+}
+
+impl Shape {
+    /// The most blocks that a node can have.
+    pub const MAX_BLOCKS: u32 = 4096;
+    /// The least and the greatest order of a node's pages.
+    pub const MIN_ORDER: u32 = 2;
+    pub const MAX_ORDER: u32 = 9;
+
+    /// Whether a node can have this shape: 1 to 4,096 blocks, order 2 to 9.
+    pub fn is_valid(&self) -> bool
+        ensures { IsTrue result ↔ IsShape self.now }
+    {
+        1 <= self.blocks
+            && self.blocks <= Shape::MAX_BLOCKS
+            && Shape::MIN_ORDER <= self.order
+            && self.order <= Shape::MAX_ORDER
+    }
+
+    /// How many subpages a page has.
+    pub fn subpages(&self) -> u32
+        requires { self.now.order ≤ 9 }
+        ensures { result ≡ subpages self.now }
+    {
+        1 << self.order
+    }
+}

@@ -1,0 +1,106 @@
+//! A set of subpages of one page.
+ghost use Rattle.std.specs.Prelude.{◌≡◌, ℕ, ◌+◌, ◌<◌, ◌≤◌, ◌^◌, ◌&&◌, ◌||◌, nat_lt, slice_set, true, false};
+ghost use Rattle.thp_model.specs.Sets.{has, set_of, set_size, covers};
+
+use std::marker::Model;
+
+/// A set of subpages: numbers below 512, which contracts see as a list of 512 truth values.
+#[derive(Clone, Copy, PartialEq, Eq, Debug)]
+pub struct SubSet {
+    // subpage i is bit i % 64 of word i / 64
+    words: [u64; 8],
+}
+
+impl Model for SubSet {
+    ghost use Rattle.std.specs.Prelude.{List, Bool};
+
+    ghost Value = { List Bool };
+
+    ghost use Rattle.thp_model.specs.Sets.{set_of};
+    ghost use Rattle.thp_model.specs.Words.{in_words, words_of, AreWords, words_of-truths};
+
+    ghost view = { λ s. set_of (in_words s.words) };
+
+    ghost invariant = { λ s. AreWords s.words };
+
+    ghost inverse = { λ t. record { words = words_of t } };
+
+    ghost inverse_ok = { λ s h. words_of-truths s h };
+}
+
+impl SubSet {
+    /// The set of no subpage.
+    pub fn empty() -> SubSet
+        ensures { result ≡ set_of (λ i. false) }
+    {
+        SubSet { words: [0; 8] }
+    }
+
+    /// The set of every subpage of a page of this order.
+    pub fn full(order: u32) -> SubSet
+        requires { order ≤ 9 }
+        ensures { result ≡ set_of (λ i. nat_lt i (2 ^ order)) }
+    {
+        SubSet::range(0, 1 << order)
+    }
+
+    /// The `count` subpages from `first` on.
+    pub fn range(first: u32, count: u32) -> SubSet
+        requires { first + count ≤ 512 }
+        ensures { result ≡ set_of (covers first count) }
+    {
+        let mut set = SubSet::empty();
+        for i in first..first + count {
+            set.insert(i);
+        }
+        set
+    }
+
+    /// Whether subpage `i` is in the set.
+    pub fn contains(&self, i: u32) -> bool
+        requires { i < 512 }
+        ensures { result ≡ has self.now i }
+    {
+        let word = self.words[i as usize / 64];
+        (word >> (i % 64)) & 1 == 1
+    }
+
+    /// Puts subpage `i` into the set.
+    pub fn insert(&mut self, i: u32)
+        requires { i < 512 }
+        ensures { self.new ≡ slice_set self.old i true }
+    {
+        let at = i as usize / 64;
+        self.words[at] |= 1u64 << (i % 64);
+    }
+
+    /// The subpages of either set.
+    pub fn union(self, other: SubSet) -> SubSet
+        ensures { result ≡ set_of (λ i. has self i || has other i) }
+    {
+        let (a, b) = (self.words, other.words);
+        SubSet {
+            words: [
+                a[0] | b[0],
+                a[1] | b[1],
+                a[2] | b[2],
+                a[3] | b[3],
+                a[4] | b[4],
+                a[5] | b[5],
+                a[6] | b[6],
+                a[7] | b[7],
+            ],
+        }
+    }
+
+    /// How many subpages the set has.
+    pub fn count(&self) -> u32
+        ensures { result ≡ set_size self.now }
+    {
+        let mut count: u32 = 0;
+        for word in &self.words {
+            count += word.count_ones();
+        }
+        count
+    }
+}

@@ -1,0 +1,4 @@
+pub mod Settings
+pub mod Watch
+pub mod Devices
+pub mod Words
