@@ -1,5 +1,5 @@
 -- What contracts see of an `AccessCount`.
-use Rattle.std.specs.Prelude.{ℕ, suc, zero}
+use Rattle.std.specs.Prelude.{ℕ, suc}
 use Rattle.thp_links.specs.declared.access_count.Steps.{Steps}
 use Rattle.thp_links.specs.declared.access_count.Steps.TheVariants.{Start, Next'}
 

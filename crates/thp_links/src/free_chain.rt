@@ -9,6 +9,9 @@ use std::marker::Model;
 
 /// A chain of indices, linked by the `next` words of a table that each call is given.
 ///
+/// It serves as the store of a node's free blocks. Which of them is given out is this project's profile: the last one
+/// that came back.
+///
 /// Contracts see the list of the indices, the last one pushed first. Every call that is given the table asks that this
 /// list stands in its links, and leaves it so. No call takes memory.
 #[derive(Drop)]
@@ -42,21 +45,21 @@ impl FreeChain {
     }
 
     /// Puts index `i` before all others.
-    pub fn push<T: LinkTable>(&mut self, t: &mut T, i: u32)
-        requires stands { ChainStands self.old (T.links t.old) }
-        requires inside { i < length (T.links t.old) }
+    pub fn push<T: LinkTable>(&mut self, table: &mut T, i: u32)
+        requires stands { ChainStands self.old (T.links table.old) }
+        requires inside { i < length (T.links table.old) }
         requires absent { ¬ Contains self.old i }
         ensures list { self.new ≡ i ∷ self.old }
-        ensures stands { ChainStands self.new (T.links t.new) }
+        ensures stands { ChainStands self.new (T.links table.new) }
 
         // Other pairs, and all else that the table holds, stay.
-        ensures outside { SameOutside self.new (T.links t.old) (T.links t.new) }
-        ensures rest { T.same_rest t.old t.new }
-        ensures accesses { T.accesses t.new ≤ T.accesses t.old + 2 }
+        ensures outside { SameOutside self.new (T.links table.old) (T.links table.new) }
+        ensures rest { T.same_rest table.old table.new }
+        ensures accesses { T.accesses table.new ≤ T.accesses table.old + 2 }
     {
-        // Tells the proof that each index is below `NIL`.
-        let _count = t.len();
-        t.set_link(
+        // Tells the proof that every index is below `NIL`.
+        let _count = table.len();
+        table.set_link(
             i,
             Link {
                 prev: NIL,
@@ -68,21 +71,21 @@ impl FreeChain {
     }
 
     /// Takes the first index out, or answers `None` where there is none.
-    pub fn pop<T: LinkTable>(&mut self, t: &mut T) -> Option<u32>
-        requires stands { ChainStands self.old (T.links t.old) }
+    pub fn pop<T: LinkTable>(&mut self, table: &mut T) -> Option<u32>
+        requires stands { ChainStands self.old (T.links table.old) }
         ensures value { result ≡ slice_get self.old 0 }
-        ensures inside { IfSome result (λ i. i < length (T.links t.new)) }
+        ensures inside { IfSome result (λ i. i < length (T.links table.new)) }
         ensures list { self.new ≡ drop 1 self.old }
-        ensures stands { ChainStands self.new (T.links t.new) }
-        ensures none { IfNone result (t.new ≡ t.old) }
+        ensures stands { ChainStands self.new (T.links table.new) }
+        ensures none { IfNone result (table.new ≡ table.old) }
 
         // Other pairs, and all else that the table holds, stay.
-        ensures outside { SameOutside self.old (T.links t.old) (T.links t.new) }
-        ensures rest { T.same_rest t.old t.new }
-        ensures accesses { T.accesses t.new ≤ T.accesses t.old + 2 }
+        ensures outside { SameOutside self.old (T.links table.old) (T.links table.new) }
+        ensures rest { T.same_rest table.old table.new }
+        ensures accesses { T.accesses table.new ≤ T.accesses table.old + 2 }
     {
         let i = self.first()?;
-        self.head = t.link(i).next;
+        self.head = table.link(i).next;
         self.list.pop_front();
         Some(i)
     }
@@ -91,6 +94,10 @@ impl FreeChain {
     pub fn first(&self) -> Option<u32>
         ensures { result ≡ slice_get self.now 0 }
     {
-        if self.head == NIL { None } else { Some(self.head) }
+        if self.head == NIL {
+            None
+        } else {
+            Some(self.head)
+        }
     }
 }

@@ -10,8 +10,11 @@ use std::marker::Model;
 
 /// A queue of indices in the order of entry, linked both ways through a table that each call is given.
 ///
-/// Contracts see the list of the indices, oldest first. Every call asks that this list stands in the links of the table,
-/// and leaves it so. No call takes memory, and none walks the queue.
+/// It serves as the deferred split queue of a node (`mm/transhuge.rst`, "Partial unmap and deferred_split_huge_page()"),
+/// out of which a page that is freed has to come at once from any place. The order of entry is this project's profile.
+///
+/// Contracts see the list of the indices, oldest first. Every call that is given the table asks that this list stands in
+/// its links, and leaves it so. No call takes memory, and none walks the queue.
 #[derive(Drop)]
 pub struct Queue {
     // The oldest index, or `NIL`.
@@ -49,22 +52,22 @@ impl Queue {
     }
 
     /// Puts index `i` behind all others.
-    pub fn push_back<T: LinkTable>(&mut self, t: &mut T, i: u32)
-        requires stands { Stands self.old (T.links t.old) }
-        requires inside { i < length (T.links t.old) }
+    pub fn push_back<T: LinkTable>(&mut self, table: &mut T, i: u32)
+        requires stands { Stands self.old (T.links table.old) }
+        requires inside { i < length (T.links table.old) }
         requires absent { ¬ Contains self.old i }
         ensures list { self.new ≡ self.old ++ i ∷ [] }
-        ensures stands { Stands self.new (T.links t.new) }
+        ensures stands { Stands self.new (T.links table.new) }
 
         // Other pairs, and all else that the table holds, stay.
-        ensures outside { SameOutside self.new (T.links t.old) (T.links t.new) }
-        ensures rest { T.same_rest t.old t.new }
-        ensures accesses { T.accesses t.new ≤ T.accesses t.old + 4 }
+        ensures outside { SameOutside self.new (T.links table.old) (T.links table.new) }
+        ensures rest { T.same_rest table.old table.new }
+        ensures accesses { T.accesses table.new ≤ T.accesses table.old + 4 }
     {
-        // Tells the proof that each index is below `NIL`, as in the calls below.
-        let _count = t.len();
-        set_next(t, self.tail, i);
-        t.set_link(
+        // Tells the proof that every index is below `NIL`, as in the calls below.
+        let _count = table.len();
+        set_next(table, self.tail, i);
+        table.set_link(
             i,
             Link {
                 prev: self.tail,
@@ -79,23 +82,31 @@ impl Queue {
     }
 
     /// Takes index `i` out, wherever it stands. The others keep their order.
-    pub fn remove<T: LinkTable>(&mut self, t: &mut T, i: u32)
-        requires stands { Stands self.old (T.links t.old) }
+    pub fn remove<T: LinkTable>(&mut self, table: &mut T, i: u32)
+        requires stands { Stands self.old (T.links table.old) }
         requires present { Contains self.old i }
         ensures list { self.new ≡ without i self.old }
-        ensures stands { Stands self.new (T.links t.new) }
+        ensures stands { Stands self.new (T.links table.new) }
 
         // Other pairs, and all else that the table holds, stay.
-        ensures outside { SameOutside self.old (T.links t.old) (T.links t.new) }
-        ensures rest { T.same_rest t.old t.new }
-        ensures accesses { T.accesses t.new ≤ T.accesses t.old + 6 }
+        ensures outside { SameOutside self.old (T.links table.old) (T.links table.new) }
+        ensures rest { T.same_rest table.old table.new }
+        ensures accesses { T.accesses table.new ≤ T.accesses table.old + 6 }
     {
-        let _count = t.len();
-        let pair = t.link(i);
-        set_next(t, pair.prev, pair.next);
-        set_prev(t, pair.next, pair.prev);
-        let head = if pair.prev == NIL { pair.next } else { self.head };
-        let tail = if pair.next == NIL { pair.prev } else { self.tail };
+        let _count = table.len();
+        let pair = table.link(i);
+        set_next(table, pair.prev, pair.next);
+        set_prev(table, pair.next, pair.prev);
+        let head = if pair.prev == NIL {
+            pair.next
+        } else {
+            self.head
+        };
+        let tail = if pair.next == NIL {
+            pair.prev
+        } else {
+            self.tail
+        };
         self.head = head;
         self.tail = tail;
         self.len -= 1;
@@ -103,25 +114,25 @@ impl Queue {
     }
 
     /// Takes the oldest index out, or answers `None` where there is none.
-    pub fn pop_front<T: LinkTable>(&mut self, t: &mut T) -> Option<u32>
-        requires stands { Stands self.old (T.links t.old) }
+    pub fn pop_front<T: LinkTable>(&mut self, table: &mut T) -> Option<u32>
+        requires stands { Stands self.old (T.links table.old) }
         ensures value { result ≡ slice_get self.old 0 }
-        ensures inside { IfSome result (λ i. i < length (T.links t.new)) }
+        ensures inside { IfSome result (λ i. i < length (T.links table.new)) }
         ensures list { self.new ≡ drop 1 self.old }
-        ensures stands { Stands self.new (T.links t.new) }
-        ensures none { IfNone result (t.new ≡ t.old) }
+        ensures stands { Stands self.new (T.links table.new) }
+        ensures none { IfNone result (table.new ≡ table.old) }
 
         // Other pairs, and all else that the table holds, stay.
-        ensures outside { SameOutside self.old (T.links t.old) (T.links t.new) }
-        ensures rest { T.same_rest t.old t.new }
-        ensures accesses { T.accesses t.new ≤ T.accesses t.old + 4 }
+        ensures outside { SameOutside self.old (T.links table.old) (T.links table.new) }
+        ensures rest { T.same_rest table.old table.new }
+        ensures accesses { T.accesses table.new ≤ T.accesses table.old + 4 }
     {
-        let _count = t.len();
+        let _count = table.len();
         let i = self.front()?;
-        let pair = t.link(i);
-        set_prev(t, pair.next, NIL);
-        let tail = if pair.next == NIL { NIL } else { self.tail };
-        self.head = pair.next;
+        let next = table.link(i).next;
+        set_prev(table, next, NIL);
+        let tail = if next == NIL { NIL } else { self.tail };
+        self.head = next;
         self.tail = tail;
         self.len -= 1;
         self.list.pop_front();

@@ -43,16 +43,16 @@ pub trait LinkTable {
 }
 
 // Sets the successor of `at`, and does nothing at `NIL`. The one equation for both keeps removal free of cases.
-pub(crate) fn set_next<T: LinkTable>(t: &mut T, at: u32, next: u32)
-    requires small { length (T.links t.old) ≤ NIL }
-    requires inside { (at ≡ NIL → ⊥) → at < length (T.links t.old) }
-    ensures links { T.links t.new ≡ with_next (T.links t.old) at next }
-    ensures accesses { T.accesses t.new ≤ T.accesses t.old + 2 }
-    ensures rest { T.same_rest t.old t.new }
+pub(crate) fn set_next<T: LinkTable>(table: &mut T, at: u32, next: u32)
+    requires small { length (T.links table.old) ≤ NIL }
+    requires inside { (at ≡ NIL → ⊥) → at < length (T.links table.old) }
+    ensures links { T.links table.new ≡ with_next (T.links table.old) at next }
+    ensures accesses { T.accesses table.new ≤ T.accesses table.old + 2 }
+    ensures rest { T.same_rest table.old table.new }
 {
     if at != NIL {
-        let pair = t.link(at);
-        t.set_link(
+        let pair = table.link(at);
+        table.set_link(
             at,
             Link {
                 prev: pair.prev,
@@ -63,16 +63,16 @@ pub(crate) fn set_next<T: LinkTable>(t: &mut T, at: u32, next: u32)
 }
 
 // Sets the predecessor of `at`, and does nothing at `NIL`.
-pub(crate) fn set_prev<T: LinkTable>(t: &mut T, at: u32, prev: u32)
-    requires small { length (T.links t.old) ≤ NIL }
-    requires inside { (at ≡ NIL → ⊥) → at < length (T.links t.old) }
-    ensures links { T.links t.new ≡ with_prev (T.links t.old) at prev }
-    ensures accesses { T.accesses t.new ≤ T.accesses t.old + 2 }
-    ensures rest { T.same_rest t.old t.new }
+pub(crate) fn set_prev<T: LinkTable>(table: &mut T, at: u32, prev: u32)
+    requires small { length (T.links table.old) ≤ NIL }
+    requires inside { (at ≡ NIL → ⊥) → at < length (T.links table.old) }
+    ensures links { T.links table.new ≡ with_prev (T.links table.old) at prev }
+    ensures accesses { T.accesses table.new ≤ T.accesses table.old + 2 }
+    ensures rest { T.same_rest table.old table.new }
 {
     if at != NIL {
-        let pair = t.link(at);
-        t.set_link(
+        let pair = table.link(at);
+        table.set_link(
             at,
             Link {
                 prev,

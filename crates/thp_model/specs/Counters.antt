@@ -1,6 +1,6 @@
 -- The node's statistics, by the names of /proc/vmstat.
 -- (admin-guide/mm/transhuge.rst, "Monitoring usage", for the names; when each rises is this project's profile)
-use Rattle.std.specs.Prelude.{ℕ, ◌+◌, Bool, true, false, List, [], ◌∷◌, ◌++◌}
+use Rattle.std.specs.Prelude.{ℕ, ◌+◌, Bool, true, false, [], ◌∷◌, ◌++◌}
 use Rattle.std.specs.List.{fold}
 use Rattle.thp_model.specs.declared.events.Event.{Event}
 use Rattle.thp_model.specs.declared.events.What.{What}

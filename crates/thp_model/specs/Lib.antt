@@ -10,3 +10,10 @@ pub mod Legal
 pub mod Runs
 pub mod Counters
 pub mod Pages
+pub mod FlightSteps
+pub mod PageChanges
+pub mod Rows
+pub mod PlaceLaws
+pub mod FrameLaws
+pub mod BlockLaws
+pub mod RequestLaws

@@ -7,7 +7,7 @@ use Rattle.thp_model.specs.Sets.{set_of, covers, some_below}
 use Rattle.thp_model.specs.Shapes.{subpages}
 use Rattle.thp_model.specs.History.{History, count_of}
 use Rattle.thp_model.specs.Counts.{maps, unmaps, maps_whole, unmaps_whole, pins_page, unpins_page, is_split}
-use Rattle.thp_model.specs.Refusals.{Call, alloc_page, map_whole, unmap_whole, map_sub, unmap_sub, split_pmd, pin, unpin, close, take, scan, first_of, most}
+use Rattle.thp_model.specs.Refusals.{Call, map_whole, unmap_whole, map_sub, unmap_sub, split_pmd, pin, unpin, first_of, most}
 
 -- a page's order, its entire map count, the own map counts of its subpages, its pins, and whether it is split
 pub record PageState : Type 0 where

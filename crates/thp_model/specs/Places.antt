@@ -1,5 +1,5 @@
 -- Where pages stand: in the deferred split queue, or in the flight of a caller that took them.
--- (mm/transhuge.rst, "Partial unmap and deferred_split_folio()"; the order and the flights are this project's profile)
+-- (mm/transhuge.rst, "Partial unmap and deferred_split_huge_page()"; the order and the flights are this project's profile)
 use Rattle.std.specs.Prelude.{ℕ, Bool, false, true, not, ◌&&◌, nat_eq, List, [], ◌∷◌, ◌++◌, drop, map}
 use Rattle.std.specs.List.{fold, filter, list_any}
 use Rattle.thp_model.specs.declared.events.Event.{Event}

@@ -1,5 +1,5 @@
 -- The events of the longer calls: a take, a try, a put-back, and the scan that is made of them.
--- (admin-guide/mm/transhuge.rst names the shrinker; the order is this project's profile)
+-- (mm/transhuge.rst, "Partial unmap and deferred_split_huge_page()": the shrinker splits; the order and the batches are this project's profile)
 use Rattle.std.specs.Prelude.{ℕ, not, ◌&&◌, nat_eq, nat_lt, if◌then◌else◌, Bool, List, [], ◌∷◌, ◌++◌, map, take, Option, Some, None}
 use Rattle.std.specs.List.{filter, find, after_first}
 use Rattle.thp_model.specs.declared.events.Event.{Event}

@@ -1,6 +1,10 @@
 -- Sets of subpages, as lists of 512 truth values: subpage i is in the set where the i-th is true.
 use Rattle.std.specs.Prelude.{ℕ, Bool, false, ◌&&◌, ◌+◌, nat_le, nat_lt, List, map, slice_index_or}
 use Rattle.std.specs.List.{range_with_len, count_by, list_any, list_all}
+use Rattle.std.specs.Cmp.{IsEquivalence, IsPartialEquivalence, bool_eq_equiv, partial_equiv_from_equiv}
+use Rattle.std.specs.Cmp.Lexicographic.{pointwise}
+use Rattle.std.proofs.Math.Bool.{beq}
+use Rattle.std.proofs.lemmas.Cmp.{lists_equiv}
 
 -- the set of the numbers below 512 that pass a test
 unfoldable pub set_of : (ℕ → Bool) → List Bool
@@ -25,3 +29,13 @@ some_below n test = list_any test (range_with_len 0 n)
 -- each number below n passes the test
 unfoldable pub each_below : ℕ → (ℕ → Bool) → Bool
 each_below n test = list_all test (range_with_len 0 n)
+
+-- two sets have the same numbers, truth for truth
+abbrev pub same_set : List Bool → List Bool → Bool
+same_set s t = pointwise beq s t
+
+pub same_set-equiv : IsEquivalence same_set
+same_set-equiv = lists_equiv bool_eq_equiv
+
+pub same_set-partial_equiv : IsPartialEquivalence same_set
+same_set-partial_equiv = partial_equiv_from_equiv same_set-equiv

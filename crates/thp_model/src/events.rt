@@ -3,7 +3,7 @@ use crate::sub_set::SubSet;
 use std::marker::Model;
 
 /// A page's number on its node: how many pages were allocated before it. Numbers don't come again.
-#[derive(Clone, Copy, PartialEq, Eq, Debug)]
+#[derive(Clone, Copy, PartialEq, Eq, Debug, Default)]
 pub struct PageId(pub u64);
 
 impl Model for PageId {
@@ -33,9 +33,14 @@ pub enum Outcome {
 #[derive(Clone, Copy, PartialEq, Eq, Debug)]
 pub enum What {
     /// A new page, mapped whole once, in a block of frames.
-    Alloc { page: PageId, block: u32 },
+    Alloc {
+        page: PageId,
+        block: u32,
+    },
     /// One more mapping of the whole page, by a PMD entry.
-    MapWhole { page: PageId },
+    MapWhole {
+        page: PageId,
+    },
     /// One mapping of the whole page less.
     UnmapWhole {
         page: PageId,
@@ -57,9 +62,13 @@ pub enum What {
         released: SubSet,
     },
     /// A mapping of the whole page became one of each subpage.
-    SplitPmd { page: PageId },
+    SplitPmd {
+        page: PageId,
+    },
     /// One more pin.
-    Pin { page: PageId },
+    Pin {
+        page: PageId,
+    },
     /// One pin less.
     Unpin {
         page: PageId,
@@ -67,15 +76,26 @@ pub enum What {
         released: SubSet,
     },
     /// The shrinker took the page from the queue into the caller's batch.
-    Taken { page: PageId },
+    Taken {
+        page: PageId,
+    },
     /// The page was split into base pages and left its batch.
-    Split { page: PageId, released: SubSet },
+    Split {
+        page: PageId,
+        released: SubSet,
+    },
     /// The page couldn't be split, since it has pins.
-    Pinned { page: PageId },
+    Pinned {
+        page: PageId,
+    },
     /// The page went from its batch back to the queue's tail.
-    Back { page: PageId },
+    Back {
+        page: PageId,
+    },
     /// The page left its batch and stands nowhere, since the node is closed.
-    Dropped { page: PageId },
+    Dropped {
+        page: PageId,
+    },
     /// From here on nothing enters the queue and no page is allocated.
     Close,
 }

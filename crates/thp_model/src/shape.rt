@@ -15,6 +15,7 @@ impl Shape {
     pub const MAX_BLOCKS: u32 = 4096;
     /// The least and the greatest order of a node's pages.
     pub const MIN_ORDER: u32 = 2;
+
     pub const MAX_ORDER: u32 = 9;
 
     /// Whether a node can have this shape: 1 to 4,096 blocks, order 2 to 9.

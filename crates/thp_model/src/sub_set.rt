@@ -1,11 +1,11 @@
 //! A set of subpages of one page.
-ghost use Rattle.std.specs.Prelude.{◌≡◌, ℕ, ◌+◌, ◌<◌, ◌≤◌, ◌^◌, ◌&&◌, ◌||◌, nat_lt, slice_set, true, false};
-ghost use Rattle.thp_model.specs.Sets.{has, set_of, set_size, covers};
+ghost use Rattle.std.specs.Prelude.{◌≡◌, ℕ, ◌+◌, ◌-◌, ◌*◌, ◌^◌, ◌<◌, ◌≤◌, not, ◌&&◌, ◌||◌, IsTrue, ◌↔◌, min, nat_lt, slice_set, true, false};
+ghost use Rattle.thp_model.specs.Sets.{has, set_of, set_size, covers, same_set, same_set-equiv, same_set-partial_equiv};
 
 use std::marker::Model;
 
 /// A set of subpages: numbers below 512, which contracts see as a list of 512 truth values.
-#[derive(Clone, Copy, PartialEq, Eq, Debug)]
+#[derive(Clone, Copy, Debug)]
 pub struct SubSet {
     // subpage i is bit i % 64 of word i / 64
     words: [u64; 8],
@@ -28,6 +28,20 @@ impl Model for SubSet {
     ghost inverse_ok = { λ s h. words_of-truths s h };
 }
 
+impl PartialEq for SubSet {
+    ghost eq = { same_set };
+
+    ghost laws = { same_set-partial_equiv };
+
+    fn eq(&self, other: &SubSet) -> bool {
+        self.words == other.words
+    }
+}
+
+impl Eq for SubSet {
+    ghost laws = { same_set-equiv };
+}
+
 impl SubSet {
     /// The set of no subpage.
     pub fn empty() -> SubSet
@@ -41,7 +55,7 @@ impl SubSet {
         requires { order ≤ 9 }
         ensures { result ≡ set_of (λ i. nat_lt i (2 ^ order)) }
     {
-        SubSet::range(0, 1 << order)
+        SubSet::below(1 << order)
     }
 
     /// The `count` subpages from `first` on.
@@ -49,11 +63,14 @@ impl SubSet {
         requires { first + count ≤ 512 }
         ensures { result ≡ set_of (covers first count) }
     {
-        let mut set = SubSet::empty();
-        for i in first..first + count {
-            set.insert(i);
-        }
-        set
+        SubSet::below(first + count).difference(SubSet::below(first))
+    }
+
+    /// Whether the set has no subpage.
+    pub fn is_empty(&self) -> bool
+        ensures { IsTrue result ↔ (self.now ≡ set_of (λ i. false)) }
+    {
+        *self == SubSet::empty()
     }
 
     /// Whether subpage `i` is in the set.
@@ -93,6 +110,25 @@ impl SubSet {
         }
     }
 
+    /// The subpages of this set that aren't in the other.
+    pub fn difference(self, other: SubSet) -> SubSet
+        ensures { result ≡ set_of (λ i. has self i && not (has other i)) }
+    {
+        let (a, b) = (self.words, other.words);
+        SubSet {
+            words: [
+                a[0] & !b[0],
+                a[1] & !b[1],
+                a[2] & !b[2],
+                a[3] & !b[3],
+                a[4] & !b[4],
+                a[5] & !b[5],
+                a[6] & !b[6],
+                a[7] & !b[7],
+            ],
+        }
+    }
+
     /// How many subpages the set has.
     pub fn count(&self) -> u32
         ensures { result ≡ set_size self.now }
@@ -103,4 +139,32 @@ impl SubSet {
         }
         count
     }
+
+    // the set of the numbers below n
+    fn below(n: u32) -> SubSet
+        requires { n ≤ 512 }
+        ensures { result ≡ set_of (λ i. nat_lt i n) }
+    {
+        SubSet {
+            words: [
+                word_below(n, 0),
+                word_below(n, 1),
+                word_below(n, 2),
+                word_below(n, 3),
+                word_below(n, 4),
+                word_below(n, 5),
+                word_below(n, 6),
+                word_below(n, 7),
+            ],
+        }
+    }
+}
+
+// word k of the set of the numbers below n: so many ones
+fn word_below(n: u32, k: u32) -> u64
+    requires { k < 8 }
+    ensures { result ≡ 2 ^ min 64 (n - 64 * k) - 1 }
+{
+    let ones = n.saturating_sub(64 * k);
+    if ones < 64 { (1 << ones) - 1 } else { u64::MAX }
 }

@@ -1,13 +1,24 @@
-// A library with one function.
+//! A memory node, used by one thread: its pages, their deferred split queue, and the journal of all that happened.
+//!
+//! [`Node`] is the engine. Each call that succeeds records its event, or its run of events, in the journal, which is legal
+//! at every moment; a call that is refused changes nothing. What the calls record and answer, and when they are refused,
+//! is said by the definitions of `thp_model`; what every call keeps is said once, in `specs/Calls.antt`.
+//!
+//! The public surface: `Node::new`, `reserve`; `alloc_page`, `map_whole`, `unmap_whole`, `map_sub`, `unmap_sub`,
+//! `split_pmd`, `pin`, `unpin`, `close`; `take`, `split_next`, `put_back`, `scan`; the readers `shape`, `journal`, `table`,
+//! `queue`, `queue_len`, `frames_given`, `frames_held`, `counters`; `Batch` with `caller`, `pages`, `abandon`; and the
+//! answers `NewFault`, `Done`, `Tried`, `BackReply`, `ScanReply`, `Counters`.
 #![tactic(auto)]
 
-ghost use Rattle.std.specs.Prelude.{◌≡◌};
-ghost use Rattle.thp_node.specs.Echo.{echo_of};
+mod answers;
+mod batch;
+mod blocks;
+mod journal;
+mod node;
+mod page_call;
+#[cfg(test)]
+mod tests;
 
-// The `ensures` clause is the contract: what `echo` returns is `echo_of` of its argument, a definition
-// in `specs/Echo.antt`, which a caller's clause can cite too.
-pub fn echo(x: usize) -> usize
-    ensures { result ≡ echo_of x }
-{
-    x
-}
+pub use answers::{BackReply, Counters, Done, NewFault, ScanReply, Tried};
+pub use batch::Batch;
+pub use node::Node;

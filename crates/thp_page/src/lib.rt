@@ -1,13 +1,17 @@
-// A library with one function.
+//! The pages of a node, and the table of their descriptors.
 #![tactic(auto)]
 
-ghost use Rattle.std.specs.Prelude.{◌≡◌};
-ghost use Rattle.thp_page.specs.Echo.{echo_of};
+pub mod bridge;
+mod counts;
+mod page;
+mod page_numbers;
+mod page_table;
+#[cfg(test)]
+mod page_tests;
+mod standing;
+#[cfg(test)]
+mod table_tests;
 
-// The `ensures` clause is the contract: what `echo` returns is `echo_of` of its argument, a definition
-// in `specs/Echo.antt`, which a caller's clause can cite too.
-pub fn echo(x: usize) -> usize
-    ensures { result ≡ echo_of x }
-{
-    x
-}
+pub use page::{Change, Page};
+pub use page_table::PageTable;
+pub use standing::Standing;

@@ -1,0 +1,195 @@
+-- A live page is mapped or pinned, a split page has no pins, and so a live page holds a frame.
+use Rattle.std.proofs.Common.{◌≡◌, ℕ, ◌+◌, ◌-◌, Bool, true, false, cond, not, ◌&&◌, ◌||◌, [], ◌∷◌, ◌++◌, refl, ap, sym, ◌∙◌, subst, arith, nat_eq, nat_lt, inl, inr, eq-eqb, lt-ltb}
+use Rattle.std.proofs.lemmas.Bool.Decides.{eqb_tells, nat_tests}
+use Rattle.thp_model.specs.declared.events.Event.{Event}
+use Rattle.thp_model.specs.declared.events.Outcome.{Outcome}
+use Rattle.thp_model.specs.declared.events.Outcome.TheVariants.{Freed, Queued, Stays}
+use Rattle.thp_model.specs.declared.events.What.{What}
+use Rattle.thp_model.specs.declared.events.What.TheVariants.{Alloc, UnmapWhole, UnmapSub, Pin, Unpin, Split}
+use Rattle.thp_model.specs.declared.shape.Shape.{Shape}
+use Rattle.thp_model.specs.History.{History, count_of, some_event, by}
+use Rattle.thp_model.specs.Counts.{is_freed, maps, unmaps, pins_page, unpins_page, allocates, frees, splits, total, pins, is_live, is_split, is_closed}
+use Rattle.thp_model.specs.Places.{stands}
+use Rattle.thp_model.specs.Frames.{is_held, outcome}
+use Rattle.thp_model.specs.Sets.{some_below}
+use Rattle.thp_model.specs.Shapes.{subpages}
+use Rattle.thp_model.specs.Legal.{IsLegal, Fits, FitsBy}
+use Rattle.thp_model.proofs.Allowed.{allowed_pin}
+use Rattle.thp_model.proofs.Below.{some_yes, some_no, some_more}
+use Rattle.thp_model.proofs.Bools.{by_bool, and_no}
+use Rattle.thp_model.proofs.Holding.{live_back, whole_held}
+use Rattle.thp_model.proofs.LegalSteps.{legal_all}
+use Rattle.thp_model.proofs.Numbers.{Numbered, numbered_push, numbered_none}
+use Rattle.thp_model.proofs.Pushes.{count_of_push, some_event_push, count_same, count_more, some_same}
+use Rattle.thp_model.proofs.Sizes.{some_subpages}
+use Rattle.thp_model.proofs.Standing.{Sound, sound_push, sound_none}
+
+-- every total is 0 and the pins are 0
+abbrev pub idle : Shape → History → ℕ → Bool
+idle shape h p = not (some_below (subpages shape) (λ i. nat_lt 0 (total h p i))) && nat_eq (pins h p) 0
+
+-- what holds of the pages of a legal history: a live page is mapped or pinned, and a split page has no pins
+pub record Alive (shape : Shape) (h : History) : Type 0 where
+  pub busy : (p : ℕ) → is_live h p ≡ true → idle shape h p ≡ false
+  pub unpinned : (p : ℕ) → is_split h p ≡ true → pins h p ≡ 0
+
+-- busy still, where more is mapped and no fewer pins stand
+busy_by : (a b a' b' : Bool) → (a ≡ true → a' ≡ true) → (b' ≡ true → b ≡ true) → (not a && b) ≡ false → (not a' && b') ≡ false
+busy_by true b a' b' f g e = let t : a' ≡ true = f refl in rw t refl
+busy_by false true a' b' f g e = absurd (cc)
+busy_by false false a' true f g e = absurd (let t : false ≡ true = g refl in cc)
+busy_by false false true false f g e = refl
+busy_by false false false false f g e = refl
+
+-- an event that unmaps nothing from page p leaves it busy
+stays_busy : (shape : Shape) (h : History) (e : Event) (p : ℕ) → ((i : ℕ) → unmaps p i e.what ≡ false) → unpins_page p e.what ≡ false → idle shape h p ≡ false → idle shape (h ++ e ∷ []) p ≡ false
+stays_busy shape h e p t u b =
+    busy_by (some_below (subpages shape) (λ i. nat_lt 0 (total h p i))) (nat_eq (pins h p) 0) (some_below (subpages shape) (λ i. nat_lt 0 (total (h ++ e ∷ []) p i))) (nat_eq (pins (h ++ e ∷ []) p) 0)
+    (some_more (subpages shape) _ _ (λ i l y. up _ _ _ _ _ (count_of_push (maps p i) h e) (count_same (unmaps p i) h e (t i)) y))
+    (λ y. down _ _ _ _ _ (count_of_push (pins_page p) h e) (count_same (unpins_page p) h e u) y) b where
+      up : (a d t a' t' : ℕ) → a' ≡ a + d → t' ≡ t → nat_lt 0 (a - t) ≡ true → nat_lt 0 (a' - t') ≡ true
+      up a d t a' t' e f g = grind (arith, nat_tests)
+
+      down : (a d t a' t' : ℕ) → a' ≡ a + d → t' ≡ t → nat_eq (a' - t') 0 ≡ true → nat_eq (a - t) 0 ≡ true
+      down a d t a' t' e f g = grind (arith, nat_tests)
+
+-- an unmap or unpin that didn't free its page leaves it busy
+busy_after : (shape : Shape) (h k : History) (p : ℕ) (o : Outcome) → o ≡ outcome shape h k p → is_freed o ≡ false → idle shape k p ≡ false
+busy_after shape h k p o e f =
+    go (idle shape k p) (not (is_split h p) && (some_below (subpages shape) (λ i. nat_lt 0 (total h p i) && nat_eq (total k p i) 0) && (some_below (subpages shape) (λ i. nat_lt 0 (total k p i)) && (not (is_closed h) && not (stands h p))))) o e f where
+      go : (a q : Bool) (o : Outcome) → o ≡ cond a Freed (cond q Queued Stays) → is_freed o ≡ false → a ≡ false
+      go true q o e f = absurd (let g : is_freed o ≡ true = ap is_freed e in cc)
+      go false q o e f = refl
+
+-- of page q, after an unmap or unpin of p
+unmapped : (shape : Shape) (h : History) (e : Event) (p q : ℕ) (o : Outcome) → frees q e.what ≡ (nat_eq q p && is_freed o) → allocates q e.what ≡ false → o ≡ outcome shape h (h ++ e ∷ []) p →
+    (nat_eq q p ≡ false → ((i : ℕ) → unmaps q i e.what ≡ false) × (unpins_page q e.what ≡ false)) → (is_live h q ≡ true → idle shape h q ≡ false) →
+    is_live (h ++ e ∷ []) q ≡ true → idle shape (h ++ e ∷ []) q ≡ false
+unmapped shape h e p q o frees_q a is other old l =
+    elim (eqb_tells q p) [
+      | inl y ↦
+          let not_freed : is_freed o ≡ false = go _ _ _ (is_freed o) _ (some_event_push (frees q) h e) (frees_q ∙ ap (λ b. b && is_freed o) y.0) l in
+          let P : ℕ → Type 0 = λ x. idle shape (h ++ e ∷ []) x ≡ false in subst P (sym y.1) (busy_after shape h (h ++ e ∷ []) p o is not_freed)
+      | inr y ↦ stays_busy shape h e q (other y.0).0 (other y.0).1 (old (live_back h e q a l))
+    ] where
+      go : (f f' g b a : Bool) → f' ≡ (f || g) → g ≡ b → (a && not f') ≡ true → b ≡ false
+      go f true g b true e i l = absurd (cc)
+      go f true g b false e i l = absurd (cc)
+      go true false g b a e i l = absurd (cc)
+      go false false g b a e i l = sym (e ∙ i)
+
+-- after one more event that fits, a live page is mapped or pinned
+busy_step : (shape : Shape) (h : History) (c : ℕ) (w : What) → Numbered h → Alive shape h → FitsBy shape h (h ++ by c w ∷ []) c w →
+    (q : ℕ) → is_live (h ++ by c w ∷ []) q ≡ true → idle shape (h ++ by c w ∷ []) q ≡ false
+busy_step shape h c (Alloc p b) t s f q l =
+    let e : Event = by c (Alloc p b) in
+    elim (eqb_tells q p) [
+      | inl y ↦
+          let none : count_of (unmaps q 0) h ≡ 0 = (t.fresh q (let w : q ≡ p = y.1 in omega (arith, f.number))).no_unmaps 0 in
+          new _ _ (some_yes (subpages shape) (λ i. nat_lt 0 (total (h ++ e ∷ []) q i)) 0 (some_subpages shape) (one _ _ _ (count_more (maps q 0) h e y.0) (count_same (unmaps q 0) h e refl ∙ none)))
+      | inr y ↦ stays_busy shape h e q (λ i. refl) refl (s.busy q (live_back h e q y.0 l))
+    ] where
+      one : (a a' t' : ℕ) → a' ≡ a + 1 → t' ≡ 0 → nat_lt 0 (a' - t') ≡ true
+      one a a' t' e f = grind (arith, nat_tests)
+
+      new : (x y : Bool) → x ≡ true → (not x && y) ≡ false
+      new true y e = refl
+      new false y e = absurd (cc)
+busy_step shape h c (UnmapWhole p o r) t s f q l =
+    unmapped shape h (by c (UnmapWhole p o r)) p q o refl refl f.1.outcome_is (λ y. (λ i. y, refl)) (s.busy q) l
+busy_step shape h c (UnmapSub p a m o r) t s f q l =
+    unmapped shape h (by c (UnmapSub p a m o r)) p q o refl refl f.1.outcome_is (λ y. (λ i. and_no _ _ y, refl)) (s.busy q) l
+busy_step shape h c (Unpin p o r) t s f q l =
+    unmapped shape h (by c (Unpin p o r)) p q o refl refl f.1.outcome_is (λ y. (λ i. refl, y)) (s.busy q) l
+busy_step shape h c w t s f q l =
+    stays_busy shape h (by c w) q (λ i. refl) refl (s.busy q (live_back h (by c w) q refl l))
+
+-- a page that was split stays without pins
+still_none : (h : History) (e : Event) (q : ℕ) → pins_page q e.what ≡ false → pins h q ≡ 0 → pins (h ++ e ∷ []) q ≡ 0
+still_none h e q f z = omega (arith, count_same (pins_page q) h e f, count_of_push (unpins_page q) h e, z)
+
+-- a page that an event didn't split was split before
+was_split : (h : History) (e : Event) (q : ℕ) → splits q e.what ≡ false → is_split (h ++ e ∷ []) q ≡ true → is_split h q ≡ true
+was_split h e q f s = sym (some_same (splits q) h e f) ∙ s
+
+-- after one more event that fits, a split page has no pins
+unpinned_step : (shape : Shape) (h : History) (c : ℕ) (w : What) → Alive shape h → FitsBy shape h (h ++ by c w ∷ []) c w →
+    (q : ℕ) → is_split (h ++ by c w ∷ []) q ≡ true → pins (h ++ by c w ∷ []) q ≡ 0
+unpinned_step shape h c (Pin p) s f q l =
+    let e : Event = by c (Pin p) in
+    elim (eqb_tells q p) [
+      | inl y ↦ absurd (let a : is_split h q ≡ true = was_split h e q refl l in let b : is_split h q ≡ false = ap (is_split h) y.1 ∙ (allowed_pin shape h p f).1 in cc)
+      | inr y ↦ still_none h e q y.0 (s.unpinned q (was_split h e q refl l))
+    ]
+unpinned_step shape h c (Split p r) s f q l =
+    let e : Event = by c (Split p r) in
+    elim (eqb_tells q p) [
+      | inl y ↦ still_none h e q refl (ap (pins h) y.1 ∙ f.unpinned)
+      | inr y ↦ still_none h e q refl (s.unpinned q (was_split h e q y.0 l))
+    ]
+unpinned_step shape h c w s f q l = still_none h (by c w) q refl (s.unpinned q (was_split h (by c w) q refl l))
+
+-- one more event that fits keeps this
+pub alive_push : (shape : Shape) (h : History) (e : Event) → Numbered h → Alive shape h → Fits shape h e → Alive shape (h ++ e ∷ [])
+alive_push shape h e t s f = record {
+  busy = busy_step shape h e.caller e.what t s f;
+  unpinned = unpinned_step shape h e.caller e.what s f;
+}
+
+-- it holds of the empty history
+pub alive_none : (shape : Shape) → Alive shape []
+unfolding count_of some_event
+alive_none shape = record { busy = λ p l. absurd (cc); unpinned = λ p s. refl }
+
+-- what holds of legal histories so far
+pub record Grown (shape : Shape) (h : History) : Type 0 where
+  pub sound : Sound h
+  pub numbered : Numbered h
+  pub alive : Alive shape h
+
+-- one more event that fits keeps all of it
+pub grown_push : (shape : Shape) (h : History) (e : Event) → Grown shape h → Fits shape h e → Grown shape (h ++ e ∷ [])
+grown_push shape h e g f = record {
+  sound = sound_push shape h e g.sound f;
+  numbered = numbered_push shape h e g.sound g.numbered f;
+  alive = alive_push shape h e g.numbered g.alive f;
+}
+
+-- all of it holds of the empty history
+pub grown_none : (shape : Shape) → Grown shape []
+grown_none shape = record { sound = sound_none; numbered = numbered_none; alive = alive_none shape }
+
+-- and of every legal history
+pub legal_grown : (shape : Shape) (h : History) → IsLegal shape h → Grown shape h
+legal_grown shape h l = legal_all shape (Grown shape) (grown_none shape) (λ k e g f. grown_push shape k e g f) h l
+
+-- each live page holds a frame
+pub lives_hold : (shape : Shape) (h : History) (p : ℕ) → Alive shape h → some_below (subpages shape) (is_held shape h p) ≡ is_live h p
+lives_hold shape h p s =
+    by_bool (is_live h p) _
+    (λ l.
+    by_bool (is_split h p) _
+    (λ w.
+    some_more (subpages shape) (λ i. nat_lt 0 (total h p i)) (is_held shape h p) (λ i b y. used_held (nat_lt i (subpages shape)) (is_live h p) (is_split h p) (nat_lt 0 (total h p i)) (lt-ltb i (subpages shape) b) l y)
+    (mapped _ _ (s.unpinned p w) (s.busy p l)) ∙ sym l)
+    (λ w. some_yes (subpages shape) (is_held shape h p) 0 (some_subpages shape) (whole_held shape h p 0 l w (lt-ltb 0 (subpages shape) (some_subpages shape))) ∙ sym l))
+    (λ l. some_no (subpages shape) (is_held shape h p) (λ i b. dead (nat_lt i (subpages shape)) (is_live h p) _ l) ∙ sym l) where
+      used_held : (x l s u : Bool) → x ≡ true → l ≡ true → u ≡ true → (x && (l && (not s || (l && u)))) ≡ true
+      used_held true true true true e f g = refl
+      used_held true true false true e f g = refl
+      used_held x l s false e f g = absurd (cc)
+      used_held x false s u e f g = absurd (cc)
+      used_held false l s u e f g = absurd (cc)
+
+      mapped : (x : Bool) (m : ℕ) → m ≡ 0 → (not x && nat_eq m 0) ≡ false → x ≡ true
+      mapped true m z e = refl
+      mapped false m z e = absurd (let t : nat_eq m 0 ≡ true = eq-eqb m 0 z in cc)
+
+      dead : (x l v : Bool) → l ≡ false → (x && (l && v)) ≡ false
+      dead true true v e = absurd (cc)
+      dead true false v e = refl
+      dead false l v e = refl
+
+-- in a legal history a live page holds a frame, and no other page does
+pub live_holds : (shape : Shape) (h : History) (p : ℕ) → IsLegal shape h → some_below (subpages shape) (is_held shape h p) ≡ is_live h p
+live_holds shape h p l = lives_hold shape h p (legal_grown shape h l).alive

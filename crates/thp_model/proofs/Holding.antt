@@ -1,0 +1,142 @@
+-- The frames that a page holds, after one more event.
+use Rattle.std.proofs.Common.{◌≡◌, ◌≢◌, ℕ, ◌+◌, ◌-◌, Bool, true, false, cond, not, ◌&&◌, ◌||◌, List, [], ◌∷◌, ◌++◌, refl, ap, sym, ◌∙◌, arith, nat_eq, nat_lt, ltb-true, None}
+use Rattle.std.proofs.lemmas.Bool.Decides.{nat_tests}
+use Rattle.thp_model.specs.declared.events.Event.{Event}
+use Rattle.thp_model.specs.declared.events.Outcome.{Outcome}
+use Rattle.thp_model.specs.declared.events.What.{What}
+use Rattle.thp_model.specs.declared.events.What.TheVariants.{UnmapWhole, MapSub, UnmapSub, Unpin, Split}
+use Rattle.thp_model.specs.declared.shape.Shape.{Shape}
+use Rattle.thp_model.specs.History.{History, count_of, some_event, by}
+use Rattle.thp_model.specs.Counts.{maps, unmaps, total, is_split, is_live, allocates, frees, splits, is_used}
+use Rattle.thp_model.specs.Frames.{is_held}
+use Rattle.thp_model.specs.Refusals.{refusal}
+use Rattle.thp_model.specs.Refusals as call
+use Rattle.thp_model.specs.Sets.{covers}
+use Rattle.thp_model.specs.Shapes.{subpages}
+use Rattle.thp_model.proofs.Allowed.{allowed_map_sub}
+use Rattle.thp_model.proofs.Below.{some_none}
+use Rattle.thp_model.proofs.Bools.{by_bool, and_no}
+use Rattle.thp_model.proofs.Pushes.{count_of_push, some_event_push, count_same, some_same, live_stays}
+use Rattle.thp_model.proofs.Untouched.{apart}
+
+-- the event changes neither the totals of page p nor whether it is live and split
+pub record Still (p : ℕ) (w : What) : Type 0 where
+  pub no_maps : (i : ℕ) → maps p i w ≡ false
+  pub no_unmaps : (i : ℕ) → unmaps p i w ≡ false
+  pub no_alloc : allocates p w ≡ false
+  pub no_free : frees p w ≡ false
+  pub no_split : splits p w ≡ false
+
+-- whether a frame is held, by its parts
+abbrev pub held_by : ℕ → ℕ → Bool → Bool → ℕ → ℕ → Bool
+held_by n i l s a t = nat_lt i n && (l && (not s || (l && nat_lt 0 (a - t))))
+
+-- a frame is held by these parts alone
+held-ap : (n i : ℕ) (l l' s s' : Bool) (a a' t t' : ℕ) → l ≡ l' → s ≡ s' → a ≡ a' → t ≡ t' → held_by n i l s a t ≡ held_by n i l' s' a' t'
+held-ap n i l l' s s' a a' t t' e f g h = cc
+
+-- an event that leaves them leaves what is held
+pub held_still : (shape : Shape) (h : History) (e : Event) (p i : ℕ) → Still p e.what → is_held shape (h ++ e ∷ []) p i ≡ is_held shape h p i
+held_still shape h e p i u =
+    held-ap (subpages shape) i _ _ _ _ _ _ _ _ (live_stays h e p u.no_alloc u.no_free) (some_same (splits p) h e u.no_split) (count_same (maps p i) h e (u.no_maps i)) (count_same (unmaps p i) h e (u.no_unmaps i))
+
+-- held stays so backwards where the totals only fall
+mono : (x l l' s u u' : Bool) → (l' ≡ true → l ≡ true) → (u' ≡ true → u ≡ true) → (x && (l' && (not s || (l' && u')))) ≡ true → (x && (l && (not s || (l && u)))) ≡ true
+mono false l l' s u u' f g h = h
+mono true l false s u u' f g h = absurd (cc)
+mono true l true false u u' f g h = let e : l ≡ true = f refl in rw e refl
+mono true l true true u u' f g h = let e : l ≡ true = f refl in rw (e, g h) refl
+
+-- a total that an unmap lessens was positive
+fewer : (a t d : ℕ) → nat_lt 0 (a - (t + d)) ≡ true → nat_lt 0 (a - t) ≡ true
+fewer a t d h = grind (arith, nat_tests)
+
+-- a page that lives after an event that doesn't allocate it lived before
+pub live_back : (h : History) (e : Event) (p : ℕ) → allocates p e.what ≡ false → is_live (h ++ e ∷ []) p ≡ true → is_live h p ≡ true
+live_back h e p a l = go (some_event (allocates p) h) (some_event (frees p) h) (frees p e.what) (sym (ap (λ b. b && not (some_event (frees p) (h ++ e ∷ []))) (some_same (allocates p) h e a) ∙ ap (λ b. some_event (allocates p) h && not b) (some_event_push (frees p) h e)) ∙ l) where
+  go : (a f g : Bool) → (a && not (f || g)) ≡ true → (a && not f) ≡ true
+  go true true g e = absurd (cc)
+  go true false g e = refl
+  go false f g e = absurd (cc)
+
+-- an event that adds no mapping leaves no frame held that wasn't
+pub held_falls : (shape : Shape) (h : History) (e : Event) (p i : ℕ) → ((j : ℕ) → maps p j e.what ≡ false) → allocates p e.what ≡ false → splits p e.what ≡ false →
+    is_held shape (h ++ e ∷ []) p i ≡ true → is_held shape h p i ≡ true
+held_falls shape h e p i no_maps no_alloc no_split f =
+    mono (nat_lt i (subpages shape)) (is_live h p) (is_live (h ++ e ∷ []) p) (is_split h p) (nat_lt 0 (total h p i)) (nat_lt 0 (count_of (maps p i) h - (count_of (unmaps p i) h + cond (unmaps p i e.what) 1 0)))
+    (live_back h e p no_alloc) (fewer (count_of (maps p i) h) (count_of (unmaps p i) h) (cond (unmaps p i e.what) 1 0))
+    (sym (held-ap (subpages shape) i (is_live (h ++ e ∷ []) p) (is_live (h ++ e ∷ []) p) _ _ _ _ _ _ refl (some_same (splits p) h e no_split) (count_same (maps p i) h e (no_maps i)) (count_of_push (unmaps p i) h e)) ∙ f)
+
+-- an unmap of another page
+pub still_unmap_whole : (q p : ℕ) (o : Outcome) (r : List Bool) → (q ≢ p) → Still q (UnmapWhole p o r)
+still_unmap_whole q p o r f = record { no_maps = λ i. refl; no_unmaps = λ i. apart q p f; no_alloc = refl; no_free = and_no _ _ (apart q p f); no_split = refl }
+
+-- an unmap of subpages of another page
+pub still_unmap_sub : (q p a m : ℕ) (o : Outcome) (r : List Bool) → (q ≢ p) → Still q (UnmapSub p a m o r)
+still_unmap_sub q p a m o r f = record { no_maps = λ i. refl; no_unmaps = λ i. and_no _ _ (apart q p f); no_alloc = refl; no_free = and_no _ _ (apart q p f); no_split = refl }
+
+-- an unpin of another page
+pub still_unpin : (q p : ℕ) (o : Outcome) (r : List Bool) → (q ≢ p) → Still q (Unpin p o r)
+still_unpin q p o r f = record { no_maps = λ i. refl; no_unmaps = λ i. refl; no_alloc = refl; no_free = and_no _ _ (apart q p f); no_split = refl }
+
+-- a split of another page
+pub still_split : (q p : ℕ) (r : List Bool) → (q ≢ p) → Still q (Split p r)
+still_split q p r f = record { no_maps = λ i. refl; no_unmaps = λ i. refl; no_alloc = refl; no_free = refl; no_split = apart q p f }
+
+-- a live page that isn't split holds each of its frames
+pub whole_held : (shape : Shape) (h : History) (p i : ℕ) → is_live h p ≡ true → is_split h p ≡ false → nat_lt i (subpages shape) ≡ true → is_held shape h p i ≡ true
+whole_held shape h p i l w x = go (nat_lt i (subpages shape)) (is_live h p) (is_split h p) (is_used h p i) x l w where
+  go : (x l w u : Bool) → x ≡ true → l ≡ true → w ≡ false → (x && (l && (not w || u))) ≡ true
+  go true true false u e f g = refl
+  go true true true u e f g = absurd (cc)
+  go true false w u e f g = absurd (cc)
+  go false l w u e f g = absurd (cc)
+
+-- what a page holds that isn't split hangs on its life alone
+pub unsplit_same : (shape : Shape) (h : History) (e : Event) (p i : ℕ) → is_split h p ≡ false → allocates p e.what ≡ false → frees p e.what ≡ false → splits p e.what ≡ false →
+    is_held shape (h ++ e ∷ []) p i ≡ is_held shape h p i
+unsplit_same shape h e p i w a f g =
+    go (nat_lt i (subpages shape)) _ _ _ _ _ _ (live_stays h e p a f) (some_same (splits p) h e g ∙ w) w where
+      go : (x l l' s s' u u' : Bool) → l' ≡ l → s' ≡ false → s ≡ false → (x && (l' && (not s' || u'))) ≡ (x && (l && (not s || u)))
+      go x l l' true s' u u' e f g = absurd (cc)
+      go x l l' false true u u' e f g = absurd (cc)
+      go x l l' false false u u' e f g = ap (λ b. x && (b && true)) e
+
+-- one more mapping of a frame that is held
+held_more : (shape : Shape) (h : History) (e : Event) (p i : ℕ) → is_held shape h p i ≡ true → allocates p e.what ≡ false → frees p e.what ≡ false → splits p e.what ≡ false →
+    unmaps p i e.what ≡ false → is_held shape (h ++ e ∷ []) p i ≡ true
+held_more shape h e p i f a g w t =
+    held-ap (subpages shape) i _ _ _ _ _ _ _ _ (live_stays h e p a g) (some_same (splits p) h e w) (count_of_push (maps p i) h e) (count_same (unmaps p i) h e t)
+    ∙ go (nat_lt i (subpages shape)) (is_live h p) (is_split h p) _ _ (more (count_of (maps p i) h) (count_of (unmaps p i) h) (cond (maps p i e.what) 1 0)) f where
+      more : (a t d : ℕ) → nat_lt 0 (a - t) ≡ true → nat_lt 0 (a + d - t) ≡ true
+      more a t d h = grind (arith, nat_tests)
+
+      go : (x l s u u' : Bool) → (u ≡ true → u' ≡ true) → (x && (l && (not s || (l && u)))) ≡ true → (x && (l && (not s || (l && u')))) ≡ true
+      go true true true u u' f e = f e
+      go true true false u u' f e = refl
+      go true false s u u' f e = absurd (cc)
+      go false l s u u' f e = absurd (cc)
+
+-- an allowed mapping of subpages leaves what is held
+pub kept_map_sub : (shape : Shape) (h : History) (c p a d i : ℕ) → refusal shape h (call.map_sub p a d) ≡ None →
+    is_held shape (h ++ by c (MapSub p a d) ∷ []) p i ≡ is_held shape h p i
+kept_map_sub shape h c p a d i f =
+    let e : Event = by c (MapSub p a d) in
+    by_bool (is_split h p) _
+    (λ w. by_bool (covers a d i) _
+    (λ y. by_bool (nat_lt i (subpages shape)) _
+    (λ x.
+    let still : is_held shape h p i ≡ true = was_held (is_split h p) _ (covers a d i) (is_held shape h p i) w y (allowed_map_sub shape h p a d f).2 (λ g. some_none (subpages shape) _ g i (ltb-true i (subpages shape) x)) in
+    held_more shape h e p i still refl refl refl refl ∙ sym still)
+    (λ x. and_no (nat_lt i (subpages shape)) _ x ∙ sym (and_no (nat_lt i (subpages shape)) _ x)))
+    (λ y. held-ap (subpages shape) i _ _ _ _ _ _ _ _ (live_stays h e p refl refl) (some_same (splits p) h e refl) (count_same (maps p i) h e (and_second (nat_eq p p) _ y)) (count_same (unmaps p i) h e refl)))
+    (λ w. unsplit_same shape h e p i w refl refl refl) where
+      and_second : (b c : Bool) → c ≡ false → (b && c) ≡ false
+      and_second true c e = e
+      and_second false c e = refl
+
+      was_held : (s z y v : Bool) → s ≡ true → y ≡ true → (s && z) ≡ false → (z ≡ false → (y && not v) ≡ false) → v ≡ true
+      was_held true z true true e f g k = refl
+      was_held true z true false e f g k = absurd (let h : true ≡ false = k g in cc)
+      was_held true z false v e f g k = absurd (cc)
+      was_held false z y v e f g k = absurd (cc)

@@ -1,0 +1,88 @@
+-- Legal histories, one event at a time.
+use Rattle.std.proofs.Common.{◌≡◌, ℕ, suc, zero, ◌<◌, [], ◌∷◌, ◌++◌, length, take, drop, get_or, sym, ◌∙◌, subst, arith, inl, inr, append_assoc}
+use Rattle.std.proofs.lemmas.List.{take-append-le, take_all, take_at, take-append-drop}
+use Rattle.thp_model.specs.declared.events.Event.{Event}
+use Rattle.thp_model.specs.declared.shape.Shape.{Shape}
+use Rattle.thp_model.specs.History.{History}
+use Rattle.thp_model.specs.Legal.{IsLegal, Fits, IsFirstMisfit}
+use Rattle.thp_model.proofs.ListPlaces.{get_push, get-append_left, get_middle, get_below, get_at, take_one, append_none}
+
+-- the empty history is legal
+pub legal_none : (shape : Shape) → IsLegal shape []
+legal_none shape = record { each = λ k e h. absurd (cc) }
+
+-- a legal history and an event that fits it are a legal history
+pub legal_push : (shape : Shape) (h : History) (e : Event) → IsLegal shape h → Fits shape h e → IsLegal shape (h ++ e ∷ [])
+legal_push shape h e l f = record {
+  each = λ k x g.
+      elim (get_push h e k x g) [
+        | inl w ↦ rw (take-append-le k h (e ∷ []) (omega (arith, w.0))) (l.each k x w.1)
+        | inr w ↦
+            let at_end : take k (h ++ e ∷ []) ≡ h = take_at h (e ∷ []) k (sym w.0) in
+            let p : History → Type 0 = λ t. Fits shape t x in
+            let q : Event → Type 0 = λ y. Fits shape h y in
+            subst p (sym at_end) (subst q (sym w.1) f)
+      ];
+}
+
+-- an event of a legal history fits what is before it
+pub legal_at : (shape : Shape) (h : History) (e : Event) (es : History) → IsLegal shape (h ++ e ∷ es) → Fits shape h e
+legal_at shape h e es l =
+    let P : History → Type 0 = λ k. Fits shape k e in
+    subst P (take-append-le (length h) h (e ∷ es) (omega arith) ∙ take_all (length h) h (omega arith))
+    (l.each (length h) e (get_middle h e es))
+
+-- the front of a legal history is legal
+pub legal_front : (shape : Shape) (h es : History) → IsLegal shape (h ++ es) → IsLegal shape h
+legal_front shape h es l = record {
+  each = λ k x g.
+      let below : k < length h = get_below h k x g in
+      rw (take-append-le k h es (omega arith)) at (l.each k x (get-append_left h es k x g));
+}
+
+-- each front of a legal history is legal
+pub legal_take : (shape : Shape) (h : History) (k : ℕ) → IsLegal shape h → IsLegal shape (take k h)
+legal_take shape h k l =
+    let P : History → Type 0 = λ x. IsLegal shape x in
+    legal_front shape (take k h) (drop k h) (subst P (sym (take-append-drop k h)) l)
+
+-- the last event of a legal history fits what is before it
+pub legal_last : (shape : Shape) (h : History) (e : Event) → IsLegal shape (h ++ e ∷ []) → Fits shape h e
+legal_last shape h e l = legal_at shape h e [] l
+
+-- the same of each front
+front : (shape : Shape) (P : History → Type 0) → P [] → ((h : History) (e : Event) → P h → Fits shape h e → P (h ++ e ∷ [])) →
+    (h : History) → IsLegal shape h → (k : ℕ) → P (take k h)
+front shape P none more h l zero = none
+front shape P none more h l (suc k) =
+    elim (take_one h k) [
+      | inl w ↦ subst P (sym w.2) (more (take k h) w.0 (front shape P none more h l k) (l.each k w.0 w.1))
+      | inr w ↦ subst P (sym w) (front shape P none more h l k)
+    ]
+
+-- what holds of the empty history, and of each that is longer by an event that fits, holds of every legal history
+pub legal_all : (shape : Shape) (P : History → Type 0) → P [] → ((h : History) (e : Event) → P h → Fits shape h e → P (h ++ e ∷ [])) →
+    (h : History) → IsLegal shape h → P h
+legal_all shape P none more h l = subst P (take_all (length h) h (omega arith)) (front shape P none more h l (length h))
+
+-- a legal history and events, each of which fits what is before it
+pub legal_run : (shape : Shape) (h es : History) → IsLegal shape h →
+    ((ds : History) (e : Event) (fs : History) → es ≡ ds ++ e ∷ fs → IsLegal shape (h ++ ds) → Fits shape (h ++ ds) e) → IsLegal shape (h ++ es)
+legal_run shape h [] l f = let P : History → Type 0 = λ k. IsLegal shape k in subst P (sym (append_none h)) l
+legal_run shape h (e ∷ es) l f =
+    let P : History → Type 0 = λ k. IsLegal shape k in
+    let here : P (h ++ []) = subst P (sym (append_none h)) l in
+    let F : History → Type 0 = λ k. Fits shape k e in
+    let more : IsLegal shape (h ++ e ∷ []) = legal_push shape h e l (subst F (append_none h) (f [] e es (λ i. e ∷ es) here)) in
+    subst P (append_assoc h (e ∷ []) es)
+    (legal_run shape (h ++ e ∷ []) es more
+    (λ ds x fs same m.
+    let G : History → Type 0 = λ k. Fits shape k x in
+    subst G (sym (append_assoc h (e ∷ []) ds)) (f (e ∷ ds) x fs (ap_cons e es (ds ++ x ∷ fs) same) (subst P (append_assoc h (e ∷ []) ds) m)))) where
+      ap_cons : (x : Event) (xs ys : History) → xs ≡ ys → x ∷ xs ≡ x ∷ ys
+      ap_cons x xs ys e = cc
+
+-- an event that doesn't fit a legal history is the first misfit of each history that goes on so
+pub first_misfit : (shape : Shape) (h : History) (k : ℕ) (e : Event) → k < length h → e ≡ get_or h k e → IsLegal shape (take k h) →
+    (Fits shape (take k h) e → ⊥) → IsFirstMisfit shape h k
+first_misfit shape h k e below f l m = record { legal_before = l; misfit = (e, get_at h k e below f, m) }

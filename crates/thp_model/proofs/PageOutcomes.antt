@@ -1,0 +1,112 @@
+-- The outcome of an unmap or an unpin and the frames that an event gives back, by the page's state before and after.
+use Rattle.std.proofs.Common.{◌≡◌, ℕ, ◌<◌, Bool, true, false, cond, not, ◌&&◌, ◌||◌, [], ◌∷◌, ◌++◌, refl, ap, sym, ◌∙◌, arith, nat_eq, nat_lt, ltb-true, eq-eqb}
+use Rattle.thp_model.specs.declared.events.Event.{Event}
+use Rattle.thp_model.specs.declared.events.Outcome.{Outcome}
+use Rattle.thp_model.specs.declared.events.Outcome.TheVariants.{Freed, Queued, Stays}
+use Rattle.thp_model.specs.declared.shape.Shape.{Shape}
+use Rattle.thp_model.specs.Shapes.{subpages}
+use Rattle.thp_model.specs.History.{History}
+use Rattle.thp_model.specs.Counts.{is_live, is_closed, is_freed, is_used, total, allocates, frees}
+use Rattle.thp_model.specs.Places.{stands}
+use Rattle.thp_model.specs.Frames.{is_held, is_mapped, loses_use, outcome, released}
+use Rattle.thp_model.specs.Legal.{Gives}
+use Rattle.thp_model.specs.Runs.{unused}
+use Rattle.thp_model.specs.Pages.{PageState, size, total_at, has_use, drops_use, holds, gives_frames, Tallies, PageSplit}
+use Rattle.thp_model.specs.PageChanges.{page_outcome, page_released}
+use Rattle.thp_model.proofs.Bools.{by_bool}
+use Rattle.thp_model.proofs.PageRefusals.{some_is, held_is, held_gone}
+use Rattle.thp_model.proofs.Pushes.{some_same, some_event_push}
+use Rattle.thp_model.proofs.Tallying.{total_is, pins_is, size_is, same_size}
+use Rattle.thp_model.proofs.WordLemmas.{set_of-ext}
+
+-- whether the page has a subpage in use
+pub mapped_is : (shape : Shape) (h : History) (p : ℕ) (t : PageState) → Tallies shape h p t → is_mapped shape h p ≡ has_use t
+mapped_is shape h p t m = some_is shape h p t _ _ m (λ i below. ap (λ n. nat_lt 0 n) (total_is shape h p i t m below))
+
+-- whether a subpage went out of use
+pub loses_is : (shape : Shape) (h k : History) (p : ℕ) (old new : PageState) → Tallies shape h p old → Tallies shape k p new → loses_use shape h k p ≡ drops_use old new
+loses_is shape h k p old new a b =
+    some_is shape h p old _ _ a (λ i below. both _ _ _ _ (total_is shape h p i old a below) (total_is shape k p i new b below)) where
+      both : (x x' y y' : ℕ) → x ≡ x' → y ≡ y' → (nat_lt 0 x && nat_eq y 0) ≡ (nat_lt 0 x' && nat_eq y' 0)
+      both x x' y y' e f = cc
+
+-- the outcome of what makes of h the history k
+pub outcome_is : (shape : Shape) (h k : History) (p : ℕ) (old new : PageState) → Tallies shape h p old → Tallies shape k p new →
+    outcome shape h k p ≡ page_outcome old new (is_closed h) (stands h p)
+outcome_is shape h k p old new a b =
+    parts _ _ _ _ _ _ _ _ (is_closed h) (stands h p) (mapped_is shape k p new b) (pins_is shape k p new b) (sym a.split) (loses_is shape h k p old new a b) where
+      parts : (y y' : Bool) (n n' : ℕ) (s s' x x' c t : Bool) → y ≡ y' → n ≡ n' → s ≡ s' → x ≡ x' →
+          cond (not y && nat_eq n 0) Freed (cond (not s && (x && (y && (not c && not t)))) Queued Stays)
+          ≡ cond (not y' && nat_eq n' 0) Freed (cond (not s' && (x' && (y' && (not c && not t)))) Queued Stays)
+      parts y y' n n' s s' x x' c t e f g h = cc
+
+-- a live page lives on unless the event frees it
+pub lives_on : (h : History) (e : Event) (p : ℕ) → is_live h p ≡ true → allocates p e.what ≡ false → is_live (h ++ e ∷ []) p ≡ not (frees p e.what)
+lives_on h e p l a =
+    go _ _ _ _ (frees p e.what) (some_same (allocates p) h e a) (some_event_push (frees p) h e) l where
+      go : (a a' f f' g : Bool) → a' ≡ a → f' ≡ (f || g) → (a && not f) ≡ true → (a' && not f') ≡ not g
+      go true a' true f' g e i l = absurd (cc)
+      go true a' false f' g e i l = rw (e, i) refl
+      go false a' f f' g e i l = absurd (cc)
+
+-- what is given back where the page lives on, and where it is freed
+pub released_is : (shape : Shape) (h k : History) (p : ℕ) (o : Outcome) (old new : PageState) → Tallies shape h p old → Tallies shape k p new → is_live h p ≡ true →
+    is_live k p ≡ not (is_freed o) → released shape h k p ≡ page_released old new o
+released_is shape h k p o old new a b l after =
+    set_of-ext _ _ (λ i below. by_bool (is_freed o) _ (λ y. freed i (is_freed o) y (held_gone shape k p i (after ∙ ap not y))) (λ y. stays i (is_freed o) y (held_is shape k p i new b (after ∙ ap not y)))) where
+      freed : (i : ℕ) (x : Bool) → x ≡ true → is_held shape k p i ≡ false → (is_held shape h p i && not (is_held shape k p i)) ≡ (holds old i && (x || not (holds new i)))
+      freed i true e g = ap (λ b. is_held shape h p i && not b) g ∙ ap (λ b. b && true) (held_is shape h p i old a l)
+      freed i false e g = absurd (cc)
+
+      stays : (i : ℕ) (x : Bool) → x ≡ false → is_held shape k p i ≡ holds new i → (is_held shape h p i && not (is_held shape k p i)) ≡ (holds old i && (x || not (holds new i)))
+      stays i true e g = absurd (cc)
+      stays i false e g = ap (λ b. is_held shape h p i && not b) g ∙ ap (λ b. b && not (holds new i)) (held_is shape h p i old a l)
+
+-- what is given back by an event that doesn't free the page
+pub released_alive : (shape : Shape) (h k : History) (p : ℕ) (old new : PageState) → Tallies shape h p old → Tallies shape k p new → is_live h p ≡ true → is_live k p ≡ true →
+    released shape h k p ≡ gives_frames old new
+released_alive shape h k p old new a b l after =
+    set_of-ext _ _ (λ i below. both _ _ _ _ (held_is shape h p i old a l) (held_is shape k p i new b after)) where
+      both : (x x' y y' : Bool) → x ≡ x' → y ≡ y' → (x && not y) ≡ (x' && not y')
+      both x x' y y' e f = cc
+
+-- a split of a page gives back the frames of its subpages that aren't in use
+pub unused_is : (shape : Shape) (h : History) (p : ℕ) (old new : PageState) → Tallies shape h p old → is_live h p ≡ true → old.split ≡ false → PageSplit old new →
+    unused shape h p ≡ gives_frames old new
+unused_is shape h p old new m l s w =
+    set_of-ext _ _ (λ i below. by_bool (nat_lt i (subpages shape)) _
+    (λ y. yes (nat_lt i (subpages shape)) (nat_lt i (size old)) (nat_lt i (size new)) (is_live h p) old.split new.split _ _ _ y (inside i) (inside' i) l s w.split
+    (total_is shape h p i old m (ltb-true i (subpages shape) y)) (same i (ltb-true i (subpages shape) y)))
+    (λ y. no (nat_lt i (subpages shape)) (nat_lt i (size old)) _ _ _ y (inside i))) where
+      inside : (i : ℕ) → nat_lt i (subpages shape) ≡ nat_lt i (size old)
+      inside i = ap (λ n. nat_lt i n) (sym (size_is shape h p old m))
+
+      inside' : (i : ℕ) → nat_lt i (size old) ≡ nat_lt i (size new)
+      inside' i = ap (λ n. nat_lt i n) (same_size old new (sym w.order))
+
+      same : (i : ℕ) → i < subpages shape → total_at new i ≡ total_at old i
+      same i below = omega (arith, w.whole, w.own i (omega (arith, size_is shape h p old m)))
+
+      yes : (x x' x'' l s s' : Bool) (u v v' : ℕ) → x ≡ true → x ≡ x' → x' ≡ x'' → l ≡ true → s ≡ false → s' ≡ true → u ≡ v → v' ≡ v →
+          (x && not (l && nat_lt 0 u)) ≡ ((x' && (not s || nat_lt 0 v)) && not (x'' && (not s' || nat_lt 0 v')))
+      yes x x' x'' l s s' u v v' a b c d e f g h = rw (sym c, sym b, a, d, e, f, g, h) refl
+
+      no : (x x' y z z' : Bool) → x ≡ false → x ≡ x' → (x && y) ≡ ((x' && z) && not z')
+      no x x' y z z' e f = cc
+
+-- after an unmap or an unpin the page lives unless that freed it
+pub lives_by : (h : History) (e : Event) (p : ℕ) (o : Outcome) → is_live h p ≡ true → allocates p e.what ≡ false → frees p e.what ≡ (nat_eq p p && is_freed o) →
+    is_live (h ++ e ∷ []) p ≡ not (is_freed o)
+lives_by h e p o l a f = lives_on h e p l a ∙ ap not (f ∙ ap (λ b. b && is_freed o) (eq-eqb p p refl))
+
+-- the outcome and the frames that an event must name
+pub gives_is : (shape : Shape) (h k : History) (p : ℕ) (o : Outcome) (old new : PageState) → Tallies shape h p old → Tallies shape k p new → is_live h p ≡ true →
+    is_live k p ≡ not (is_freed o) → o ≡ page_outcome old new (is_closed h) (stands h p) → Gives shape h k p o (page_released old new o)
+gives_is shape h k p o old new a b l after e = record {
+  outcome_is = e ∙ sym (outcome_is shape h k p old new a b);
+  set_is = sym (released_is shape h k p o old new a b l after);
+}
+
+-- whether a subpage of a live page is in use
+pub used_is : (shape : Shape) (h : History) (p i : ℕ) (t : PageState) → Tallies shape h p t → is_live h p ≡ true → i < subpages shape → is_used h p i ≡ nat_lt 0 (total_at t i)
+used_is shape h p i t m l below = ap (λ b. b && nat_lt 0 (total h p i)) l ∙ ap (λ n. nat_lt 0 n) (total_is shape h p i t m below)

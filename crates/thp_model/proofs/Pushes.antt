@@ -1,0 +1,91 @@
+-- Each definition at a history with one more event.
+use Rattle.std.proofs.Common.{◌≡◌, ℕ, ◌+◌, Bool, true, false, cond, not, ◌&&◌, ◌||◌, [], ◌∷◌, ◌++◌, refl, ap, sym, ◌∙◌, arith, nat_eq, append_assoc}
+use Rattle.std.specs.List.{filter_map, fold}
+use Rattle.std.proofs.lemmas.List.Elements.{filter-append, filter_map-append}
+use Rattle.std.proofs.lemmas.List.Sums.{sum_by_push, fold_push}
+use Rattle.std.proofs.lemmas.List.Folds.{list_any-append}
+use Rattle.thp_model.specs.declared.events.Event.{Event}
+use Rattle.thp_model.specs.declared.events.What.{What}
+use Rattle.thp_model.specs.History.{History, count_of, some_event, events_of}
+use Rattle.thp_model.specs.Counts.{is_live, allocates, frees}
+use Rattle.thp_model.specs.Places.{queue, queue_after, flights, flights_after, is_taking, takes_by}
+use Rattle.thp_model.specs.Counters.{thp_split_pmd, add_split_pmds, splits_pmds}
+use Rattle.thp_model.specs.Frames.{given, gives_back}
+use Rattle.thp_model.proofs.Bools.{or-false}
+use Rattle.thp_model.proofs.ListPlaces.{append_none}
+
+-- how many events pass a test
+pub count_of_push : (test : What → Bool) (h : History) (e : Event) → count_of test (h ++ e ∷ []) ≡ count_of test h + cond (test e.what) 1 0
+unfolding count_of
+count_of_push test h e = sum_by_push (λ (x : Event). cond (test x.what) 1 0) h e
+
+-- whether some event passes a test
+pub some_event_push : (test : What → Bool) (h : History) (e : Event) → some_event test (h ++ e ∷ []) ≡ (some_event test h || test e.what)
+unfolding some_event
+some_event_push test h e =
+    list_any-append (λ (x : Event). test x.what) h (e ∷ []) ∙ ap (λ b. some_event test h || b) (or-false (test e.what))
+
+-- the queue
+pub queue_push : (h : History) (e : Event) → queue (h ++ e ∷ []) ≡ queue_after (queue h) e.what
+unfolding queue
+queue_push h e = fold_push (λ ps (x : Event). queue_after ps x.what) [] h e
+
+-- the flights
+pub flights_push : (h : History) (e : Event) → flights (h ++ e ∷ []) ≡ flights_after (flights h) e.caller e.what
+unfolding flights
+flights_push h e = fold_push (λ fs (x : Event). flights_after fs x.caller x.what) [] h e
+
+-- whether the last event is a take by c
+pub is_taking_push : (h : History) (c : ℕ) (e : Event) → is_taking (h ++ e ∷ []) c ≡ takes_by c e.caller e.what
+unfolding is_taking
+is_taking_push h c e = fold_push (λ before (x : Event). takes_by c x.caller x.what) false h e
+
+-- the events of one caller
+pub events_of_push : (c : ℕ) (h : History) (e : Event) → events_of c (h ++ e ∷ []) ≡ events_of c h ++ cond (nat_eq e.caller c) (e ∷ []) []
+unfolding events_of
+events_of_push c h e = filter-append (λ (x : Event). nat_eq x.caller c) h (e ∷ [])
+
+-- an event that doesn't pass a test
+pub count_same : (test : What → Bool) (h : History) (e : Event) → test e.what ≡ false → count_of test (h ++ e ∷ []) ≡ count_of test h
+count_same test h e f = count_of_push test h e ∙ ap (λ b. count_of test h + cond b 1 0) f ∙ none (count_of test h) where
+  none : (n : ℕ) → n + 0 ≡ n
+  none n = omega arith
+
+-- an event that passes
+pub count_more : (test : What → Bool) (h : History) (e : Event) → test e.what ≡ true → count_of test (h ++ e ∷ []) ≡ count_of test h + 1
+count_more test h e f = count_of_push test h e ∙ ap (λ b. count_of test h + cond b 1 0) f
+
+-- an event that doesn't pass leaves whether some event did
+pub some_same : (test : What → Bool) (h : History) (e : Event) → test e.what ≡ false → some_event test (h ++ e ∷ []) ≡ some_event test h
+some_same test h e f = some_event_push test h e ∙ ap (λ b. some_event test h || b) f ∙ or-false (some_event test h)
+
+-- an event that neither allocates nor frees page p leaves whether it lives
+pub live_stays : (h : History) (e : Event) (p : ℕ) → allocates p e.what ≡ false → frees p e.what ≡ false → is_live (h ++ e ∷ []) p ≡ is_live h p
+live_stays h e p a f =
+    ap (λ b. b && not (some_event (frees p) (h ++ e ∷ []))) (some_same (allocates p) h e a)
+    ∙ ap (λ b. some_event (allocates p) h && not b) (some_same (frees p) h e f)
+
+-- the count of split PMD mappings goes along the history
+history_of : (k : History) (n : ℕ) (h : History) → (fold add_split_pmds (k, n) h).0 ≡ k ++ h
+history_of k n [] = sym (append_none k)
+history_of k n (e ∷ h) = history_of (k ++ e ∷ []) (n + splits_pmds k e.what) h ∙ append_assoc k (e ∷ []) h
+
+-- how many PMD mappings were split
+pub thp_split_pmd_push : (h : History) (e : Event) → thp_split_pmd (h ++ e ∷ []) ≡ thp_split_pmd h + splits_pmds h e.what
+unfolding thp_split_pmd
+thp_split_pmd_push h e =
+    ap (λ (k : History × ℕ). k.1) (fold_push add_split_pmds ([], 0) h e)
+    ∙ ap (λ k. (fold add_split_pmds ([], 0) h).1 + splits_pmds k e.what) (history_of [] 0 h)
+
+-- at the start none was split
+pub thp_split_pmd_none : thp_split_pmd [] ≡ 0
+unfolding thp_split_pmd
+thp_split_pmd_none = refl
+
+-- the record of frames given back
+pub given_push : (h : History) (e : Event) → given (h ++ e ∷ []) ≡ given h ++ filter_map gives_back (e ∷ [])
+unfolding given
+given_push h e = filter_map-append gives_back h (e ∷ [])
+
+-- a history with one more event
+pub ruleset history_pushes = (count_of_push, some_event_push, queue_push, flights_push, is_taking_push, events_of_push, thp_split_pmd_push, given_push)

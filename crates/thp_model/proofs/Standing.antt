@@ -1,0 +1,301 @@
+-- No page stands twice in the queue and the flights joined, and each that stands there is live and not split.
+use Rattle.std.proofs.Common.{◌≡◌, ℕ, ◌+◌, ◌<◌, ◌≤◌, Bool, true, false, cond, not, ◌&&◌, ◌||◌, List, [], ◌∷◌, ◌++◌, Some, drop, map, refl, ap, sym, ◌∙◌, subst, arith, eq-eqb, ne_eqb, inl, inr}
+use Rattle.std.specs.Prelude.{slice_get, count_by, nat_eq, nat_lt}
+use Rattle.std.specs.List.{filter, list_any}
+use Rattle.std.proofs.lemmas.List.Sums.{sum_by_push, sum_by-cons, sum_by-append}
+use Rattle.std.proofs.lemmas.List.Folds.{list_any-append}
+use Rattle.std.proofs.lemmas.Bool.Decides.{eqb_tells}
+use Rattle.thp_model.specs.declared.events.Event.{Event}
+use Rattle.thp_model.specs.declared.events.Outcome.{Outcome}
+use Rattle.thp_model.specs.declared.events.Outcome.TheVariants.{Freed, Queued, Stays}
+use Rattle.thp_model.specs.declared.events.What.{What}
+use Rattle.thp_model.specs.declared.events.What.TheVariants.{UnmapWhole, UnmapSub, Unpin, Taken, Split, Back, Dropped}
+use Rattle.thp_model.specs.declared.shape.Shape.{Shape}
+use Rattle.thp_model.specs.History.{History, some_event}
+use Rattle.thp_model.specs.Counts.{total, pins, is_closed, is_freed, is_live, is_split, frees, splits, allocates}
+use Rattle.thp_model.specs.Places.{standing, stands, queue, flights, queue_after, flights_after, queue_by, flights_by, without, leaves, has_page, flight}
+use Rattle.thp_model.specs.Legal.{IsLegal, Fits, FitsBy}
+use Rattle.thp_model.specs.Frames.{outcome}
+use Rattle.thp_model.specs.Sets.{some_below}
+use Rattle.thp_model.specs.Shapes.{subpages}
+use Rattle.thp_model.proofs.Allowed.{allowed_unmap_whole, allowed_unmap_sub, allowed_unpin}
+use Rattle.thp_model.proofs.Bools.{or_none, and-false, one_if, none_if}
+use Rattle.thp_model.proofs.Counting.{count-filter, count-le, count_any, count-cons}
+use Rattle.thp_model.proofs.LegalSteps.{legal_all}
+use Rattle.thp_model.proofs.Pushes.{queue_push, flights_push, some_event_push}
+
+-- how often page p stands in the queue, and in the flights
+unfoldable pub times : ℕ → List ℕ → ℕ
+times p ps = count_by (λ q. nat_eq q p) ps
+
+-- how often page p stands in the flights
+unfoldable pub flying : ℕ → List (ℕ × ℕ) → ℕ
+flying p fs = count_by (λ (f : ℕ × ℕ). nat_eq f.1 p) fs
+
+-- one more page at the queue's end
+pub times_push : (p q : ℕ) (ps : List ℕ) → times p (ps ++ q ∷ []) ≡ times p ps + cond (nat_eq q p) 1 0
+unfolding times
+times_push p q ps = sum_by_push (λ x. cond (nat_eq x p) 1 0) ps q
+
+-- one more entry at the flights' end
+pub flying_push : (p q c : ℕ) (fs : List (ℕ × ℕ)) → flying p (fs ++ (c, q) ∷ []) ≡ flying p fs + cond (nat_eq q p) 1 0
+unfolding flying
+flying_push p q c fs = sum_by_push (λ (f : ℕ × ℕ). cond (nat_eq f.1 p) 1 0) fs (c, q)
+
+-- one more page in front
+pub times-cons : (p q : ℕ) (ps : List ℕ) → times p (q ∷ ps) ≡ cond (nat_eq q p) 1 0 + times p ps
+unfolding times
+times-cons p q ps = sum_by-cons (λ x. cond (nat_eq x p) 1 0) q ps
+
+-- one more entry in front
+pub flying-cons : (p c q : ℕ) (fs : List (ℕ × ℕ)) → flying p ((c, q) ∷ fs) ≡ cond (nat_eq q p) 1 0 + flying p fs
+unfolding flying
+flying-cons p c q fs = sum_by-cons (λ (f : ℕ × ℕ). cond (nat_eq f.1 p) 1 0) (c, q) fs
+
+-- a filter keeps no more
+pub times-filter : (test : ℕ → Bool) (p : ℕ) (ps : List ℕ) → times p (filter test ps) ≤ times p ps
+unfolding times
+times-filter test p ps = omega (arith, count-filter (λ q. nat_eq q p) test ps)
+
+-- the same of the flights
+pub flying-filter : (test : ℕ × ℕ → Bool) (p : ℕ) (fs : List (ℕ × ℕ)) → flying p (filter test fs) ≤ flying p fs
+unfolding flying
+flying-filter test p fs = omega (arith, count-filter (λ (f : ℕ × ℕ). nat_eq f.1 p) test fs)
+
+-- a truth and not its opposite
+both : (b : Bool) → b ≡ true → (b && not (not b)) ≡ true
+both true e = refl
+both false e = absurd (cc)
+
+-- a list without page p has it no more
+pub times-without : (p : ℕ) (ps : List ℕ) → times p (without p ps) ≡ 0
+unfolding times
+times-without p ps =
+    omega (
+      arith,
+      count-filter (λ q. nat_eq q p) (λ q. not (nat_eq q p)) ps,
+      count-le (λ q. nat_eq q p) (λ q. nat_eq q p && not (not (nat_eq q p))) ps (λ q e. both (nat_eq q p) e),
+    )
+
+-- the same of the flights
+pub flying-without : (p : ℕ) (fs : List (ℕ × ℕ)) → flying p (filter (λ (f : ℕ × ℕ). not (nat_eq f.1 p)) fs) ≡ 0
+unfolding flying
+flying-without p fs =
+    omega (
+      arith,
+      count-filter (λ (f : ℕ × ℕ). nat_eq f.1 p) (λ (f : ℕ × ℕ). not (nat_eq f.1 p)) fs,
+      count-le (λ (f : ℕ × ℕ). nat_eq f.1 p) (λ (f : ℕ × ℕ). nat_eq f.1 p && not (not (nat_eq f.1 p))) fs (λ f e. both (nat_eq f.1 p) e),
+    )
+
+-- a page in the flight of c
+abbrev pub pages : List (ℕ × ℕ) → List ℕ
+pages fs = map (λ (f : ℕ × ℕ). f.1) fs
+
+-- one more entry of a flight
+in_step : (a b : Bool) (f : ℕ × ℕ) (p : ℕ) (fs : List (ℕ × ℕ)) (n : ℕ) → nat_eq f.1 p ≡ b → (has_page p (pages fs) ≡ true → 0 < n) →
+    has_page p (pages (cond a (f ∷ fs) fs)) ≡ true → 0 < cond (a && b) 1 0 + n
+in_step true true f p fs n e g h = omega arith
+in_step true false f p fs n e g h = omega (arith, g (ap (λ v. v || has_page p (pages fs)) (sym e) ∙ h))
+in_step false b f p fs n e g h = omega (arith, g h)
+
+-- a page of the flight of c stands in the flights, by c
+pub in_flight : (p c : ℕ) (fs : List (ℕ × ℕ)) → has_page p (pages (filter (λ (f : ℕ × ℕ). nat_eq f.0 c) fs)) ≡ true →
+    0 < count_by (λ (f : ℕ × ℕ). nat_eq f.0 c && nat_eq f.1 p) fs
+in_flight p c [] h = absurd (cc)
+in_flight p c (f ∷ fs) h =
+    rw (count-cons (λ (f : ℕ × ℕ). nat_eq f.0 c && nat_eq f.1 p) f fs)
+    (in_step (nat_eq f.0 c) (nat_eq f.1 p) f p (filter (λ (f : ℕ × ℕ). nat_eq f.0 c) fs) _ refl (in_flight p c fs) h)
+
+-- a conjunction the other way round
+swap_and : (a b : Bool) → (a && b) ≡ true → (b && not (not (a && b))) ≡ true
+swap_and true true e = refl
+swap_and true false e = absurd (cc)
+swap_and false b e = absurd (cc)
+
+-- a page that leaves the flight of c stands in the flights once less
+pub flying-leaves : (p c : ℕ) (fs : List (ℕ × ℕ)) → has_page p (pages (filter (λ (f : ℕ × ℕ). nat_eq f.0 c) fs)) ≡ true →
+    flying p (leaves c p fs) + 1 ≤ flying p fs
+unfolding flying
+flying-leaves p c fs h =
+    omega (
+      arith,
+      in_flight p c fs h,
+      count-filter (λ (f : ℕ × ℕ). nat_eq f.1 p) (λ (f : ℕ × ℕ). not (nat_eq f.0 c && nat_eq f.1 p)) fs,
+      count-le (λ (f : ℕ × ℕ). nat_eq f.0 c && nat_eq f.1 p) (λ (f : ℕ × ℕ). nat_eq f.1 p && not (not (nat_eq f.0 c && nat_eq f.1 p))) fs (λ f e. swap_and (nat_eq f.0 c) (nat_eq f.1 p) e),
+    )
+
+-- the first page of a list is in it
+pub first_has : (p : ℕ) (qs : List ℕ) → slice_get qs 0 ≡ Some p → has_page p qs ≡ true
+first_has p [] e = absurd (cc)
+first_has p (q ∷ qs) e = let same : q ≡ p = cc in rw same (ap (λ v. v || has_page p qs) (eq-eqb p p refl))
+
+-- the first of the queue, taken out
+times-drop : (p q : ℕ) (qs : List ℕ) → slice_get qs 0 ≡ Some p → times q qs ≡ cond (nat_eq p q) 1 0 + times q (drop 1 qs)
+times-drop p q [] e = absurd (cc)
+times-drop p q (x ∷ qs) e = let same : x ≡ p = cc in rw (times-cons q x qs, same)
+
+-- how often a page stands
+abbrev pub stand : History → ℕ → ℕ
+stand h p = times p (queue h) + flying p (flights h)
+
+-- no page stands twice, and each that stands is live and not split
+pub record Sound (h : History) : Type 0 where
+  pub once : (p : ℕ) → stand h p ≤ 1
+  pub live : (p : ℕ) → 0 < stand h p → is_live h p ≡ true
+  pub whole_page : (p : ℕ) → 0 < stand h p → is_split h p ≡ false
+
+-- a page of some flight
+pub any-pages : (p : ℕ) (fs : List (ℕ × ℕ)) → has_page p (pages fs) ≡ list_any (λ (f : ℕ × ℕ). nat_eq f.1 p) fs
+any-pages p [] = refl
+any-pages p (f ∷ fs) = ap (λ b. nat_eq f.1 p || b) (any-pages p fs)
+
+-- a page that stands nowhere is counted nowhere
+pub stands_not : (h : History) (p : ℕ) → has_page p (queue h ++ pages (flights h)) ≡ false → stand h p ≡ 0
+unfolding times flying
+stands_not h p e =
+    let split : (has_page p (queue h) || has_page p (pages (flights h))) ≡ false = sym (list_any-append (λ q. nat_eq q p) (queue h) (pages (flights h))) ∙ e in
+    let apart : (has_page p (queue h) ≡ false) × (has_page p (pages (flights h)) ≡ false) = or_none _ _ split in
+    omega (arith, (count_any (λ q. nat_eq q p) (queue h)).0 apart.0, (count_any (λ (f : ℕ × ℕ). nat_eq f.1 p) (flights h)).0 (sym (any-pages p (flights h)) ∙ apart.1))
+
+-- a page lives on through an event that doesn't free it
+pub live_push : (h : History) (e : Event) (p : ℕ) → is_live h p ≡ true → frees p e.what ≡ false → is_live (h ++ e ∷ []) p ≡ true
+live_push h e p l f = rw (some_event_push (allocates p) h e, some_event_push (frees p) h e) (go (some_event (allocates p) h) (some_event (frees p) h) (allocates p e.what) (frees p e.what) l f) where
+  go : (a b c d : Bool) → (a && not b) ≡ true → d ≡ false → ((a || c) && not (b || d)) ≡ true
+  go true false c false l f = refl
+  go true false c true l f = absurd (cc)
+  go true true c d l f = absurd (cc)
+  go false b c d l f = absurd (cc)
+
+-- a page stays whole through an event that doesn't split it
+pub split_push : (h : History) (e : Event) (p : ℕ) → is_split h p ≡ false → splits p e.what ≡ false → is_split (h ++ e ∷ []) p ≡ false
+split_push h e p l f = rw (some_event_push (splits p) h e, l, f)
+
+-- what an outcome of `Queued` says
+queued_is : (a s x y k t : Bool) → Queued ≡ cond a Freed (cond (not s && (x && (y && (not k && not t)))) Queued Stays) → (s ≡ false) × (t ≡ false) × (k ≡ false) × (y ≡ true)
+queued_is a s x y k t e = grind arith
+
+-- page q stands n times after an event
+record Next (h : History) (q n : ℕ) (freed parted : Bool) : Type 0 where
+  few : n ≤ 1
+  good : 0 < n → (is_live h q ≡ true) × (is_split h q ≡ false) × (freed ≡ false) × (parted ≡ false)
+
+-- a page that stands no more often than before
+less : (h : History) (q n : ℕ) (a b : Bool) → Sound h → n ≤ stand h q → a ≡ false → b ≡ false → Next h q n a b
+less h q n a b s le f g = record { few = omega (arith, s.once q); good = λ up. (s.live q (omega arith), s.whole_page q (omega arith), f, g) }
+
+-- a page that stands nowhere any more
+gone : (h : History) (q n : ℕ) (a b : Bool) → n ≡ 0 → Next h q n a b
+gone h q n a b e = record { few = omega arith; good = λ up. absurd (omega arith) }
+
+-- a page that joined, and stood nowhere
+entered : (h : History) (p q n : ℕ) (a b : Bool) → Sound h → is_live h p ≡ true → is_split h p ≡ false → stand h p ≡ 0 →
+    n ≡ stand h q + cond (nat_eq p q) 1 0 → a ≡ false → b ≡ false → Next h q n a b
+entered h p q n a b s l w none e f g =
+    elim (eqb_tells p q) [
+      | inl y ↦
+          let one : cond {A = ℕ} (nat_eq p q) 1 0 ≡ 1 = one_if (nat_eq p q) y.0 in
+          let here : stand h q ≡ 0 = ap (stand h) (sym y.1) ∙ none in
+          record { few = omega arith; good = λ up. (ap (is_live h) (sym y.1) ∙ l, ap (is_split h) (sym y.1) ∙ w, f, g) }
+      | inr y ↦
+          let none : cond {A = ℕ} (nat_eq p q) 1 0 ≡ 0 = none_if (nat_eq p q) y.0 in
+          less h q n a b s (omega arith) f g
+    ]
+
+-- either q is not p, or q is p
+flip : (p q : ℕ) → nat_eq p q ≡ nat_eq q p
+flip p q = elim (eqb_tells p q) [ inl y ↦ y.0 ∙ sym (eq-eqb q p (sym y.1)) | inr y ↦ y.0 ∙ sym (ne_eqb q p (λ e. y.1 (sym e))) ]
+
+-- a page that is p, or isn't
+unless_same : (h : History) (p q n : ℕ) (a b : Bool) → Sound h → n ≤ stand h q → (q ≡ p → n ≡ 0) →
+    (nat_eq q p ≡ false → (a ≡ false) × (b ≡ false)) → Next h q n a b
+unless_same h p q n a b s le f g =
+    elim (eqb_tells q p) [ inl y ↦ gone h q n a b (f y.1) | inr y ↦ less h q n a b s le (g y.0).0 (g y.0).1 ]
+
+-- what holds at p
+at : (q p : ℕ) (f : ℕ → ℕ) → f p ≡ 0 → q ≡ p → f q ≡ 0
+at q p f e y = ap f y ∙ e
+
+-- a page is queued only where it isn't split, stands nowhere, the node is open and some subpage is in use
+pub outcome_queued : (shape : Shape) (h k : History) (p : ℕ) → Queued ≡ outcome shape h k p →
+    (is_split h p ≡ false) × (stands h p ≡ false) × (is_closed h ≡ false) × (some_below (subpages shape) (λ i. nat_lt 0 (total k p i)) ≡ true)
+outcome_queued shape h k p e =
+    queued_is (not (some_below (subpages shape) (λ i. nat_lt 0 (total k p i))) && nat_eq (pins k p) 0) (is_split h p)
+    (some_below (subpages shape) (λ i. nat_lt 0 (total h p i) && nat_eq (total k p i) 0)) (some_below (subpages shape) (λ i. nat_lt 0 (total k p i))) (is_closed h) (stands h p) e
+
+-- an outcome of a live page keeps this
+by_outcome : (shape : Shape) (h k : History) (p q : ℕ) (o : Outcome) → Sound h → is_live h p ≡ true → o ≡ outcome shape h k p →
+    Next h q (times q (queue_by (queue h) p o) + flying q (flights_by (flights h) p o)) (nat_eq q p && is_freed o) false
+by_outcome shape h k p q Stays s l e = less h q _ _ _ s (omega arith) (and-false (nat_eq q p)) refl
+by_outcome shape h k p q Queued s l e =
+    let why : (is_split h p ≡ false) × (stands h p ≡ false) × (is_closed h ≡ false) × (some_below (subpages shape) (λ i. nat_lt 0 (total k p i)) ≡ true) = outcome_queued shape h k p e in
+    entered h p q _ _ _ s l why.0 (stands_not h p why.1) (omega (arith, times_push q p (queue h))) (and-false (nat_eq q p)) refl
+by_outcome shape h k p q Freed s l e =
+    unless_same h p q _ _ _ s (omega (arith, times-filter (λ x. not (nat_eq x p)) q (queue h), flying-filter (λ (f : ℕ × ℕ). not (nat_eq f.1 p)) q (flights h)))
+    (λ y. at q p (λ x. times x (without p (queue h)) + flying x (filter (λ (f : ℕ × ℕ). not (nat_eq f.1 p)) (flights h))) (omega (arith, times-without p (queue h), flying-without p (flights h))) y)
+    (λ y. (ap (λ b. b && true) y, refl))
+
+-- a page that leaves the flight of c makes room for one entry
+moves : (p q c : ℕ) (fs : List (ℕ × ℕ)) → has_page p (pages (filter (λ (f : ℕ × ℕ). nat_eq f.0 c) fs)) ≡ true →
+    cond (nat_eq p q) 1 0 + flying q (leaves c p fs) ≤ flying q fs
+moves p q c fs h =
+    elim (eqb_tells p q) [
+      | inl y ↦
+          let one : cond {A = ℕ} (nat_eq p q) 1 0 ≡ 1 = one_if (nat_eq p q) y.0 in
+          let here : flying q (leaves c p fs) + 1 ≤ flying q fs =
+          let P : ℕ → Type 0 = λ x. flying x (leaves c p fs) + 1 ≤ flying x fs in subst P y.1 (flying-leaves p c fs h) in
+          omega arith
+      | inr y ↦
+          let none : cond {A = ℕ} (nat_eq p q) 1 0 ≡ 0 = none_if (nat_eq p q) y.0 in
+          omega (arith, flying-filter (λ (x : ℕ × ℕ). not (nat_eq x.0 c && nat_eq x.1 p)) q fs)
+    ]
+
+-- an event that fits keeps this
+step : (shape : Shape) (h k : History) (c : ℕ) (w : What) (q : ℕ) → Sound h → FitsBy shape h k c w →
+    Next h q (times q (queue_after (queue h) w) + flying q (flights_after (flights h) c w)) (frees q w) (splits q w)
+step shape h k c (UnmapWhole p o r) q s f = by_outcome shape h k p q o s (allowed_unmap_whole shape h p f.0).0 f.1.outcome_is
+step shape h k c (UnmapSub p a m o r) q s f = by_outcome shape h k p q o s (allowed_unmap_sub shape h p a m f.0).0 f.1.outcome_is
+step shape h k c (Unpin p o r) q s f = by_outcome shape h k p q o s (allowed_unpin shape h p f.0).0 f.1.outcome_is
+step shape h k c (Taken p) q s f =
+    less h q _ _ _ s (omega (arith, times-drop p q (queue h) f.oldest, flying_push q p c (flights h))) refl refl
+step shape h k c (Split p r) q s f =
+    unless_same h p q _ _ _ s (omega (arith, flying-filter (λ (x : ℕ × ℕ). not (nat_eq x.0 c && nat_eq x.1 p)) q (flights h)))
+    (λ y. at q p (λ x. times x (queue h) + flying x (leaves c p (flights h))) (omega (arith, flying-leaves p c (flights h) f.in_flight, s.once p)) y)
+    (λ y. (refl, y))
+step shape h k c (Back p) q s f =
+    less h q _ _ _ s (omega (arith, times_push q p (queue h), moves p q c (flights h) (first_has p (flight h c) f.0))) refl refl
+step shape h k c (Dropped p) q s f =
+    less h q _ _ _ s (omega (arith, flying-filter (λ (x : ℕ × ℕ). not (nat_eq x.0 c && nat_eq x.1 p)) q (flights h))) refl refl
+step shape h k c w q s f = less h q _ _ _ s (omega arith) refl refl
+
+-- one more event that fits
+pub sound_push : (shape : Shape) (h : History) (e : Event) → Sound h → Fits shape h e → Sound (h ++ e ∷ [])
+sound_push shape h e s f =
+    let stands_as : (q : ℕ) → stand (h ++ e ∷ []) q ≡ times q (queue_after (queue h) e.what) + flying q (flights_after (flights h) e.caller e.what) =
+    λ q. ap (λ ps. times q ps + flying q (flights (h ++ e ∷ []))) (queue_push h e) ∙ ap (λ fs. times q (queue_after (queue h) e.what) + flying q fs) (flights_push h e) in
+    let next = λ (q : ℕ). step shape h (h ++ e ∷ []) e.caller e.what q s f in
+    record {
+      once = λ q. rw (stands_as q) (next q).few;
+      live = λ q up. let g = (next q).good (rw (stands_as q) at up) in live_push h e q g.0 g.2;
+      whole_page = λ q up. let g = (next q).good (rw (stands_as q) at up) in split_push h e q g.1 g.3;
+    }
+
+-- the empty history
+pub sound_none : Sound []
+unfolding times flying queue flights
+sound_none = record { once = λ p. omega arith; live = λ p up. absurd (omega arith); whole_page = λ p up. absurd (omega arith) }
+
+-- so it holds of every legal history
+pub legal_sound : (shape : Shape) (h : History) → IsLegal shape h → Sound h
+legal_sound shape h l = legal_all shape Sound sound_none (sound_push shape) h l
+
+-- the pages of the flights, counted as a list
+flying_as : (p : ℕ) (fs : List (ℕ × ℕ)) → times p (pages fs) ≡ flying p fs
+unfolding times flying
+flying_as p [] = refl
+flying_as p (f ∷ fs) = times-cons p f.1 (pages fs) ∙ ap (λ n. cond (nat_eq f.1 p) 1 0 + n) (flying_as p fs) ∙ sym (flying-cons p f.0 f.1 fs)
+
+-- in a legal history no page stands twice
+pub once_of_legal : (shape : Shape) (h : History) → IsLegal shape h → (p : ℕ) → count_by (λ q. nat_eq q p) (standing h) ≤ 1
+unfolding times
+once_of_legal shape h l p =
+    omega (arith, (legal_sound shape h l).once p, flying_as p (flights h), sum_by-append (λ q. cond (nat_eq q p) 1 0) (queue h) (pages (flights h)))

@@ -1,0 +1,34 @@
+-- Laws of every legal history on the frames of pages.
+use Rattle.std.specs.Prelude.{◌≡◌, ℕ, ◌+◌, ◌*◌, ◌<◌, Bool, false, cond, ◌&&◌, nat_eq, nat_lt}
+use Rattle.thp_model.specs.declared.events.What.{What}
+use Rattle.thp_model.specs.declared.events.What.TheVariants.{UnmapWhole, UnmapSub, Unpin, Split}
+use Rattle.thp_model.specs.declared.shape.Shape.{Shape}
+use Rattle.thp_model.specs.History.{History, count_of}
+use Rattle.thp_model.specs.Counts.{is_live, allocations}
+use Rattle.thp_model.specs.Frames.{is_held, frames_held, frames_given}
+use Rattle.thp_model.specs.Legal.{IsLegal}
+use Rattle.thp_model.specs.Sets.{has, some_below}
+use Rattle.thp_model.specs.Shapes.{subpages, IsShape}
+
+-- the event gave back the frame of subpage i of page p
+abbrev pub gives_frame : ℕ → ℕ → What → Bool
+gives_frame p i (UnmapWhole q outcome released) = nat_eq p q && has released i
+gives_frame p i (UnmapSub q first count outcome released) = nat_eq p q && has released i
+gives_frame p i (Unpin q outcome released) = nat_eq p q && has released i
+gives_frame p i (Split q released) = nat_eq p q && has released i
+gives_frame p i _ = false
+
+-- each frame of each allocated page is held and was never given back, or isn't held and was given back once: its being
+-- held, as 0 or 1, and the events that gave it back make 1, and 0 for a page that wasn't allocated
+abbrev pub EachFrameOnce : Type 0
+EachFrameOnce =
+    (s : Shape) (h : History) → IsShape s → IsLegal s h → (p i : ℕ) → i < subpages s →
+    cond (is_held s h p i) 1 0 + count_of (gives_frame p i) h ≡ cond (nat_lt p (allocations h)) 1 0
+
+-- in sum, the frames of all pages allocated are those held and those given back
+abbrev pub FramesAreKept : Type 0
+FramesAreKept = (s : Shape) (h : History) → IsShape s → IsLegal s h → subpages s * allocations h ≡ frames_held s h + frames_given h
+
+-- a page holds a frame exactly while it lives: so a block of no live page is one none of whose frames is held
+abbrev pub LivePagesHoldFrames : Type 0
+LivePagesHoldFrames = (s : Shape) (h : History) (p : ℕ) → IsLegal s h → some_below (subpages s) (is_held s h p) ≡ is_live h p

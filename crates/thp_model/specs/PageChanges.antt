@@ -1,0 +1,21 @@
+-- What an unmap or an unpin of a page comes to, by the page's state before and after.
+use Rattle.std.specs.Prelude.{Bool, not, ◌&&◌, ◌||◌, nat_eq, if◌then◌else◌, List}
+use Rattle.thp_model.specs.declared.events.Outcome.{Outcome}
+use Rattle.thp_model.specs.declared.events.Outcome.TheVariants.{Freed, Queued, Stays}
+use Rattle.thp_model.specs.Sets.{set_of}
+use Rattle.thp_model.specs.Counts.{is_freed}
+use Rattle.thp_model.specs.Pages.{PageState, has_use, drops_use, holds}
+
+-- the outcome, on a node that is closed or not, for a page that stands in the queue or a flight or doesn't
+abbrev pub page_outcome : PageState → PageState → Bool → Bool → Outcome
+page_outcome old new closed standing =
+    if not (has_use new) && nat_eq new.pins 0
+    then Freed
+    else
+    if not old.split && (drops_use old new && (has_use new && (not closed && not standing)))
+    then Queued
+    else Stays
+
+-- the frames given back: all that were held where the page is freed, else those that aren't held any more
+abbrev pub page_released : PageState → PageState → Outcome → List Bool
+page_released old new o = set_of (λ i. holds old i && (is_freed o || not (holds new i)))

@@ -1,0 +1,104 @@
+-- Laws of every legal history on the queue, the flights and the life of a page.
+use Rattle.std.specs.Prelude.{◌≡◌, ℕ, ◌≤◌, Bool, true, false, not, nat_eq, List, [], ◌∷◌, ◌++◌, Some, slice_get, take, length, map, count_by}
+use Rattle.std.specs.List.{filter, list_all}
+use Rattle.thp_model.specs.declared.events.Event.{Event}
+use Rattle.thp_model.specs.declared.events.What.{What}
+use Rattle.thp_model.specs.declared.events.What.TheVariants.{Alloc, MapWhole, UnmapWhole, MapSub, UnmapSub, SplitPmd, Pin, Unpin, Taken, Split, Pinned, Back, Dropped}
+use Rattle.thp_model.specs.declared.shape.Shape.{Shape}
+use Rattle.thp_model.specs.History.{History, by, some_event}
+use Rattle.thp_model.specs.Counts.{allocates, is_live, is_split, is_closed, is_queued}
+use Rattle.thp_model.specs.Places.{queue, queue_after, flight, standing, stands}
+use Rattle.thp_model.specs.FlightSteps.{flight_after}
+use Rattle.thp_model.specs.Legal.{IsLegal}
+use Rattle.thp_model.specs.Runs.{still_flying}
+
+-- the queue and all flights joined repeat no page
+abbrev pub NoPageTwice : Type 0
+NoPageTwice = (s : Shape) (h : History) → IsLegal s h → (p : ℕ) → count_by (λ q. nat_eq q p) (standing h) ≤ 1
+
+-- each page there is live and not split
+abbrev pub StandingPagesAreWhole : Type 0
+StandingPagesAreWhole =
+    (s : Shape) (h : History) → IsLegal s h → (p : ℕ) → stands h p ≡ true → (is_live h p ≡ true) × (is_split h p ≡ false)
+
+-- takes of these pages by caller c, one after another
+abbrev pub takes_of : ℕ → List ℕ → History
+takes_of c ps = map (λ p. by c (Taken p)) ps
+
+-- a run of takes by one caller takes the first pages of the queue, in order
+abbrev pub OldestAreTaken : Type 0
+OldestAreTaken =
+    (s : Shape) (h : History) (c : ℕ) (ps : List ℕ) → IsLegal s (h ++ takes_of c ps) → ps ≡ take (length ps) (queue h)
+
+-- the event is about page p, and not its allocation
+abbrev pub acts_on : ℕ → What → Bool
+acts_on p (MapWhole q) = nat_eq p q
+acts_on p (UnmapWhole q outcome released) = nat_eq p q
+acts_on p (MapSub q first count) = nat_eq p q
+acts_on p (UnmapSub q first count outcome released) = nat_eq p q
+acts_on p (SplitPmd q) = nat_eq p q
+acts_on p (Pin q) = nat_eq p q
+acts_on p (Unpin q outcome released) = nat_eq p q
+acts_on p (Taken q) = nat_eq p q
+acts_on p (Split q released) = nat_eq p q
+acts_on p (Pinned q) = nat_eq p q
+acts_on p (Back q) = nat_eq p q
+acts_on p (Dropped q) = nat_eq p q
+acts_on p _ = false
+
+-- at each event about a page, the page was allocated before and not freed: so no freed page is ever taken, split, put
+-- back or dropped
+abbrev pub FreedPagesAreLeftAlone : Type 0
+FreedPagesAreLeftAlone =
+    (s : Shape) (h : History) → IsLegal s h → (k : ℕ) (e : Event) (p : ℕ) → slice_get h k ≡ Some e → acts_on p e.what ≡ true → is_live (take k h) p ≡ true
+
+-- and a page is allocated once
+abbrev pub PagesAreNewOnce : Type 0
+PagesAreNewOnce =
+    (s : Shape) (h : History) → IsLegal s h → (k : ℕ) (e : Event) (p : ℕ) → slice_get h k ≡ Some e → allocates p e.what ≡ true →
+    some_event (allocates p) (take k h) ≡ false
+
+-- the event puts a page into the queue, or makes a page
+abbrev pub enters : What → Bool
+enters (Alloc p block) = true
+enters (UnmapWhole p outcome released) = is_queued outcome
+enters (UnmapSub p first count outcome released) = is_queued outcome
+enters (Unpin p outcome released) = is_queued outcome
+enters (Back p) = true
+enters _ = false
+
+-- after a close no event does
+abbrev pub NothingEntersAfterClose : Type 0
+NothingEntersAfterClose =
+    (s : Shape) (h : History) → IsLegal s h → (k : ℕ) (e : Event) → slice_get h k ≡ Some e → is_closed (take k h) ≡ true → enters e.what ≡ false
+
+-- the events are all of callers other than c
+abbrev pub is_others : ℕ → History → Bool
+is_others c es = list_all (λ (e : Event). not (nat_eq e.caller c)) es
+
+-- others' events change a flight only by taking freed pages out, in the same order
+abbrev pub OthersOnlyFree : Type 0
+OthersOnlyFree =
+    (s : Shape) (h es : History) (c : ℕ) → IsLegal s h → is_others c es ≡ true → flight (h ++ es) c ≡ filter (is_live (h ++ es)) (flight h c)
+
+-- so what was a front of the flight stays one, once the freed pages are taken out of both
+abbrev pub FrontsStayInFront : Type 0
+FrontsStayInFront =
+    (s : Shape) (h es : History) (c : ℕ) (ps qs : List ℕ) → IsLegal s h → is_others c es ≡ true → flight h c ≡ ps ++ qs →
+    flight (h ++ es) c ≡ filter (is_live (h ++ es)) ps ++ filter (is_live (h ++ es)) qs
+
+-- and where what is left of a batch was the front of its flight, it still is
+abbrev pub BatchStaysInFront : Type 0
+BatchStaysInFront =
+    (s : Shape) (h es : History) (c : ℕ) (ps qs : List ℕ) → IsLegal s h → is_others c es ≡ true → flight h c ≡ still_flying h c ps ++ qs →
+    flight (h ++ es) c ≡ still_flying (h ++ es) c ps ++ filter (is_live (h ++ es)) qs
+
+-- a flight starts empty and goes on event by event, whatever the history
+pub record FlightsGoByEvents : Type 0 where
+  pub starts : (c : ℕ) → flight [] c ≡ []
+  pub goes_on : (h : History) (e : Event) (c : ℕ) → flight (h ++ e ∷ []) c ≡ flight_after c (flight h c) e.caller e.what
+
+-- and so does the queue
+pub record QueueGoesByEvents : Type 0 where
+  pub starts : queue [] ≡ []
+  pub goes_on : (h : History) (e : Event) → queue (h ++ e ∷ []) ≡ queue_after (queue h) e.what

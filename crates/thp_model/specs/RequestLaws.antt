@@ -1,0 +1,37 @@
+-- Laws of every legal history on requests and answers: the answers follow from the requests, but for the blocks.
+use Rattle.std.specs.Prelude.{◌≡◌, ℕ, [], ◌∷◌, ◌++◌, map}
+use Rattle.thp_model.specs.declared.events.Event.{Event}
+use Rattle.thp_model.specs.declared.events.Outcome.TheVariants.{Stays}
+use Rattle.thp_model.specs.declared.events.What.{What}
+use Rattle.thp_model.specs.declared.events.What.TheVariants.{Alloc, UnmapWhole, UnmapSub, Unpin, Taken, Split, Pinned, Back, Dropped}
+use Rattle.thp_model.specs.declared.shape.Shape.{Shape}
+use Rattle.thp_model.specs.History.{History, by}
+use Rattle.thp_model.specs.Legal.{IsLegal, FitsBy}
+use Rattle.thp_model.specs.BlockLaws.{SameButBlocks, with_block}
+
+-- what was asked for, without its answer: an allocation, a take and a return choose no page, and a try says no more
+-- than its page
+abbrev pub asked : What → What
+asked (Alloc p block) = Alloc 0 0
+asked (UnmapWhole p outcome released) = UnmapWhole p Stays []
+asked (UnmapSub p first count outcome released) = UnmapSub p first count Stays []
+asked (Unpin p outcome released) = Unpin p Stays []
+asked (Taken p) = Taken 0
+asked (Split p released) = Pinned p
+asked (Back p) = Back 0
+asked (Dropped p) = Back 0
+asked w = w
+
+-- the same request, at histories that are equal but for their blocks, has one answer but for its block
+abbrev pub AnswersAreOne : Type 0
+AnswersAreOne =
+    (s : Shape) (h k : History) (c : ℕ) (v w : What) → SameButBlocks h k → asked v ≡ asked w →
+    FitsBy s h (h ++ by c v ∷ []) c v → FitsBy s k (k ++ by c w ∷ []) c w → with_block 0 v ≡ with_block 0 w
+
+-- who asked for what, in order
+unfoldable pub requests : History → History
+requests h = map (λ (e : Event). by e.caller (asked e.what)) h
+
+-- legal histories of the same requests are equal but for their blocks
+abbrev pub RequestsDecide : Type 0
+RequestsDecide = (s : Shape) (h k : History) → IsLegal s h → IsLegal s k → requests h ≡ requests k → SameButBlocks h k

@@ -1,0 +1,57 @@
+-- Worked histories, event by event, with what they come to.
+use Rattle.std.specs.Prelude.{◌≡◌, ℕ, ◌++◌, Bool, false, List, [], ◌∷◌, length}
+use Rattle.thp_model.specs.declared.events.Outcome.TheVariants.{Queued, Stays}
+use Rattle.thp_model.specs.declared.events.What.TheVariants.{Alloc, UnmapSub, SplitPmd, Pin, Unpin, Taken, Split, Pinned, Back}
+use Rattle.thp_model.specs.declared.shape.Shape.{Shape}
+use Rattle.thp_model.specs.Sets.{set_of, covers}
+use Rattle.thp_model.specs.History.{History, by}
+use Rattle.thp_model.specs.Counts.{allocations}
+use Rattle.thp_model.specs.Places.{queue}
+use Rattle.thp_model.specs.Frames.{frames_held, frames_given}
+use Rattle.thp_model.specs.Counters.{thp_split_page, thp_split_page_failed, thp_deferred_split_page, thp_split_pmd}
+
+-- a node of 16 blocks whose pages have 512 subpages, and one whose pages have 4
+abbrev pub large_pages : Shape
+large_pages = record { blocks = 16; order = 9 }
+
+abbrev pub small_pages : Shape
+small_pages = record { blocks = 16; order = 2 }
+
+-- the `count` subpages from `first` on, and none
+abbrev pub subpages_of : ℕ → ℕ → List Bool
+subpages_of first count = set_of (covers first count)
+
+abbrev pub nothing : List Bool
+nothing = set_of (λ i. false)
+
+-- page p is allocated in block p, its PMD mapping is split, and its first subpages are unmapped, which queues it
+abbrev pub queue_page : ℕ → ℕ → History
+queue_page p count = by 0 (Alloc p p) ∷ by 0 (SplitPmd p) ∷ by 0 (UnmapSub p 0 count Queued nothing) ∷ []
+
+-- what a history comes to
+pub record HasTotals (s : Shape) (h : History) (pages queued held given split failed deferred pmds : ℕ) : Type 0 where
+  pub pages_are : allocations h ≡ pages
+  pub queue_is : length (queue h) ≡ queued
+  pub held_are : frames_held s h ≡ held
+  pub given_are : frames_given h ≡ given
+  pub split_are : thp_split_page h ≡ split
+  pub failed_are : thp_split_page_failed h ≡ failed
+  pub deferred_are : thp_deferred_split_page h ≡ deferred
+  pub pmds_are : thp_split_pmd h ≡ pmds
+
+-- half of a page is unmapped, and a scan splits the page
+abbrev pub first_run : History
+first_run = queue_page 0 256 ++ by 0 (Taken 0) ∷ by 0 (Split 0 (subpages_of 0 256)) ∷ []
+
+-- of three queued pages the second is pinned: a scan puts it back at the tail; unpinned, it is split by the next
+abbrev pub pinned_goes_to_the_tail : History
+pinned_goes_to_the_tail =
+    queue_page 0 1 ++ queue_page 1 1 ++ queue_page 2 1 ++ by 0 (Pin 1)
+    ∷ by 0 (Taken 0) ∷ by 0 (Taken 1) ∷ by 0 (Taken 2)
+    ∷ by 0 (Split 0 (subpages_of 0 1)) ∷ by 0 (Pinned 1) ∷ by 0 (Split 2 (subpages_of 0 1)) ∷ by 0 (Back 1)
+    ∷ by 0 (Unpin 1 Stays nothing)
+    ∷ by 0 (Taken 1) ∷ by 0 (Split 1 (subpages_of 0 1)) ∷ []
+
+-- three of the four subpages of a small page are unmapped, and a scan splits the page
+abbrev pub small_page_split : History
+small_page_split = queue_page 0 3 ++ by 0 (Taken 0) ∷ by 0 (Split 0 (subpages_of 0 3)) ∷ []

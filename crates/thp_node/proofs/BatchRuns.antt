@@ -1,0 +1,216 @@
+-- Takes and tries of a batch, over plain lists and histories.
+use Rattle.std.proofs.Common.{◌≡◌, ◌≢◌, ℕ, min, suc, ◌+◌, ◌<◌, ◌≤◌, Bool, true, false, cond, not, List, [], ◌∷◌, ◌++◌, Option, Some, None, length, take, drop, refl, ap, ap₂, sym, ◌∙◌, subst, arith, nat_eq, eq-eqb, ne_eqb}
+use Rattle.std.proofs.lemmas.List.{length-map, length-take, length-drop}
+use Rattle.std.specs.Prelude.{slice_get}
+use Rattle.std.specs.List.{position_or_len}
+use Rattle.thp_model.specs.declared.events.Event.{Event}
+use Rattle.thp_model.specs.declared.events.What.TheVariants as what
+use Rattle.thp_model.specs.declared.refusal.Refusal.TheVariants as reason
+use Rattle.thp_model.specs.declared.shape.Shape.{Shape}
+use Rattle.thp_model.specs.History.{History, by}
+use Rattle.thp_model.specs.Legal.{IsLegal, Fits}
+use Rattle.thp_model.specs.Counts.{is_live, pins, whole}
+use Rattle.thp_model.specs.Pages.{PageState, PageSplit, gives_frames}
+use Rattle.thp_model.specs.Places.{queue, flight, no_pages, is_taking, has_page}
+use Rattle.thp_model.specs.Refusals.{refusal}
+use Rattle.thp_model.specs.Refusals as call
+use Rattle.thp_model.specs.Runs.{take_events, next_page, rest_after, tries_of, try_event}
+use Rattle.thp_model.proofs.Bools.{by_bool, or_first, or_second}
+use Rattle.thp_model.proofs.OnePlace.{flies_live}
+use Rattle.thp_model.proofs.Tallying.{pins_is, whole_is}
+use Rattle.thp_model.proofs.Pushes.{queue_push, is_taking_push}
+use Rattle.thp_model.proofs.TakeRuns.{more_taken, take_events_more}
+use Rattle.thp_node.specs.declared.answers.Tried.{Tried}
+use Rattle.thp_node.specs.declared.answers.Tried.TheVariants as answer
+use Rattle.thp_node.specs.Batches.{tried}
+use Rattle.thp_node.specs.BlocksState.{BlocksState, AtSlot, Edits}
+use Rattle.thp_node.specs.Calls.{Did}
+use Rattle.thp_node.specs.Flying.{IsFlyingAt, IsUnpinnedAt}
+use Rattle.thp_node.specs.Holding.{IsNode, IsSlot}
+use Rattle.thp_node.specs.Homes.{block_of}
+use Rattle.thp_node.specs.NodeState.{NodeState}
+use Rattle.thp_node.specs.Takings.{Took}
+use Rattle.thp_page.specs.declared.standing.Standing.{Standing}
+use Rattle.thp_page.specs.declared.standing.Standing.TheVariants.{Nowhere, Queued, Batch}
+use Rattle.thp_page.specs.Slots.{slot_at, IsHeld}
+use Rattle.thp_page.specs.Table.{Slot, Table}
+use Rattle.thp_node.proofs.CallLemmas.{did_none, did_then}
+use Rattle.thp_node.proofs.Admitting.{Found, not_live}
+use Rattle.thp_node.proofs.Homing.{Homed, legal_homed}
+use Rattle.thp_node.proofs.ListEvents.{flying_whole, split_fits, split_node, pinned_fits, pinned_node}
+use Rattle.thp_node.proofs.PageEvents.{slot_is}
+use Rattle.thp_node.proofs.Standings.{standing_flying, batch_has}
+
+-- the node once its journal has recorded an event
+pub node_recorded : (s t : Shape) (k h : History) (e : Event) (b : BlocksState) → s ≡ t → k ≡ h ++ e ∷ [] → IsNode t (h ++ e ∷ []) b.table b.queue → IsNode s k b.table b.queue
+node_recorded s t k h e b same is m =
+    subst (λ x. IsNode s x b.table b.queue) (sym is) (subst (λ x. IsNode x (h ++ e ∷ []) b.table b.queue) (sym same) m)
+
+-- as many pages stand in the queue as blocks
+pub queue_length : (s : Shape) (h : History) (t : Table) (q : List ℕ) → IsNode s h t q → length (queue h) ≡ length q
+queue_length s h t q m =
+    sym (length-map (queue h) (block_of h)) ∙ ap length m.queue_is ∙ length-map q (λ n. let o : Option ℕ = Some n in o)
+
+-- nothing was taken yet
+pub took_none : (old now : NodeState) (c : ℕ) → now ≡ old → IsLegal old.shape old.journal → no_pages (flight old.journal c) ≡ true → Took old now c 0
+took_none old now c same legal free = record {
+  did = did_none old now c (ap (λ (n : NodeState). n.shape) same) (ap (λ (n : NodeState). n.journal) same) (subst (λ (n : NodeState). IsLegal n.shape n.journal) (sym same) legal)
+      (omega (arith, ap (λ (n : NodeState). n.room) same)) (ap (λ (n : NodeState). n.table.accesses) same);
+  left = ap (λ (n : NodeState). queue n.journal) same;
+  may = or_first _ _ (ap (λ (n : NodeState). no_pages (flight n.journal c)) same ∙ free);
+}
+
+-- one page more
+pub took_more : (old mid new : NodeState) (c i p : ℕ) → Took old mid c i → slice_get (queue mid.journal) 0 ≡ Some p → Did mid new c (by c (what.Taken p) ∷ []) → Took old new c (i + 1)
+took_more old mid new c i p t first d =
+    let qs : List ℕ = queue old.journal in
+    let here : slice_get (drop i qs) 0 ≡ Some p = ap (λ xs. slice_get xs 0) (sym t.left) ∙ first in
+    let e : Event = by c (what.Taken p) in
+    let P : List Event → Type 0 = λ es. Did old new c es in
+    record {
+      did = subst P (sym (take_events_more old.journal c i p here)) (did_then old mid new c (take_events old.journal c i) (e ∷ []) t.did d);
+      left = ap queue d.journal ∙ queue_push mid.journal e ∙ ap (drop 1) t.left ∙ sym (more_taken i qs p here).1;
+      may = or_second _ _ (ap (λ h. is_taking h c) d.journal ∙ is_taking_push mid.journal c e ∙ eq-eqb c c refl);
+    }
+
+-- a page is left as long as fewer were taken than there are
+pub some_left : (i n : ℕ) (qs : List ℕ) → i < n → n ≤ length qs → 0 < length (drop i qs)
+some_left i n qs l m = omega (arith, length-drop i qs)
+
+-- a take is refused where the caller has pages in flight, and only there
+pub refused_take : (s : Shape) (h : History) (c : ℕ) → 0 < length (flight h c) → refusal s h (call.take c) ≡ Some reason.HasBatch
+unfolding refusal
+refused_take s h c l = go (flight h c) l where
+  go : (ps : List ℕ) → 0 < length ps → cond (not (no_pages ps)) (Some reason.HasBatch) None ≡ Some reason.HasBatch
+  go [] l = absurd (omega arith)
+  go (p ∷ ps) l = refl
+
+pub unrefused_take : (s : Shape) (h : History) (c : ℕ) → length (flight h c) ≡ 0 → refusal s h (call.take c) ≡ None
+unfolding refusal
+unrefused_take s h c e = go (flight h c) e where
+  go : (ps : List ℕ) → length ps ≡ 0 → cond (not (no_pages ps)) (Some reason.HasBatch) None ≡ None
+  go [] e = refl
+  go (p ∷ ps) e = absurd (omega arith)
+
+no_both : (x : Bool) → x ≡ false → x ≡ true → ⊥
+no_both x e f = cc
+
+-- whether a page is in a caller's flight is told by where the page of its block stands
+pub flies_there : (s : Shape) (h : History) (t : Table) (q : List ℕ) (c p b : ℕ) → IsNode s h t q → (w : Found s h t p b) → w.slot.standing ≡ Batch c → has_page p (flight h c) ≡ true
+flies_there s h t q c p b m w e =
+    ap (λ r. has_page r (flight h c)) (sym w.id_is) ∙ (batch_has h w.slot.id c (sym w.is.stands ∙ e)).0
+
+pub flies_not_there : (s : Shape) (h : History) (t : Table) (q : List ℕ) (c p b : ℕ) → IsNode s h t q → (w : Found s h t p b) → (w.slot.standing ≡ Batch c → ⊥) → has_page p (flight h c) ≡ false
+flies_not_there s h t q c p b m w f =
+    by_bool (has_page p (flight h c)) _
+    (λ y. absurd (f (w.is.stands ∙ standing_flying h w.slot.id c (legal_homed s h m.legal).grown.sound (ap (λ r. has_page r (flight h c)) w.id_is ∙ y))))
+    (λ y. y)
+
+-- a page that lies nowhere is in no flight
+pub flies_nowhere : (s : Shape) (h : History) (t : Table) (q : List ℕ) (c p : ℕ) → IsNode s h t q → ((b : ℕ) → IsHeld (slot_at t b) p → ⊥) → has_page p (flight h c) ≡ false
+flies_nowhere s h t q c p m none =
+    by_bool (has_page p (flight h c)) _ (λ y. absurd (no_both (is_live h p) (not_live s h t q p m none) (flies_live s h c p m.legal y).0)) (λ y. y)
+
+-- what a try answers
+pub tried_split : (h : History) (p : ℕ) → pins h p ≡ 0 → answer.Split p ≡ tried h (Some p)
+tried_split h p e = sym (ap (λ n. cond (nat_eq n 0) (answer.Split p) (answer.Pinned p)) e)
+
+pub tried_pinned : (h : History) (p : ℕ) → 0 < pins h p → answer.Pinned p ≡ tried h (Some p)
+tried_pinned h p l = sym (ap (λ b. cond b (answer.Split p) (answer.Pinned p)) (ne_eqb (pins h p) 0 (λ e. omega (arith, e, l))))
+
+-- a page was split off its batch
+pub record SplitOff (s : Shape) (h : History) (c p : ℕ) (set : List Bool) (old new : BlocksState) : Type 0 where
+  pub is : by c (what.Split p set) ≡ try_event s h c p
+  pub fits : Fits s h (by c (what.Split p set))
+  pub node : IsNode s (h ++ by c (what.Split p set) ∷ []) new.table new.queue
+  pub work : new.table.accesses ≤ old.table.accesses + 0
+
+-- a page was found pinned
+pub record FoundPinned (s : Shape) (h : History) (c p : ℕ) (t : Table) (q : List ℕ) : Type 0 where
+  pub is : by c (what.Pinned p) ≡ try_event s h c p
+  pub fits : Fits s h (by c (what.Pinned p))
+  pub node : IsNode s (h ++ by c (what.Pinned p) ∷ []) t q
+
+same_slot : (x y : Slot) → Some x ≡ Some y → x ≡ y
+same_slot x y e = cc
+
+not_queued : (z : Standing) (c : ℕ) → z ≡ Batch c → z ≢ Queued
+not_queued z c e f = cc
+
+-- the page of a block that is in a caller's flight
+module _ (s : Shape) (h : History) (c p b : ℕ) (old : BlocksState) (m : IsNode s h old.table old.queue) (w : IsFlyingAt old.table c p b) where
+  homed : Homed s h
+  homed = legal_homed s h m.legal
+
+  is_slot : IsSlot s h b w.slot
+  is_slot = slot_is s h old.table old.queue b w.slot m w.at
+
+  pub pins_there : pins h p ≡ w.slot.page.pins
+  pins_there = ap (pins h) (sym w.id_is) ∙ pins_is s h w.slot.id w.slot.page is_slot.tallies
+
+  pub whole_there : whole h p ≡ w.slot.page.whole
+  whole_there = ap (whole h) (sym w.id_is) ∙ whole_is s h w.slot.id w.slot.page is_slot.tallies
+
+  pub ready_there : w.slot.page.pins ≡ 0 → (x : Slot) → slot_at old.table b ≡ Some x → (x.page.split ≡ false) × (x.page.pins ≡ 0) × (x.standing ≢ Queued)
+  ready_there none x at =
+      let P : Slot → Type 0 = λ y. (y.page.split ≡ false) × (y.page.pins ≡ 0) × (y.standing ≢ Queued) in
+      subst P (same_slot w.slot x (sym w.at ∙ at)) (flying_whole s h c b w.slot old old homed m w.at w.stands, none, not_queued w.slot.standing c w.stands)
+
+  pub split_off : (new : BlocksState) (set : List Bool) →
+      AtSlot old.table b (λ x. (q : PageState) × PageSplit x.page q × (set ≡ gives_frames x.page q) × Edits old new b (Some (record x { page = q; standing = Nowhere })) old.queue 0) →
+      w.slot.page.pins ≡ 0 → SplitOff s h c p set old new
+  split_off new set did none =
+      let d = did w.slot w.at in
+      let f = split_fits s h c b w.slot old new homed m w.at w.stands d.0 set d.1 none d.2 in
+      let P : ℕ → Type 0 = λ r. SplitOff s h c r set old new in
+      subst P w.id_is (record { is = f.0; fits = f.1; node = split_node s h c b w.slot old new homed m w.at w.stands d.0 set d.1 f.1 d.3; work = d.3.work })
+
+  pub found_pinned : 0 < w.slot.page.pins → FoundPinned s h c p old.table old.queue
+  found_pinned some =
+      let f = pinned_fits s h c b w.slot old old homed m w.at w.stands w.slot.page.pins refl some in
+      let P : ℕ → Type 0 = λ r. FoundPinned s h c r old.table old.queue in
+      subst P w.id_is (record { is = f.0; fits = f.1; node = pinned_node s h c w.slot.id old.table old.queue m f.1 })
+
+-- a take's events are as many as its pages
+pub take_length : (h : History) (c n : ℕ) → length (take_events h c n) ≡ min n (length (queue h))
+take_length h c n = length-map (take n (queue h)) (λ p. by c (what.Taken p)) ∙ length-take n (queue h)
+
+-- where a page in flight lies, told of a node's parts
+pub flies_inside : (inside now : NodeState) (c p b : ℕ) → inside ≡ now → IsFlyingAt now.table c p b → IsFlyingAt inside.table c p b
+flies_inside inside now c p b is w = record { slot = w.slot; at = ap (λ (n : NodeState). slot_at n.table b) is ∙ w.at; id_is = w.id_is; stands = w.stands }
+
+pub unpinned_inside : (inside now : NodeState) (b : ℕ) → inside ≡ now → IsUnpinnedAt now.table b → (x : Slot) → slot_at inside.table b ≡ Some x → x.page.pins ≡ 0
+unpinned_inside inside now b is w x at = w.pins_of x (ap (λ (n : NodeState). slot_at n.table b) (sym is) ∙ at)
+
+-- where no page of a batch flies, none is left to be tried
+pub none_left : (h : History) (c : ℕ) (ps : List ℕ) → next_page h c ps ≡ None → rest_after h c ps ≡ []
+none_left h c [] e = refl
+none_left h c (p ∷ ps) e = go (has_page p (flight h c)) e (none_left h c ps) where
+  n : ℕ
+  n = position_or_len (λ q. has_page q (flight h c)) ps
+
+  go : (b : Bool) → cond b (Some p) (next_page h c ps) ≡ None → (next_page h c ps ≡ None → rest_after h c ps ≡ []) → drop (cond (not b) (1 + n) 0 + 1) (p ∷ ps) ≡ []
+  go true e f = absurd (cc)
+  go false e f = ap (λ k. drop k (p ∷ ps)) (let m : 1 + n + 1 ≡ suc (n + 1) = omega arith in m) ∙ f e
+
+-- what a try answers and does once there is room for it
+pub tried_after : (k h : History) (o : Option ℕ) (p q : ℕ) (r : Tried) → r ≡ tried k (Some p) → q ≡ p → k ≡ h → o ≡ Some q → r ≡ tried h o
+tried_after k h o p q r e is same next = e ∙ ap₂ (λ x n. tried x (Some n)) same (sym is) ∙ ap (tried h) (sym next)
+
+pub did_after : (old mid new : NodeState) (c d p q : ℕ) (o : Option ℕ) → Did mid new c (try_event mid.shape mid.journal c p ∷ []) → q ≡ p → c ≡ d → o ≡ Some q → mid.shape ≡ old.shape →
+    mid.journal ≡ old.journal → old.room ≤ mid.room → mid.table ≡ old.table → Did old new d (tries_of old.shape old.journal d o)
+did_after old mid new c d p q o m is at next s j r t =
+    let es : List Event = try_event mid.shape mid.journal c p ∷ [] in
+    let e : es ≡ tries_of old.shape old.journal c o = ap₂ (λ x k. try_event x k c p ∷ []) s j ∙ ap (λ n. try_event old.shape old.journal c n ∷ []) (sym is) ∙ ap (tries_of old.shape old.journal c) (sym next) in
+    let P : List Event → Type 0 = λ fs. Did old new c fs in
+    let Q : ℕ → Type 0 = λ k. Did old new k (tries_of old.shape old.journal k o) in
+    subst Q at
+    (subst P e
+    (record {
+      shape = m.shape ∙ s;
+      journal = m.journal ∙ ap (λ h. h ++ es) j;
+      own = m.own;
+      legal = m.legal;
+      room = omega (arith, r, m.room);
+      work = omega (arith, m.work, ap (λ (x : Table). x.accesses) t);
+    }))

@@ -1,0 +1,70 @@
+-- What a call did, put together from what its parts did.
+use Rattle.std.proofs.Common.{◌≡◌, ℕ, zero, suc, ◌+◌, ◌<◌, ◌≤◌, List, [], ◌∷◌, ◌++◌, length, map, refl, ap, sym, ◌∙◌, arith, get_or, length-append, append_assoc}
+use Rattle.std.specs.List.{All}
+use Rattle.thp_model.specs.declared.events.Event.{Event}
+use Rattle.thp_model.specs.declared.events.What.{What}
+use Rattle.thp_model.specs.History.{by}
+use Rattle.thp_model.specs.Legal.{IsLegal}
+use Rattle.thp_model.proofs.ListPlaces.{append_none}
+use Rattle.thp_node.specs.Calls.{Did}
+use Rattle.thp_node.specs.NodeState.{NodeState}
+
+-- each event of a list is by caller c
+pub own_none : (c : ℕ) → All (λ (e : Event). e.caller ≡ c) []
+own_none c = λ k d l. absurd (let below : k < 0 = l in omega arith)
+
+pub own_more : (c : ℕ) (w : What) (es : List Event) → All (λ (e : Event). e.caller ≡ c) es → All (λ (e : Event). e.caller ≡ c) (by c w ∷ es)
+own_more c w es a = go where
+  go : (k : ℕ) (d : Event) → k < length (by c w ∷ es) → (get_or (by c w ∷ es) k d).caller ≡ c
+  go zero d l = refl
+  go (suc k) d l = a k d (omega arith)
+
+pub own-append : (c : ℕ) (es fs : List Event) → All (λ (e : Event). e.caller ≡ c) es → All (λ (e : Event). e.caller ≡ c) fs → All (λ (e : Event). e.caller ≡ c) (es ++ fs)
+own-append c [] fs a b = b
+own-append c (e ∷ es) fs a b =
+    let rest : All (λ (e : Event). e.caller ≡ c) (es ++ fs) = own-append c es fs (λ k d l. a (suc k) d (omega arith)) b in go (a 0 e (omega arith)) rest where
+      go : e.caller ≡ c → All (λ (e : Event). e.caller ≡ c) (es ++ fs) → (k : ℕ) (d : Event) → k < length (e ∷ (es ++ fs)) → (get_or (e ∷ (es ++ fs)) k d).caller ≡ c
+      go first rest zero d l = first
+      go first rest (suc k) d l = rest k d (omega arith)
+
+pub own-map : (c : ℕ) (f : ℕ → Event) (ps : List ℕ) → ((p : ℕ) → (f p).caller ≡ c) → All (λ (e : Event). e.caller ≡ c) (map f ps)
+own-map c f [] g = own_none c
+own-map c f (p ∷ ps) g = go (own-map c f ps g) where
+  go : All (λ (e : Event). e.caller ≡ c) (map f ps) → (k : ℕ) (d : Event) → k < length (f p ∷ map f ps) → (get_or (f p ∷ map f ps) k d).caller ≡ c
+  go rest zero d l = g p
+  go rest (suc k) d l = rest k d (omega arith)
+
+-- nothing was done
+pub did_none : (old new : NodeState) (c : ℕ) → new.shape ≡ old.shape → new.journal ≡ old.journal → IsLegal new.shape new.journal → old.room ≤ new.room →
+    new.table.accesses ≡ old.table.accesses → Did old new c []
+did_none old new c s j l r w = record {
+  shape = s;
+  journal = j ∙ sym (append_none old.journal);
+  own = own_none c;
+  legal = l;
+  room = omega arith;
+  work = omega arith;
+}
+
+-- one event was recorded, once there was room for it
+pub did_one : (old new : NodeState) (c : ℕ) (w : What) (room most : ℕ) → new.shape ≡ old.shape → new.journal ≡ old.journal ++ by c w ∷ [] → IsLegal new.shape new.journal →
+    old.room ≤ room → new.room + 1 ≡ room → new.table.accesses ≤ old.table.accesses + most → most ≤ 8 → Did old new c (by c w ∷ [])
+did_one old new c w room most s j l r g k m = record {
+  shape = s;
+  journal = j;
+  own = own_more c w [] (own_none c);
+  legal = l;
+  room = omega arith;
+  work = omega arith;
+}
+
+-- one run of events after another
+pub did_then : (a b d : NodeState) (c : ℕ) (es fs : List Event) → Did a b c es → Did b d c fs → Did a d c (es ++ fs)
+did_then a b d c es fs m n = record {
+  shape = n.shape ∙ m.shape;
+  journal = n.journal ∙ ap (λ gs. gs ++ fs) m.journal ∙ append_assoc a.journal es fs;
+  own = own-append c es fs m.own n.own;
+  legal = n.legal;
+  room = omega (arith, m.room, n.room, length-append es fs);
+  work = omega (arith, m.work, n.work, length-append es fs);
+}

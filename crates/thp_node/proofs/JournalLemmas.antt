@@ -1,0 +1,163 @@
+-- How large the numbers that a history gives can be, and how a caller's flight grows and shrinks.
+use Rattle.std.proofs.Common.{◌≡◌, ℕ, ◌+◌, ◌*◌, ◌<◌, ◌≤◌, Bool, true, false, cond, not, ◌&&◌, List, [], ◌∷◌, ◌++◌, length, Some, None, refl, ap, ap₂, sym, ◌∙◌, arith, nat_eq, eqb-true, eq-eqb}
+use Rattle.std.proofs.Math.Nat.{mul-le-mul}
+use Rattle.std.specs.List.{filter, fold}
+use Rattle.std.proofs.lemmas.List.{length_push, length-map}
+use Rattle.std.proofs.lemmas.List.Sums.{length-filter, count_by-le-length}
+use Rattle.thp_model.specs.declared.events.Event.{Event}
+use Rattle.thp_model.specs.declared.events.Outcome.{Outcome}
+use Rattle.thp_model.specs.declared.events.Outcome.TheVariants.{Freed, Queued, Stays}
+use Rattle.thp_model.specs.declared.events.What.{What}
+use Rattle.thp_model.specs.declared.events.What.TheVariants.{UnmapWhole, UnmapSub, Unpin, Taken, Split, Back, Dropped}
+use Rattle.thp_model.specs.declared.shape.Shape.{Shape}
+use Rattle.thp_model.specs.Shapes.{IsShape, subpages}
+use Rattle.thp_model.specs.History.{History, by, count_of}
+use Rattle.thp_model.specs.Counts.{is_alloc, allocations}
+use Rattle.thp_model.specs.Frames.{frames_given, frames_held}
+use Rattle.thp_model.specs.FlightSteps.{flight_after, flight_by}
+use Rattle.thp_model.specs.Legal.{IsLegal, FitsBy}
+use Rattle.thp_model.specs.Places.{flights, flight, flights_after, flights_by, leaves, without, has_page}
+use Rattle.thp_model.proofs.Bools.{one_if, none_if}
+use Rattle.thp_model.proofs.Flights.{flight_push}
+use Rattle.thp_model.proofs.Kept.{frames_kept}
+use Rattle.thp_model.proofs.OnePlace.{times_flight, has_times, once_flies}
+use Rattle.thp_model.proofs.Sizes.{few_subpages}
+use Rattle.thp_model.proofs.Standing.{times, flying, pages, times-cons, flying-cons, first_has, legal_sound}
+use Rattle.thp_node.specs.Homes.{flier}
+use Rattle.thp_node.specs.Journals.{leaves_of, left_by, joins_of, one_for}
+
+-- no more events pass a test than there are
+pub few_events : (test : What → Bool) (h : History) → count_of test h ≤ length h
+unfolding count_of
+few_events test h = count_by-le-length (λ (e : Event). test e.what) h
+
+-- each page had 512 frames at most to give back
+pub few_frames_given : (shape : Shape) (h : History) → shape.order ≤ 9 → IsLegal shape h → frames_given h ≤ 512 * length h
+few_frames_given shape h small l =
+    omega (arith, frames_kept shape h small l, mul-le-mul (few_subpages shape small) (few_events is_alloc h))
+
+-- the frames of all pages ever allocated are those held and those given back
+pub all_frames : (shape : Shape) (h : History) (n m g : ℕ) → IsShape shape → IsLegal shape h →
+    n ≡ subpages shape → m ≡ allocations h → g ≡ frames_given h → n * m ≡ frames_held shape h + g
+all_frames shape h n m g s l e f i =
+    ap₂ (λ x y. x * y) e f ∙ frames_kept shape h s.most_order l ∙ ap (λ x. frames_held shape h + x) (sym i)
+
+length-fold : {A X : Type 0} (f : List A → X → List A) → ((ys : List A) (x : X) → length (f ys x) ≤ length ys + 1) →
+    (ys : List A) (xs : List X) → length (fold f ys xs) ≤ length ys + length xs
+length-fold f step ys [] = omega arith
+length-fold f step ys (x ∷ xs) = omega (arith, length-fold f step (f ys x) xs, step ys x)
+
+length-kept : {A : Type 0} (p : A → Bool) (xs : List A) → length (filter p xs) ≤ length xs
+length-kept p xs = omega (arith, length-filter p xs, count_by-le-length p xs)
+
+outcome_step : (fs : List (ℕ × ℕ)) (p : ℕ) (o : Outcome) → length (flights_by fs p o) ≤ length fs + 1
+outcome_step fs p Freed = omega (arith, length-kept (λ (f : ℕ × ℕ). not (nat_eq f.1 p)) fs)
+outcome_step fs p Queued = omega arith
+outcome_step fs p Stays = omega arith
+
+leaves_step : (fs : List (ℕ × ℕ)) (c p : ℕ) → length (leaves c p fs) ≤ length fs + 1
+leaves_step fs c p = omega (arith, length-kept (λ (f : ℕ × ℕ). not (nat_eq f.0 c && nat_eq f.1 p)) fs)
+
+flights_step : (fs : List (ℕ × ℕ)) (c : ℕ) (w : What) → length (flights_after fs c w) ≤ length fs + 1
+flights_step fs c (UnmapWhole p o r) = outcome_step fs p o
+flights_step fs c (UnmapSub p a n o r) = outcome_step fs p o
+flights_step fs c (Unpin p o r) = outcome_step fs p o
+flights_step fs c (Taken p) = omega (arith, length_push fs (c, p))
+flights_step fs c (Split p r) = leaves_step fs c p
+flights_step fs c (Back p) = leaves_step fs c p
+flights_step fs c (Dropped p) = leaves_step fs c p
+flights_step fs c w = omega arith
+
+few_flights : (h : History) → length (flights h) ≤ length h
+unfolding flights
+few_flights h = omega (arith, length-fold (λ fs (e : Event). flights_after fs e.caller e.what) (λ fs e. flights_step fs e.caller e.what) [] h)
+
+-- no more pages are in flight than there are events
+pub few_in_flight : (h : History) (c : ℕ) → length (flight h c) ≤ length h
+few_in_flight h c =
+    let cs : List (ℕ × ℕ) = filter (λ (f : ℕ × ℕ). nat_eq f.0 c) (flights h) in
+    omega (arith, few_flights h, length-kept (λ (f : ℕ × ℕ). nat_eq f.0 c) (flights h), length-map cs (λ (f : ℕ × ℕ). f.1))
+
+-- the pages that c has among those in flight
+abbrev of : ℕ → List (ℕ × ℕ) → List ℕ
+of c fs = pages (filter (λ (f : ℕ × ℕ). nat_eq f.0 c) fs)
+
+-- the pages other than p, and the times that p is among them
+length-without : (p : ℕ) (ps : List ℕ) → length (without p ps) + times p ps ≡ length ps
+unfolding times
+length-without p [] = refl
+length-without p (q ∷ qs) = rw (times-cons p q qs) (go (nat_eq q p) (length-without p qs)) where
+  go : (b : Bool) → length (without p qs) + times p qs ≡ length qs →
+      length (cond (not b) (q ∷ without p qs) (without p qs)) + (cond b 1 0 + times p qs) ≡ length (q ∷ qs)
+  go true e = omega (arith, e)
+  go false e = omega (arith, e)
+
+-- a page that is in flight once is in the flight of its flier
+times-flier : (p d : ℕ) (fs : List (ℕ × ℕ)) → flying p fs ≤ 1 → times p (of d fs) ≡ one_for (flier p fs) d
+unfolding times
+times-flier p d [] few = refl
+times-flier p d (f ∷ fs) few =
+    go (times-flier p d fs) (nat_eq f.0 d) (nat_eq f.1 p) refl refl (omega (arith, few, flying-cons p f.0 f.1 fs)) where
+      go : (flying p fs ≤ 1 → times p (of d fs) ≡ one_for (flier p fs) d) → (a b : Bool) → nat_eq f.0 d ≡ a → nat_eq f.1 p ≡ b → cond b 1 0 + flying p fs ≤ 1 →
+          times p (pages (cond a (f ∷ filter (λ (f : ℕ × ℕ). nat_eq f.0 d) fs) (filter (λ (f : ℕ × ℕ). nat_eq f.0 d) fs)))
+          ≡ one_for (cond b (Some f.0) (flier p fs)) d
+      go more true true g e few = times-cons p f.1 (of d fs) ∙ omega (arith, times_flight p d fs, one_if (nat_eq f.1 p) e, one_if (nat_eq f.0 d) g)
+      go more true false g e few =
+          times-cons p f.1 (of d fs) ∙ ap (λ b. cond b 1 0 + times p (of d fs)) e ∙ omega (arith, more (omega (arith, few)))
+      go more false true g e few = omega (arith, times_flight p d fs, none_if (nat_eq f.0 d) g)
+      go more false false g e few = more (omega (arith, few))
+
+-- a page in the flight of c is there once
+one_flying : (shape : Shape) (h : History) (c p : ℕ) → IsLegal shape h → has_page p (flight h c) ≡ true → times p (flight h c) ≡ 1
+one_flying shape h c p l f = omega (arith, has_times p (flight h c) f, once_flies shape h c p l)
+
+-- a page that leaves the flight of c
+leaving : (h : History) (c d p : ℕ) → times p (flight h c) ≡ 1 →
+    length (cond (nat_eq c d) (without p (flight h d)) (flight h d)) + one_for (Some c) d ≡ length (flight h d) + 0
+leaving h c d p one = go (nat_eq c d) refl where
+  go : (b : Bool) → nat_eq c d ≡ b →
+      length (cond b (without p (flight h d)) (flight h d)) + cond b 1 0 ≡ length (flight h d) + 0
+  go true e =
+      let here : times p (flight h d) ≡ 1 = ap (λ x. times p (flight h x)) (sym (eqb-true c d e)) ∙ one in
+      omega (arith, here, length-without p (flight h d))
+  go false e = refl
+
+-- a page that an outcome may free
+by_outcome : (shape : Shape) (h : History) (c d p : ℕ) (o : Outcome) → IsLegal shape h →
+    length (flight_by (flight h d) p o) + one_for (left_by h p o) d ≡ length (flight h d) + 0
+by_outcome shape h c d p Freed l =
+    omega (arith, length-without p (flight h d), times-flier p d (flights h) (omega (arith, (legal_sound shape h l).once p)))
+by_outcome shape h c d p Queued l = refl
+by_outcome shape h c d p Stays l = refl
+
+moves : (shape : Shape) (h k : History) (c d : ℕ) (w : What) → IsLegal shape h → FitsBy shape h k c w →
+    length (flight_after d (flight h d) c w) + one_for (leaves_of h c w) d ≡ length (flight h d) + one_for (joins_of c w) d
+moves shape h k c d (UnmapWhole p o r) l f = by_outcome shape h c d p o l
+moves shape h k c d (UnmapSub p a n o r) l f = by_outcome shape h c d p o l
+moves shape h k c d (Unpin p o r) l f = by_outcome shape h c d p o l
+moves shape h k c d (Taken p) l f = go (nat_eq c d) where
+  go : (b : Bool) → length (cond b (flight h d ++ p ∷ []) (flight h d)) + 0 ≡ length (flight h d) + cond b 1 0
+  go true = omega (arith, length_push (flight h d) p)
+  go false = refl
+moves shape h k c d (Split p r) l f = leaving h c d p (one_flying shape h c p l f.in_flight)
+moves shape h k c d (Back p) l f = leaving h c d p (one_flying shape h c p l (first_has p (flight h c) f.0))
+moves shape h k c d (Dropped p) l f = leaving h c d p (one_flying shape h c p l (first_has p (flight h c) f.0))
+moves shape h k c d w l f = refl
+
+-- an event that fits takes a page out of the flight that it names, and puts one into that of a caller that takes
+pub flight_moves : (shape : Shape) (h : History) (c d : ℕ) (w : What) → IsLegal shape h → FitsBy shape h (h ++ by c w ∷ []) c w →
+    length (flight (h ++ by c w ∷ []) d) + one_for (leaves_of h c w) d ≡ length (flight h d) + one_for (joins_of c w) d
+flight_moves shape h c d w l f =
+    ap (λ ps. length ps + one_for (leaves_of h c w) d) (flight_push h d c w) ∙ moves shape h (h ++ by c w ∷ []) c d w l f
+
+apart : (h : History) (c d : ℕ) (w : What) → Some d ≡ leaves_of h c w → joins_of c w ≡ None
+apart h c d (Taken p) e = absurd (cc)
+apart h c d w e = refl
+
+-- a flight that a page leaves has one
+pub leaves_one : (shape : Shape) (h : History) (c d : ℕ) (w : What) → IsLegal shape h → FitsBy shape h (h ++ by c w ∷ []) c w → Some d ≡ leaves_of h c w →
+    0 < length (flight h d)
+leaves_one shape h c d w l f e =
+    let one : one_for (leaves_of h c w) d ≡ 1 = ap (λ o. one_for o d) (sym e) ∙ one_if (nat_eq d d) (eq-eqb d d refl) in
+    let none : one_for (joins_of c w) d ≡ 0 = ap (λ o. one_for o d) (apart h c d w e) in
+    omega (arith, flight_moves shape h c d w l f, one, none)

@@ -1,0 +1,17 @@
+pub mod Homing
+pub mod Standings
+pub mod Keeping
+pub mod Relinking
+pub mod PageEvents
+pub mod ListEvents
+pub mod JournalLemmas
+pub mod Recording
+pub mod Admitting
+pub mod CallLemmas
+pub mod PageUses
+pub mod Losing
+pub mod Closing
+pub mod Starting
+pub mod BatchRuns
+pub mod ReturnLemmas
+pub mod ScanLemmas

@@ -1,0 +1,22 @@
+use Rattle.std.proofs.Common.{◌∙◌, ap, arith}
+use Rattle.thp_model.specs.Frames.{frames_held}
+use Rattle.thp_node.specs.Journals.{JournalState}
+use Rattle.thp_node.proofs.JournalLemmas.{all_frames}
+use Rattle.thp_node.proofs.journal.Journal.frames_held.Goals as goal
+
+pub overflow_sub-result : goal.overflow_sub-result
+overflow_sub-result c =
+    let j = c.self.invariant in
+    omega (
+      arith,
+      all_frames c.self.inside.shape c.self.inside.events.items _ _ _ j.has_shape j.legal (c.from.ensures ∙ c.subpages.ensures) (c.from-2.ensures ∙ j.next_is) j.given_is,
+    )
+
+pub returns : goal.returns
+returns c =
+    let j = c.self.invariant in
+    omega (
+      arith,
+      all_frames c.self.inside.shape c.self.inside.events.items _ _ _ j.has_shape j.legal (c.from.ensures ∙ c.subpages.ensures) (c.from-2.ensures ∙ j.next_is) j.given_is,
+      ap (λ (s : JournalState). frames_held s.shape s.events) c.self.view_is,
+    )

@@ -1,0 +1,10 @@
+use Rattle.std.proofs.Common.{false, List, replicate, sym, subst}
+use Rattle.thp_model.specs.declared.events.Event.{Event}
+use Rattle.thp_node.specs.Journals.{IsJournal}
+use Rattle.thp_node.proofs.Recording.{journal_none}
+use Rattle.thp_node.proofs.journal.Journal.new.Goals as goal
+
+pub invariant_of-result : goal.invariant_of-result
+invariant_of-result c =
+    let P : List Event → Type 0 = λ h. IsJournal c.args.shape h 0 false (replicate 64 0) 0 (record { split_page = 0; split_page_failed = 0; deferred_split_page = 0; split_pmd = 0 }) in
+    subst P (sym c.new.ensures.items) (journal_none c.args.shape c.requires)

@@ -1,0 +1,98 @@
+use Rattle.std.proofs.Common.{◌≡◌, ◌<◌, ℕ, Bool, [], ◌∷◌, ◌++◌, refl, sym, ◌∙◌, subst, ap, arith, inl, inr}
+use Rattle.std.specs.Bool.{OnTrue, OnFalse}
+use Rattle.std.specs.Prelude.{IsSome, length}
+use Rattle.thp_model.specs.declared.shape.Shape.{Shape}
+use Rattle.thp_model.specs.declared.events.What.TheVariants as what
+use Rattle.thp_model.specs.History.{History, by}
+use Rattle.thp_model.specs.Legal.{Fits}
+use Rattle.thp_model.specs.Refusals.{refusal}
+use Rattle.thp_model.specs.Refusals as call
+use Rattle.thp_page.specs.Slots.{slot_at}
+use Rattle.thp_node.specs.contracts.node.Node.{the_view}
+use Rattle.thp_node.specs.BlocksState.{HasFree}
+use Rattle.thp_node.specs.Holding.{IsNode}
+use Rattle.thp_node.specs.Journals.{JournalState}
+use Rattle.thp_node.specs.NodeState.{NodeState}
+use Rattle.thp_node.proofs.Closing.{refused_alloc, refused_full, allowed_alloc, next_is_new}
+use Rattle.thp_node.proofs.Homing.{legal_homed}
+use Rattle.thp_node.proofs.ListEvents.{placed_fits, placed_node}
+use Rattle.thp_node.proofs.node.Node.alloc_page.Goals as goal
+
+pub returns-then-is_closed-clause-refused : goal.returns-then-is_closed-clause-refused
+returns-then-is_closed-clause-refused c = record {
+  same = refl;
+  cause = inl (ap (λ (n : NodeState). refusal n.shape n.journal call.alloc_page) (sym c.self.view_is)
+      ∙ refused_alloc c.self.inside.journal.shape c.self.inside.journal.events (sym c.is_closed.ensures ∙ c.if-is_closed.true));
+}
+
+pub returns-then-not-has_free-clause-refused : goal.returns-then-not-has_free-clause-refused
+returns-then-not-has_free-clause-refused c =
+    let j = c.self.inside.journal in
+    let b = c.self.inside.blocks in
+    let P : Bool → Type 0 = λ z. OnFalse z ((i : ℕ) → i < length b.table.slots → IsSome (slot_at b.table i)) in
+    record {
+      same = refl;
+      cause = inl (ap (λ (n : NodeState). refusal n.shape n.journal call.alloc_page) (sym c.self.view_is)
+          ∙ refused_full j.shape j.events b.table b.queue c.self.invariant (sym c.is_closed.ensures ∙ c.if-is_closed.false) (subst P c.if-not-has_free.true c.has_free.ensures.none));
+    }
+
+pub returns-in-Err-clause-refused : goal.returns-in-Err-clause-refused
+returns-in-Err-clause-refused c =
+    let j = c.self.inside.journal in
+    let b = c.self.inside.blocks in
+    let P : Bool → Type 0 = λ z. OnTrue z (HasFree b.table) in
+    record {
+      same = ap (λ (k : JournalState). the_view (record { journal = k; blocks = b })) c.in-Err.ensures.err ∙ c.self.view_is;
+      cause = inr (
+        ap (λ (n : NodeState). refusal n.shape n.journal call.alloc_page) (sym c.self.view_is)
+            ∙ allowed_alloc j.shape j.events b.table b.queue c.self.invariant (sym c.is_closed.ensures ∙ c.if-is_closed.false) (subst P c.if-not-has_free.false c.has_free.ensures.some),
+        refl,
+        omega (arith, ap (λ (n : NodeState). n.room) c.self.view_is, c.in-Err.ensures.full),
+      );
+    }
+
+pub place-block-requires-clause-new : goal.place-block-requires-clause-new
+place-block-requires-clause-new c =
+    let j = c.self.inside.journal in
+    let b = c.self.inside.blocks in
+    let number : c.next.result ≡ Rattle.thp_model.specs.Counts.allocations j.events = c.next.ensures ∙ ap (λ h. Rattle.thp_model.specs.Counts.allocations h) c.in_default.ensures.events in
+    next_is_new j.shape j.events b.table b.queue c.next.result c.self.invariant number
+
+pub record-requires-clause-fits : goal.record-requires-clause-fits
+record-requires-clause-fits c =
+    let j = c.self.inside.journal in
+    let b = c.self.inside.blocks in
+    let P : Bool → Type 0 = λ z. OnTrue z (HasFree b.table) in
+    let number : c.next.result ≡ Rattle.thp_model.specs.Counts.allocations j.events = c.next.ensures ∙ ap (λ h. Rattle.thp_model.specs.Counts.allocations h) c.in_default.ensures.events in
+    let allowed = allowed_alloc j.shape j.events b.table b.queue c.self.invariant (sym c.is_closed.ensures ∙ c.if-is_closed.false) (subst P c.if-not-has_free.false c.has_free.ensures.some) in
+    let fits : Fits j.shape j.events (by c.args.caller (what.Alloc c.next.result c.place-block.result)) =
+    placed_fits j.shape j.events c.args.caller c.next.result c.place-block.result b.table b.queue (legal_homed j.shape j.events c.self.invariant.legal) c.self.invariant allowed number c.place-block.ensures.inside c.place-block.ensures.free in
+    let F : Shape → History → Type 0 = λ s h. Fits s h (by c.args.caller (what.Alloc c.next.result c.place-block.result)) in
+    subst (λ h. F c.reserve.new.self.shape h) (sym c.in_default.ensures.events) (subst (λ s. F s j.events) (sym c.in_default.ensures.shape) fits)
+
+pub invariant_of-self-2 : goal.invariant_of-self-2
+invariant_of-self-2 c =
+    let j = c.self.inside.journal in
+    let b = c.self.inside.blocks in
+    let P : Bool → Type 0 = λ z. OnTrue z (HasFree b.table) in
+    let number : c.next.result ≡ Rattle.thp_model.specs.Counts.allocations j.events = c.next.ensures ∙ ap (λ h. Rattle.thp_model.specs.Counts.allocations h) c.in_default.ensures.events in
+    let allowed = allowed_alloc j.shape j.events b.table b.queue c.self.invariant (sym c.is_closed.ensures ∙ c.if-is_closed.false) (subst P c.if-not-has_free.false c.has_free.ensures.some) in
+    let homed = legal_homed j.shape j.events c.self.invariant.legal in
+    let w = what.Alloc c.next.result c.place-block.result in
+    let fits : Fits j.shape j.events (by c.args.caller w) =
+    placed_fits j.shape j.events c.args.caller c.next.result c.place-block.result b.table b.queue homed c.self.invariant allowed number c.place-block.ensures.inside c.place-block.ensures.free in
+    let put = c.place-block.ensures.placed in
+    let node : IsNode j.shape (j.events ++ by c.args.caller w ∷ []) c.place-block.new.self.table c.place-block.new.self.queue =
+    placed_node j.shape j.events c.args.caller c.next.result c.place-block.result put.0 b c.place-block.new.self homed c.self.invariant fits c.place-block.ensures.inside put.1 put.2 in
+    let N : Shape → History → Type 0 = λ s h. IsNode s h c.place-block.new.self.table c.place-block.new.self.queue in
+    let shape : c.record.new.self.shape ≡ j.shape = c.record.ensures.shape ∙ c.in_default.ensures.shape in
+    let events : c.record.new.self.events ≡ j.events ++ by c.args.caller w ∷ [] = c.record.ensures.events ∙ ap (λ h. h ++ by c.args.caller w ∷ []) c.in_default.ensures.events in
+    subst (λ h. N c.record.new.self.shape h) (sym events) (subst (λ s. N s (j.events ++ by c.args.caller w ∷ [])) (sym shape) node)
+
+pub returns-clause-allowed : goal.returns-clause-allowed
+returns-clause-allowed c =
+    let j = c.self.inside.journal in
+    let b = c.self.inside.blocks in
+    let P : Bool → Type 0 = λ z. OnTrue z (HasFree b.table) in
+    ap (λ (n : NodeState). refusal n.shape n.journal call.alloc_page) (sym c.self.view_is)
+    ∙ allowed_alloc j.shape j.events b.table b.queue c.self.invariant (sym c.is_closed.ensures ∙ c.if-is_closed.false) (subst P c.if-not-has_free.false c.has_free.ensures.some)

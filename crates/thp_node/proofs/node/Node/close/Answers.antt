@@ -1,0 +1,52 @@
+use Rattle.std.proofs.Common.{◌≡◌, false, [], ◌∷◌, ◌++◌, refl, sym, ◌∙◌, subst, ap, arith, inl, inr}
+use Rattle.thp_model.specs.declared.shape.Shape.{Shape}
+use Rattle.thp_model.specs.declared.events.What.TheVariants as what
+use Rattle.thp_model.specs.History.{History, by}
+use Rattle.thp_model.specs.Refusals.{refusal}
+use Rattle.thp_model.specs.Refusals as call
+use Rattle.thp_node.specs.contracts.node.Node.{the_view}
+use Rattle.thp_node.specs.Holding.{IsNode}
+use Rattle.thp_node.specs.Journals.{JournalState}
+use Rattle.thp_node.specs.NodeState.{NodeState}
+use Rattle.thp_node.proofs.Closing.{refused_close, allowed_close}
+use Rattle.thp_node.proofs.ListEvents.{closed_node}
+use Rattle.thp_node.proofs.node.Node.close.Goals as goal
+
+pub returns-then-is_closed-clause-refused : goal.returns-then-is_closed-clause-refused
+returns-then-is_closed-clause-refused c = record {
+  same = refl;
+  cause = inl (ap (λ (n : NodeState). refusal n.shape n.journal call.close) (sym c.self.view_is)
+      ∙ refused_close c.self.inside.journal.shape c.self.inside.journal.events (sym c.is_closed.ensures ∙ c.if-is_closed.true));
+}
+
+pub returns-in-Err-clause-refused : goal.returns-in-Err-clause-refused
+returns-in-Err-clause-refused c = record {
+  same = ap (λ (j : JournalState). the_view (record { journal = j; blocks = c.self.inside.blocks })) c.in-Err.ensures.err ∙ c.self.view_is;
+  cause = inr (
+    ap (λ (n : NodeState). refusal n.shape n.journal call.close) (sym c.self.view_is)
+        ∙ allowed_close c.self.inside.journal.shape c.self.inside.journal.events (sym c.is_closed.ensures ∙ c.if-is_closed.false),
+    refl,
+    omega (arith, ap (λ (n : NodeState). n.room) c.self.view_is, c.in-Err.ensures.full),
+  );
+}
+
+pub record-requires-clause-fits : goal.record-requires-clause-fits
+record-requires-clause-fits c =
+    allowed_close c.reserve.new.self.shape c.reserve.new.self.events
+    (let P : History → Type 0 = λ h. Rattle.thp_model.specs.Counts.is_closed h ≡ false in subst P (sym c.in_default.ensures.events) (sym c.is_closed.ensures ∙ c.if-is_closed.false))
+
+pub invariant_of-self-2 : goal.invariant_of-self-2
+invariant_of-self-2 c =
+    let j = c.self.inside.journal in
+    let b = c.self.inside.blocks in
+    let open_is = allowed_close j.shape j.events (sym c.is_closed.ensures ∙ c.if-is_closed.false) in
+    let node : IsNode j.shape (j.events ++ by c.args.caller what.Close ∷ []) b.table b.queue = closed_node j.shape j.events c.args.caller b.table b.queue c.self.invariant open_is in
+    let P : Shape → History → Type 0 = λ s h. IsNode s h b.table b.queue in
+    let shape : c.record.new.self.shape ≡ j.shape = c.record.ensures.shape ∙ c.in_default.ensures.shape in
+    let events : c.record.new.self.events ≡ j.events ++ by c.args.caller what.Close ∷ [] = c.record.ensures.events ∙ ap (λ h. h ++ by c.args.caller what.Close ∷ []) c.in_default.ensures.events in
+    subst (λ h. P c.record.new.self.shape h) (sym events) (subst (λ s. P s (j.events ++ by c.args.caller what.Close ∷ [])) (sym shape) node)
+
+pub returns-clause-allowed : goal.returns-clause-allowed
+returns-clause-allowed c =
+    ap (λ (n : NodeState). refusal n.shape n.journal call.close) (sym c.self.view_is)
+    ∙ allowed_close c.self.inside.journal.shape c.self.inside.journal.events (sym c.is_closed.ensures ∙ c.if-is_closed.false)

@@ -1,0 +1,59 @@
+use Rattle.std.proofs.Common.{◌≡◌, [], ◌∷◌, ◌++◌, None, sym, ◌∙◌, subst, ap, ap₂, arith}
+use Rattle.thp_model.specs.declared.shape.Shape.{Shape}
+use Rattle.thp_model.specs.History.{History, by}
+use Rattle.thp_model.specs.Refusals.{refusal}
+use Rattle.thp_node.specs.declared.page_call.PageCall.TheVariants as either
+use Rattle.thp_node.specs.Holding.{IsNode}
+use Rattle.thp_node.specs.Homes.{block_of}
+use Rattle.thp_node.specs.NodeState.{NodeState}
+use Rattle.thp_node.specs.PageCalls.{gain_call, gain_what}
+use Rattle.thp_node.proofs.Admitting.{Found, at_home, ready}
+use Rattle.thp_node.proofs.CallLemmas.{did_one}
+use Rattle.thp_node.proofs.PageEvents.{gained}
+use Rattle.thp_node.proofs.node.Node.gain.Goals as goal
+
+pub gain-requires-clause-allowed : goal.gain-requires-clause-allowed
+gain-requires-clause-allowed c =
+    let j = c.self.inside.journal in
+    let b = c.self.inside.blocks in
+    let is = c.self.view_is ∙ c.in_ok-block.ensures.same in
+    ready j.shape j.events b.table b.queue c.args.page c.in_ok-block.block (either.Gain c.args.gain) c.self.invariant
+    (ap (λ (n : NodeState). block_of n.journal c.args.page) is ∙ c.in_ok-block.ensures.block)
+    (ap (λ (n : NodeState). refusal n.shape n.journal (gain_call c.args.gain c.args.page)) is ∙ c.in_ok-block.ensures.allowed)
+
+-- the node that the page's gain leaves, with its event
+changed : (c : goal.After-record) → IsNode c.record.new.self.shape c.record.new.self.events c.gain.new.self.table c.gain.new.self.queue
+changed c =
+    let j = c.self.inside.journal in
+    let b = c.self.inside.blocks in
+    let is = c.self.view_is ∙ c.in_ok-block.ensures.same in
+    let w : Found j.shape j.events b.table c.args.page c.in_ok-block.block =
+    at_home j.shape j.events b.table b.queue c.args.page c.in_ok-block.block c.self.invariant (ap (λ (n : NodeState). block_of n.journal c.args.page) is ∙ c.in_ok-block.ensures.block) in
+    let did = c.gain.ensures w.slot w.at in
+    let allowed : refusal j.shape j.events (gain_call c.args.gain w.slot.id) ≡ None =
+    ap (λ p. refusal j.shape j.events (gain_call c.args.gain p)) w.id_is
+    ∙ ap (λ (n : NodeState). refusal n.shape n.journal (gain_call c.args.gain c.args.page)) is ∙ c.in_ok-block.ensures.allowed in
+    let node = (gained j.shape j.events c.args.caller c.in_ok-block.block w.slot did.0 c.args.gain b c.gain.new.self c.self.invariant w.at allowed did.1 did.2).1 in
+    let P : Shape → History → Type 0 = λ s h. IsNode s h c.gain.new.self.table c.gain.new.self.queue in
+    let events : c.record.new.self.events ≡ j.events ++ by c.args.caller (gain_what c.args.gain w.slot.id) ∷ [] =
+    c.record.ensures.events ∙ ap (λ v. j.events ++ by c.args.caller v ∷ []) (c.what.ensures ∙ ap (gain_what c.args.gain) (sym w.id_is)) in
+    subst (λ h. P c.record.new.self.shape h) (sym events) (subst (λ s. P s (j.events ++ by c.args.caller (gain_what c.args.gain w.slot.id) ∷ [])) (sym c.record.ensures.shape) node)
+
+pub invariant_of-self : goal.invariant_of-self
+invariant_of-self c = changed c
+
+pub returns-clause-recorded : goal.returns-clause-recorded
+returns-clause-recorded c =
+    let j = c.self.inside.journal in
+    let b = c.self.inside.blocks in
+    let is = c.self.view_is ∙ c.in_ok-block.ensures.same in
+    let w : Found j.shape j.events b.table c.args.page c.in_ok-block.block =
+    at_home j.shape j.events b.table b.queue c.args.page c.in_ok-block.block c.self.invariant (ap (λ (n : NodeState). block_of n.journal c.args.page) is ∙ c.in_ok-block.ensures.block) in
+    did_one c.args.self.now _ c.args.caller (gain_what c.args.gain c.args.page) j.room 0
+    (c.record.ensures.shape ∙ ap (λ (n : NodeState). n.shape) is)
+    (c.record.ensures.events ∙ ap₂ (λ h v. h ++ by c.args.caller v ∷ []) (ap (λ (n : NodeState). n.journal) is) c.what.ensures)
+    c.record.ensures.legal
+    (omega (arith, c.in_ok-block.ensures.more, ap (λ (n : NodeState). n.room) c.self.view_is))
+    c.record.ensures.room
+    (omega (arith, (c.gain.ensures w.slot w.at).2.work, ap (λ (n : NodeState). n.table.accesses) is))
+    (omega arith)

@@ -1,0 +1,94 @@
+use Rattle.std.proofs.Common.{◌≡◌, [], ◌∷◌, ◌++◌, sym, ◌∙◌, subst, ap, ap₂, arith}
+use Rattle.thp_model.specs.declared.shape.Shape.{Shape}
+use Rattle.thp_model.specs.declared.events.What.{What}
+use Rattle.thp_model.specs.History.{History, by}
+use Rattle.thp_model.specs.Frames.{outcome, released}
+use Rattle.thp_model.specs.Legal.{Fits}
+use Rattle.thp_model.specs.Refusals.{refusal}
+use Rattle.thp_node.specs.declared.page_call.PageCall.TheVariants as either
+use Rattle.thp_node.specs.Holding.{IsNode}
+use Rattle.thp_node.specs.Homes.{block_of}
+use Rattle.thp_node.specs.Journals.{leaves_of}
+use Rattle.thp_node.specs.NodeState.{NodeState}
+use Rattle.thp_node.specs.PageCalls.{loss_call, loss_what}
+use Rattle.thp_node.proofs.Admitting.{ready}
+use Rattle.thp_node.proofs.CallLemmas.{did_one}
+use Rattle.thp_node.proofs.Losing.{Losing, losing}
+use Rattle.thp_node.proofs.node.Node.lose.Goals as goal
+
+pub lose-done-requires-clause-allowed : goal.lose-done-requires-clause-allowed
+lose-done-requires-clause-allowed c =
+    let j = c.self.inside.journal in
+    let b = c.self.inside.blocks in
+    let is = c.self.view_is ∙ c.in_ok-block.ensures.same in
+    ready j.shape j.events b.table b.queue c.args.page c.in_ok-block.block (either.Loss c.args.loss) c.self.invariant
+    (ap (λ (n : NodeState). block_of n.journal c.args.page) is ∙ c.in_ok-block.ensures.block)
+    (ap (λ (n : NodeState). refusal n.shape n.journal (loss_call c.args.loss c.args.page)) is ∙ c.in_ok-block.ensures.allowed)
+
+-- what the page lost, before and after it is recorded
+before : (c : goal.After-what) → Losing c.self.inside.journal.shape c.self.inside.journal.events c.args.caller c.args.page c.args.loss c.self.inside.blocks c.lose-done.new.self c.lose-done.result.0 c.lose-done.result.1
+before c =
+    let j = c.self.inside.journal in
+    let b = c.self.inside.blocks in
+    let is = c.self.view_is ∙ c.in_ok-block.ensures.same in
+    losing j.shape j.events c.args.caller c.args.page c.in_ok-block.block c.args.loss c.is_closed-closed.result b c.lose-done.new.self c.lose-done.result.0 c.lose-done.result.1 c.self.invariant
+    (ap (λ (n : NodeState). block_of n.journal c.args.page) is ∙ c.in_ok-block.ensures.block)
+    c.is_closed-closed.ensures
+    (ap (λ (n : NodeState). refusal n.shape n.journal (loss_call c.args.loss c.args.page)) is ∙ c.in_ok-block.ensures.allowed)
+    c.lose-done.ensures
+
+after : (c : goal.After-record) → Losing c.self.inside.journal.shape c.self.inside.journal.events c.args.caller c.args.page c.args.loss c.self.inside.blocks c.lose-done.new.self c.lose-done.result.0 c.lose-done.result.1
+after c =
+    let j = c.self.inside.journal in
+    let b = c.self.inside.blocks in
+    let is = c.self.view_is ∙ c.in_ok-block.ensures.same in
+    losing j.shape j.events c.args.caller c.args.page c.in_ok-block.block c.args.loss c.is_closed-closed.result b c.lose-done.new.self c.lose-done.result.0 c.lose-done.result.1 c.self.invariant
+    (ap (λ (n : NodeState). block_of n.journal c.args.page) is ∙ c.in_ok-block.ensures.block)
+    c.is_closed-closed.ensures
+    (ap (λ (n : NodeState). refusal n.shape n.journal (loss_call c.args.loss c.args.page)) is ∙ c.in_ok-block.ensures.allowed)
+    c.lose-done.ensures
+
+pub record-requires-clause-fits : goal.record-requires-clause-fits
+record-requires-clause-fits c =
+    let j = c.self.inside.journal in
+    let P : What → Type 0 = λ w. Fits j.shape j.events (by c.args.caller w) in
+    subst P (sym c.what.ensures) (before c).fits
+
+pub record-requires-clause-left : goal.record-requires-clause-left
+record-requires-clause-left c = (before c).left_is ∙ ap (leaves_of c.self.inside.journal.events c.args.caller) (sym c.what.ensures)
+
+events : (c : goal.After-record) → c.record.new.self.events ≡ c.self.inside.journal.events ++ by c.args.caller (loss_what c.args.loss c.args.page c.lose-done.result.0.outcome c.lose-done.result.0.released) ∷ []
+events c = c.record.ensures.events ∙ ap (λ v. c.self.inside.journal.events ++ by c.args.caller v ∷ []) c.what.ensures
+
+pub invariant_of-self : goal.invariant_of-self
+invariant_of-self c =
+    let j = c.self.inside.journal in
+    let w : What = loss_what c.args.loss c.args.page c.lose-done.result.0.outcome c.lose-done.result.0.released in
+    let P : Shape → History → Type 0 = λ s h. IsNode s h c.lose-done.new.self.table c.lose-done.new.self.queue in
+    subst (λ h. P c.record.new.self.shape h) (sym (events c)) (subst (λ s. P s (j.events ++ by c.args.caller w ∷ [])) (sym c.record.ensures.shape) (after c).node)
+
+pub returns-clause-recorded : goal.returns-clause-recorded
+returns-clause-recorded c =
+    let j = c.self.inside.journal in
+    let is = c.self.view_is ∙ c.in_ok-block.ensures.same in
+    let w : What = loss_what c.args.loss c.args.page c.lose-done.result.0.outcome c.lose-done.result.0.released in
+    did_one c.args.self.now _ c.args.caller w j.room 8
+    (c.record.ensures.shape ∙ ap (λ (n : NodeState). n.shape) is)
+    (events c ∙ ap (λ h. h ++ by c.args.caller w ∷ []) (ap (λ (n : NodeState). n.journal) is))
+    c.record.ensures.legal
+    (omega (arith, c.in_ok-block.ensures.more, ap (λ (n : NodeState). n.room) c.self.view_is))
+    c.record.ensures.room
+    (omega (arith, (after c).work, ap (λ (n : NodeState). n.table.accesses) is))
+    (omega arith)
+
+pub returns-clause-outcome : goal.returns-clause-outcome
+returns-clause-outcome c =
+    let is = c.self.view_is ∙ c.in_ok-block.ensures.same in
+    (after c).gives.outcome_is
+    ∙ ap₂ (λ (n : NodeState) h. outcome n.shape n.journal h c.args.page) is (sym (events c))
+
+pub returns-clause-released : goal.returns-clause-released
+returns-clause-released c =
+    let is = c.self.view_is ∙ c.in_ok-block.ensures.same in
+    (after c).gives.set_is
+    ∙ ap₂ (λ (n : NodeState) h. released n.shape n.journal h c.args.page) is (sym (events c))

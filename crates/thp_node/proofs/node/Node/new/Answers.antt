@@ -1,0 +1,14 @@
+use Rattle.std.proofs.Common.{[], sym, subst}
+use Rattle.thp_model.specs.declared.shape.Shape.{Shape}
+use Rattle.thp_model.specs.History.{History}
+use Rattle.thp_node.specs.Holding.{IsNode}
+use Rattle.thp_node.proofs.Starting.{node_none}
+use Rattle.thp_node.proofs.node.Node.new.Goals as goal
+
+pub invariant_of-result : goal.invariant_of-result
+invariant_of-result c =
+    let b = c.in-Ok.blocks in
+    let P : History → Type 0 = λ h. IsNode c.new-in-Ok.result.shape h b.table b.queue in
+    let Q : Shape → Type 0 = λ s. IsNode s [] b.table b.queue in
+    subst P (sym c.new-in-Ok.ensures.events)
+    (subst Q (sym c.new-in-Ok.ensures.shape) (node_none c.args.shape b.table b.queue c.in-Ok.ensures.size c.in-Ok.ensures.order c.in-Ok.ensures.empty c.in-Ok.ensures.queue))

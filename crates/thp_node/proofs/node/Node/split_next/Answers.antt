@@ -1,0 +1,37 @@
+use Rattle.std.proofs.Common.{◌≡◌, Some, ap, ap₂, sym, ◌∙◌, arith}
+use Rattle.thp_model.specs.History.{History}
+use Rattle.thp_model.specs.Runs.{next_page}
+use Rattle.thp_node.specs.Batches.{rest}
+use Rattle.thp_node.specs.NodeState.{NodeState}
+use Rattle.thp_node.proofs.BatchRuns.{none_left, tried_after, did_after}
+use Rattle.thp_node.proofs.node.Node.split_next.Goals as goal
+
+pub next_flying-requires : goal.next_flying-requires
+next_flying-requires c = c.caller-caller.ensures.small
+
+pub try_page-requires-clause-caller : goal.try_page-requires-clause-caller
+try_page-requires-clause-caller c = c.caller-caller.ensures.small
+
+pub returns-in-None-clause-rest : goal.returns-in-None-clause-rest
+returns-in-None-clause-rest c =
+    let h : History = c.args.self.now.journal in
+    c.finish.ensures.rest ∙ sym (none_left h c.args.batch.now.caller (rest c.args.batch.now) (ap₂ (next_page h) (sym c.caller-caller.ensures.value) (sym c.rest.ensures) ∙ c.in-None.ensures.none))
+
+pub returns-in_default-clause-tried : goal.returns-in_default-clause-tried
+returns-in_default-clause-tried c =
+    let h : History = c.args.self.now.journal in
+    let next : next_page h c.args.batch.now.caller (rest c.args.batch.now) ≡ Some c.in-Some.page =
+    ap₂ (next_page h) (sym c.caller-caller.ensures.value) (sym c.rest.ensures) ∙ c.in-Some.ensures.page in
+    let same : c.reserve.new.self.events ≡ h = c.in_default.ensures.events ∙ ap (λ (n : NodeState). n.journal) c.self.view_is in
+    tried_after c.reserve.new.self.events h _ _ c.in-Some.page c.try_page.result c.try_page.ensures.tried (search) same next
+
+pub returns-in_default-clause-recorded : goal.returns-in_default-clause-recorded
+returns-in_default-clause-recorded c =
+    let h : History = c.args.self.now.journal in
+    let next : next_page h c.args.batch.now.caller (rest c.args.batch.now) ≡ Some c.in-Some.page =
+    ap₂ (next_page h) (sym c.caller-caller.ensures.value) (sym c.rest.ensures) ∙ c.in-Some.ensures.page in
+    did_after c.args.self.now _ c.try_page.new.self c.caller-caller.result c.args.batch.now.caller _ c.in-Some.page _ c.try_page.ensures.did (search) c.caller-caller.ensures.value next
+    (c.in_default.ensures.shape ∙ ap (λ (n : NodeState). n.shape) c.self.view_is)
+    (c.in_default.ensures.events ∙ ap (λ (n : NodeState). n.journal) c.self.view_is)
+    (omega (arith, c.in_default.ensures.room, ap (λ (n : NodeState). n.room) c.self.view_is))
+    (ap (λ (n : NodeState). n.table) c.self.view_is)

@@ -1,0 +1,63 @@
+use Rattle.std.proofs.Common.{◌≡◌, ◌∷◌, [], ◌++◌, ap, sym, ◌∙◌, subst, arith}
+use Rattle.thp_model.specs.declared.events.Event.{Event}
+use Rattle.thp_model.specs.declared.events.What.TheVariants.{Split}
+use Rattle.thp_model.specs.History.{by}
+use Rattle.thp_model.specs.Runs.{try_event}
+use Rattle.thp_node.specs.Calls.{Did}
+use Rattle.thp_node.specs.contracts.node.Node.{the_view}
+use Rattle.thp_node.specs.NodeState.{NodeState}
+use Rattle.thp_node.proofs.BatchRuns.{flies_inside, unpinned_inside, node_recorded, ready_there, whole_there, SplitOff, split_off}
+use Rattle.thp_node.proofs.CallLemmas.{did_one}
+use Rattle.thp_node.proofs.node.Node.split_page.Goals as goal
+use Rattle.thp_node.proofs.node.Node.split_page.Goals.{After-split-released}
+
+-- the page is split off its batch
+off : (c : After-split-released) → SplitOff c.self.inside.journal.shape c.self.inside.journal.events c.args.caller c.args.page c.split-released.result c.self.inside.blocks c.split-released.new.self
+off c =
+    let j = c.self.inside.journal in
+    let w = flies_inside _ c.args.self.now c.args.caller c.args.page c.args.block c.self.view_is c.requires.flies in
+    split_off j.shape j.events c.args.caller c.args.page c.args.block c.self.inside.blocks c.self.invariant w c.split-released.new.self c.split-released.result c.split-released.ensures
+    (unpinned_inside _ c.args.self.now c.args.block c.self.view_is c.requires.unpinned w.slot w.at)
+
+pub split-released-requires-clause-allowed : goal.split-released-requires-clause-allowed
+split-released-requires-clause-allowed c =
+    let j = c.self.inside.journal in
+    let w = flies_inside _ c.args.self.now c.args.caller c.args.page c.args.block c.self.view_is c.requires.flies in
+    ready_there j.shape j.events c.args.caller c.args.page c.args.block c.self.inside.blocks c.self.invariant w
+    (unpinned_inside _ c.args.self.now c.args.block c.self.view_is c.requires.unpinned w.slot w.at)
+
+pub record-requires-clause-fits : goal.record-requires-clause-fits
+record-requires-clause-fits c = (off (goal.at.record-requires-clause-fits c).After-split-released).fits
+
+pub record-requires-clause-split_pmds : goal.record-requires-clause-split_pmds
+record-requires-clause-split_pmds c =
+    let j = c.self.inside.journal in
+    let w = flies_inside _ c.args.self.now c.args.caller c.args.page c.args.block c.self.view_is c.requires.flies in
+    c.whole-split_pmds.ensures w.slot w.at ∙ sym (whole_there j.shape j.events c.args.caller c.args.page c.args.block c.self.inside.blocks c.self.invariant w)
+
+pub invariant_of-self : goal.invariant_of-self
+invariant_of-self c =
+    let j = c.self.inside.journal in
+    node_recorded c.record.new.self.shape j.shape c.record.new.self.events j.events (by c.args.caller (Split c.args.page c.split-released.result)) c.split-released.new.self
+    c.record.ensures.shape c.record.ensures.events (off (goal.at.invariant_of-self c).After-split-released).node
+
+pub returns : goal.returns
+returns c =
+    let j = c.self.inside.journal in
+    let w = off (goal.at.returns c).After-split-released in
+    let is : by c.args.caller (Split c.args.page c.split-released.result) ≡ try_event c.args.self.now.shape c.args.self.now.journal c.args.caller c.args.page =
+    w.is ∙ ap (λ (n : NodeState). try_event n.shape n.journal c.args.caller c.args.page) c.self.view_is in
+    let new : NodeState = the_view (record { journal = c.record.new.self; blocks = c.split-released.new.self }) in
+    let P : Event → Type 0 = λ e. Did c.args.self.now new c.args.caller (e ∷ []) in
+    record {
+      did =
+          subst P is
+          (did_one c.args.self.now new c.args.caller (Split c.args.page c.split-released.result) j.room 0
+          (c.record.ensures.shape ∙ ap (λ (n : NodeState). n.shape) c.self.view_is)
+          (c.record.ensures.events ∙ ap (λ (n : NodeState). n.journal ++ by c.args.caller (Split c.args.page c.split-released.result) ∷ []) c.self.view_is)
+          c.record.ensures.legal
+          (omega (arith, ap (λ (n : NodeState). n.room) c.self.view_is))
+          c.record.ensures.room
+          (omega (arith, w.work, ap (λ (n : NodeState). n.table.accesses) c.self.view_is))
+          (omega arith));
+    }

@@ -1,0 +1,32 @@
+use Rattle.std.proofs.Common.{ℕ, ◌<◌, List, ◌∷◌, [], ◌++◌, length, ap, sym, ◌∙◌, arith, refl, subst}
+use Rattle.std.specs.Prelude.{slice_get}
+use Rattle.thp_model.specs.Places.{queue}
+use Rattle.thp_model.proofs.TakeRuns.{more_taken}
+use Rattle.thp_node.specs.Batches.{BatchState}
+use Rattle.thp_node.proofs.BatchRuns.{took_none, took_more, some_left}
+use Rattle.thp_node.proofs.node.Node.take_oldest.Goals as goal
+
+pub loop-taken-init : goal.loop-taken-init
+loop-taken-init c = record {
+  took = took_none c.args.self.now c.args.self.now c.args.caller refl c.requires.legal c.requires.may_take;
+  batch = c.new-batch.ensures;
+  room = omega (arith, c.requires.room);
+}
+
+pub take_one-page-requires-clause-queued : goal.take_one-page-requires-clause-queued
+take_one-page-requires-clause-queued c =
+    subst (λ (ps : List ℕ). 0 < length ps) (sym c.loop-taken.invariant.took.left)
+    (some_left c.loop-taken._taken c.args.count (queue c.args.self.now.journal) (omega arith) c.requires.queued)
+
+pub loop-taken-preserved : goal.loop-taken-preserved
+loop-taken-preserved c =
+    let first = c.take_one-page.ensures.oldest in
+    let more = (more_taken c.loop-taken._taken (queue c.args.self.now.journal) c.take_one-page.result (ap (λ qs. slice_get qs 0) (sym c.loop-taken.invariant.took.left) ∙ first)).0 in
+    record {
+      took = took_more c.args.self.now c.loop-taken.self c.take_one-page.new.self c.args.caller c.loop-taken._taken c.take_one-page.result c.loop-taken.invariant.took first c.take_one-page.ensures.did;
+      batch =
+          c.push.ensures
+          ∙ ap (λ (b : BatchState). record b { pages = b.pages ++ c.take_one-page.result ∷ [] }) c.loop-taken.invariant.batch
+          ∙ ap (λ (ps : List ℕ). let b : BatchState = record { caller = c.args.caller; pages = ps; place = 0 } in b) (sym more);
+      room = omega (arith, c.loop-taken.invariant.room, c.take_one-page.ensures.did.room);
+    }

@@ -1,0 +1,28 @@
+use Rattle.std.proofs.Common.{ℕ, ◌<◌, List, length, ap, ◌∙◌, arith}
+use Rattle.thp_node.specs.NodeState.{NodeState}
+use Rattle.thp_node.specs.Batches.{rest}
+use Rattle.thp_node.proofs.ScanLemmas.{tried_more, tried_after, no_refusal, room_to_try}
+use Rattle.thp_node.proofs.node.Node.try_all.Goals as goal
+
+pub unreachable-requires : goal.unreachable-requires
+unreachable-requires c =
+    let a : NodeState = c.args.self.now in
+    let b : NodeState = c.loop-tried.self in
+    no_refusal b c.split_next.new.self _ _ c.in-Err.ensures.refused
+    (room_to_try a.shape b.shape a.journal b.journal c.args.batch.now.caller c.loop-tried.batch.caller c.loop-tried._tried a.room b.room c.args.batch.now.pages (rest c.loop-tried.batch)
+    (omega (arith, c.loop-tried-test.true, ap length c.pages-tried-end.ensures.value)) c.requires.room c.loop-tried.invariant.did.room)
+
+pub loop-tried-preserved : goal.loop-tried-preserved
+loop-tried-preserved c =
+    let a : NodeState = c.args.self.now in
+    let b : NodeState = c.loop-tried.self in
+    let i : ℕ = c.loop-tried._tried in
+    let ps : List ℕ = c.args.batch.now.pages in
+    let inv = c.loop-tried.invariant in
+    let below : i < length ps = omega (arith, c.loop-tried-test.true, ap length c.pages-tried-end.ensures.value) in
+    record {
+      did = tried_more a b c.args.batch.now.caller i ps c.loop-tried.batch c.requires.legal c.requires.flies below inv.did inv.caller inv.left c.split_next.new.self c.in-Ok.ensures.recorded;
+      left = c.in-Ok.ensures.rest ∙ tried_after a b c.args.batch.now.caller i ps c.loop-tried.batch c.requires.legal c.requires.flies below inv.did inv.caller inv.left;
+      caller = c.split_next.ensures.same_caller ∙ inv.caller;
+      pages = c.split_next.ensures.same_pages ∙ inv.pages;
+    }

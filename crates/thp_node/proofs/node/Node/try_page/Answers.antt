@@ -1,0 +1,54 @@
+use Rattle.std.proofs.Common.{◌≡◌, ◌∷◌, [], ◌++◌, ap, ◌∙◌, subst, arith}
+use Rattle.thp_model.specs.declared.events.Event.{Event}
+use Rattle.thp_model.specs.declared.events.What.TheVariants.{Pinned}
+use Rattle.thp_model.specs.History.{by}
+use Rattle.thp_model.specs.Counts.{pins}
+use Rattle.thp_model.specs.Runs.{try_event}
+use Rattle.thp_node.specs.contracts.node.Node.{the_view}
+use Rattle.thp_node.specs.Calls.{Did}
+use Rattle.thp_node.specs.NodeState.{NodeState}
+use Rattle.thp_node.proofs.BatchRuns.{flies_inside, node_recorded, pins_there, tried_pinned, FoundPinned, found_pinned}
+use Rattle.thp_node.proofs.CallLemmas.{did_one}
+use Rattle.thp_node.proofs.node.Node.try_page.Goals as goal
+use Rattle.thp_node.proofs.node.Node.try_page.Goals.{Else-pins-eq0}
+
+-- the page is found pinned
+pinned : (c : Else-pins-eq0) → FoundPinned c.self.inside.journal.shape c.self.inside.journal.events c.args.caller c.args.page c.self.inside.blocks.table c.self.inside.blocks.queue
+pinned c =
+    let j = c.self.inside.journal in
+    let w = flies_inside _ c.args.self.now c.args.caller c.args.page c.args.block c.self.view_is c.requires.flies in
+    found_pinned j.shape j.events c.args.caller c.args.page c.args.block c.self.inside.blocks c.self.invariant w (omega (arith, c.pins.ensures w.slot w.at, c.if-pins-eq0.false))
+
+pub record-requires-clause-fits : goal.record-requires-clause-fits
+record-requires-clause-fits c = (pinned (goal.at.record-requires-clause-fits c).Else-pins-eq0).fits
+
+pub invariant_of-self : goal.invariant_of-self
+invariant_of-self c =
+    let j = c.self.inside.journal in
+    node_recorded c.record.new.self.shape j.shape c.record.new.self.events j.events (by c.args.caller (Pinned c.args.page)) c.self.inside.blocks
+    c.record.ensures.shape c.record.ensures.events (pinned (goal.at.invariant_of-self c).Else-pins-eq0).node
+
+pub returns-else-pins-eq0-clause-tried : goal.returns-else-pins-eq0-clause-tried
+returns-else-pins-eq0-clause-tried c =
+    let j = c.self.inside.journal in
+    let w = flies_inside _ c.args.self.now c.args.caller c.args.page c.args.block c.self.view_is c.requires.flies in
+    let there : pins j.events c.args.page ≡ w.slot.page.pins = pins_there j.shape j.events c.args.caller c.args.page c.args.block c.self.inside.blocks c.self.invariant w in
+    tried_pinned c.args.self.now.journal c.args.page (omega (arith, there, c.pins.ensures w.slot w.at, c.if-pins-eq0.false, ap (λ (n : NodeState). pins n.journal c.args.page) c.self.view_is))
+
+pub returns-else-pins-eq0-clause-did : goal.returns-else-pins-eq0-clause-did
+returns-else-pins-eq0-clause-did c =
+    let j = c.self.inside.journal in
+    let w = pinned (goal.at.returns-else-pins-eq0-clause-did c).Else-pins-eq0 in
+    let is : by c.args.caller (Pinned c.args.page) ≡ try_event c.args.self.now.shape c.args.self.now.journal c.args.caller c.args.page =
+    w.is ∙ ap (λ (n : NodeState). try_event n.shape n.journal c.args.caller c.args.page) c.self.view_is in
+    let new : NodeState = the_view (record { journal = c.record.new.self; blocks = c.self.inside.blocks }) in
+    let P : Event → Type 0 = λ e. Did c.args.self.now new c.args.caller (e ∷ []) in
+    subst P is
+    (did_one c.args.self.now new c.args.caller (Pinned c.args.page) j.room 0
+    (c.record.ensures.shape ∙ ap (λ (n : NodeState). n.shape) c.self.view_is)
+    (c.record.ensures.events ∙ ap (λ (n : NodeState). n.journal ++ by c.args.caller (Pinned c.args.page) ∷ []) c.self.view_is)
+    c.record.ensures.legal
+    (omega (arith, ap (λ (n : NodeState). n.room) c.self.view_is))
+    c.record.ensures.room
+    (omega (arith, ap (λ (n : NodeState). n.table.accesses) c.self.view_is))
+    (omega arith))

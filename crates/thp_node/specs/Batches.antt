@@ -1,0 +1,76 @@
+-- What contracts see of a batch, what a try and a put-back answer, and what a scan counts.
+use Rattle.std.specs.Prelude.{◌≡◌, ℕ, ◌≤◌, ◌<◌, length, nat_eq, if◌then◌else◌, Bool, true, false, List, ◌++◌, drop, Option, Some, None}
+use Rattle.thp_model.specs.declared.events.Event.{Event}
+use Rattle.thp_model.specs.declared.events.What.{What}
+use Rattle.thp_model.specs.declared.events.What.TheVariants.{Taken, Split as SplitOf, Pinned as PinnedOf, Back, Dropped}
+use Rattle.thp_model.specs.History.{History, count_of}
+use Rattle.thp_model.specs.Counts.{pins, is_closed}
+use Rattle.thp_model.specs.Places.{flight}
+use Rattle.thp_model.specs.Runs.{still_flying}
+use Rattle.thp_node.specs.declared.answers.Tried.{Tried}
+use Rattle.thp_node.specs.declared.answers.Tried.TheVariants.{Split, Pinned, Done}
+use Rattle.thp_node.specs.declared.answers.BackReply.{BackReply}
+use Rattle.thp_node.specs.declared.answers.ScanReply.{ScanReply}
+
+-- the caller, the pages taken in order, and how many of them were tried
+pub record BatchState : Type 0 where
+  pub caller : ℕ
+  pub pages : List ℕ
+  pub place : ℕ
+
+-- the pages still to be tried
+abbrev pub rest : BatchState → List ℕ
+rest b = drop b.place b.pages
+
+-- what a batch keeps
+pub record IsBatch (b : BatchState) : Type 0 where
+  pub caller : b.caller < 64
+  pub few : length b.pages ≤ 128
+  pub inside : b.place ≤ length b.pages
+
+-- the pages of the batch that are still in flight come first in the flight of its caller
+pub record IsInFront (h : History) (b : BatchState) : Type 0 where
+  pub others : List ℕ
+  pub front : flight h b.caller ≡ still_flying h b.caller b.pages ++ others
+
+-- what a try of the next page answers
+abbrev pub tried : History → Option ℕ → Tried
+tried h None = Done
+tried h (Some p) = if nat_eq (pins h p) 0 then Split p else Pinned p
+
+-- what a put-back of these pages answers: all go back, or all are dropped where the node is closed
+abbrev pub back_reply : History → List ℕ → BackReply
+back_reply h ps =
+    if is_closed h
+    then (record { back = 0; dropped = length ps })
+    else record { back = length ps; dropped = 0 }
+
+abbrev pub is_taken : What → Bool
+is_taken (Taken p) = true
+is_taken _ = false
+
+abbrev pub is_split_off : What → Bool
+is_split_off (SplitOf p set) = true
+is_split_off _ = false
+
+abbrev pub is_pinned_found : What → Bool
+is_pinned_found (PinnedOf p) = true
+is_pinned_found _ = false
+
+abbrev pub is_back : What → Bool
+is_back (Back p) = true
+is_back _ = false
+
+abbrev pub is_dropped : What → Bool
+is_dropped (Dropped p) = true
+is_dropped _ = false
+
+-- what a scan answers: how many events of each kind it recorded
+abbrev pub scan_reply : List Event → ScanReply
+scan_reply es = record {
+  taken = count_of is_taken es;
+  split = count_of is_split_off es;
+  pinned = count_of is_pinned_found es;
+  back = count_of is_back es;
+  dropped = count_of is_dropped es;
+}

@@ -1,0 +1,31 @@
+-- What every call of a node does, and what it leaves where it is refused.
+use Rattle.std.specs.Prelude.{◌≡◌, ℕ, ◌+◌, ◌*◌, ◌<◌, ◌≤◌, length, List, [], ◌∷◌, ◌++◌, Option, None, Some, ◌⊎◌}
+use Rattle.std.specs.List.{All}
+use Rattle.thp_model.specs.declared.events.Event.{Event}
+use Rattle.thp_model.specs.declared.events.What.TheVariants.{Alloc}
+use Rattle.thp_model.specs.declared.refusal.Refusal.{Refusal}
+use Rattle.thp_model.specs.declared.refusal.Refusal.TheVariants.{OutOfMemory}
+use Rattle.thp_model.specs.History.{by}
+use Rattle.thp_model.specs.Legal.{IsLegal}
+use Rattle.thp_node.specs.NodeState.{NodeState}
+
+-- the call recorded these events, all of them caller c's own: the journal stays legal, the room lessens by at most their
+-- number, and the links are accessed at most eight times for each
+pub record Did (old new : NodeState) (c : ℕ) (es : List Event) : Type 0 where
+  pub shape : new.shape ≡ old.shape
+  pub journal : new.journal ≡ old.journal ++ es
+  pub own : All (λ e. e.caller ≡ c) es
+  pub legal : IsLegal new.shape new.journal
+  pub room : old.room ≤ new.room + length es
+  pub work : new.table.accesses ≤ old.table.accesses + 8 * length es
+
+-- the call recorded the allocation of page p, in a block of its choice
+pub record DidAlloc (old new : NodeState) (c p : ℕ) : Type 0 where
+  pub block : ℕ
+  pub did : Did old new c (by c (Alloc p block) ∷ [])
+
+-- the call was refused with r and changed nothing: for the reason that there is at the journal, or else for want of
+-- memory, where the room was too small for its m events
+pub record Refused (old new : NodeState) (why : Option Refusal) (m : ℕ) (r : Refusal) : Type 0 where
+  pub same : new ≡ old
+  pub cause : (why ≡ Some r) ⊎ ((why ≡ None) × (r ≡ OutOfMemory) × (old.room < m))

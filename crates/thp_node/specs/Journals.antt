@@ -1,0 +1,78 @@
+-- What the journal of a node keeps beside its events.
+use Rattle.std.specs.Prelude.{◌≡◌, ℕ, ◌*◌, ◌^◌, ◌≤◌, Bool, cond, nat_eq, length, List, slice_index_or, Option, Some, None}
+use Rattle.thp_model.specs.declared.events.Outcome.{Outcome}
+use Rattle.thp_model.specs.declared.events.Outcome.TheVariants.{Freed}
+use Rattle.thp_model.specs.declared.events.What.{What}
+use Rattle.thp_model.specs.declared.events.What.TheVariants.{UnmapWhole, UnmapSub, Unpin, Taken, Split, Back, Dropped}
+use Rattle.thp_model.specs.declared.shape.Shape.{Shape}
+use Rattle.thp_model.specs.Sets.{set_size}
+use Rattle.thp_model.specs.Shapes.{IsShape}
+use Rattle.thp_model.specs.History.{History}
+use Rattle.thp_model.specs.Counts.{is_closed, allocations}
+use Rattle.thp_model.specs.Counters.{thp_split_page, thp_split_page_failed, thp_deferred_split_page, thp_split_pmd}
+use Rattle.thp_model.specs.Frames.{frames_given}
+use Rattle.thp_model.specs.Places.{flights, flight}
+use Rattle.thp_model.specs.Legal.{IsLegal}
+use Rattle.thp_node.specs.Homes.{flier}
+use Rattle.thp_node.specs.declared.answers.Counters.{Counters}
+
+-- the node's shape, the events so far, and how many more there is room for
+pub record JournalState : Type 0 where
+  pub shape : Shape
+  pub events : History
+  pub room : ℕ
+
+-- the statistics that a history gives
+abbrev pub counters_of : History → Counters
+counters_of h = record {
+  split_page = thp_split_page h;
+  split_page_failed = thp_split_page_failed h;
+  deferred_split_page = thp_deferred_split_page h;
+  split_pmd = thp_split_pmd h;
+}
+
+-- the journal is legal, and the numbers beside it are what its events say
+pub record IsJournal (shape : Shape) (h : History) (next : ℕ) (closed : Bool) (flying : List ℕ) (given : ℕ) (counters : Counters) : Type 0 where
+  pub has_shape : IsShape shape
+  pub legal : IsLegal shape h
+  pub next_is : next ≡ allocations h
+  pub closed_is : closed ≡ is_closed h
+  -- also past the 64 callers, who have no page in flight
+  pub flying_are : (c : ℕ) → slice_index_or flying c 0 ≡ length (flight h c)
+  pub given_is : given ≡ frames_given h
+  pub counters_are : counters ≡ counters_of h
+  -- each event splits fewer than 2 ^ 32
+  pub few_split_pmds : thp_split_pmd h ≤ 2 ^ 32 * length h
+
+-- the flight that page p leaves by an outcome: that in which it is, where it is freed
+abbrev pub left_by : History → ℕ → Outcome → Option ℕ
+left_by h p Freed = flier p (flights h)
+left_by h p _ = None
+
+-- the caller whose flight a page leaves by what caller c does
+abbrev pub leaves_of : History → ℕ → What → Option ℕ
+leaves_of h c (UnmapWhole p outcome set) = left_by h p outcome
+leaves_of h c (UnmapSub p first count outcome set) = left_by h p outcome
+leaves_of h c (Unpin p outcome set) = left_by h p outcome
+leaves_of h c (Split p set) = Some c
+leaves_of h c (Back p) = Some c
+leaves_of h c (Dropped p) = Some c
+leaves_of h c _ = None
+
+-- the caller whose flight a page joins by what caller c does
+abbrev pub joins_of : ℕ → What → Option ℕ
+joins_of c (Taken p) = Some c
+joins_of c _ = None
+
+-- 1 for that caller, and 0 for another or where there is none
+abbrev pub one_for : Option ℕ → ℕ → ℕ
+one_for None d = 0
+one_for (Some c) d = cond (nat_eq c d) 1 0
+
+-- how many frames an event gives back
+abbrev pub frames_of : What → ℕ
+frames_of (UnmapWhole p outcome set) = set_size set
+frames_of (UnmapSub p first count outcome set) = set_size set
+frames_of (Unpin p outcome set) = set_size set
+frames_of (Split p set) = set_size set
+frames_of _ = 0

@@ -1,0 +1,12 @@
+pub mod Homes
+pub mod NodeState
+pub mod Journals
+pub mod Batches
+pub mod Calls
+pub mod Holding
+pub mod Linking
+pub mod PageCalls
+pub mod BlocksState
+pub mod Flying
+pub mod Takings
+pub mod Scanning

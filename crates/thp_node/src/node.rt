@@ -1,0 +1,141 @@
+//! A memory node: what it is made of, how it is made, and what can be read of it.
+ghost use Rattle.std.specs.Prelude.{◌≡◌, ℕ, ◌<◌, ◌≤◌, [], length, map, Some, ◌↔◌, Err, IfOk, IfErr, OnOk, OnErr};
+ghost use Rattle.thp_links.specs.Standing.{Stands};
+ghost use Rattle.thp_model.specs.Shapes.{IsShape};
+ghost use Rattle.thp_model.specs.Frames.{frames_given, frames_held};
+ghost use Rattle.thp_model.specs.Legal.{IsLegal};
+ghost use Rattle.thp_model.specs.Places.{queue};
+ghost use Rattle.thp_node.specs.Homes.{block_of};
+ghost use Rattle.thp_node.specs.Journals.{counters_of};
+
+mod batch_calls;
+mod list_calls;
+mod page_calls;
+mod return_calls;
+
+use crate::answers::{Counters, NewFault};
+use crate::blocks::Blocks;
+use crate::journal::Journal;
+use std::alloc::Global;
+use std::marker::Model;
+use thp_links::Queue;
+use thp_model::{Event, Refusal, Shape};
+use thp_page::PageTable;
+
+/// A memory node, used by one thread.
+///
+/// Contracts see its shape, its journal, its room, its table of pages and the blocks of its queue. The room is the number
+/// of events that can be recorded before the journal has to grow: a call whose events fit the room is never refused as
+/// `OutOfMemory`.
+#[derive(Drop)]
+pub struct Node {
+    journal: Journal,
+    blocks: Blocks,
+}
+
+impl Model for Node {
+    ghost use Rattle.thp_node.specs.NodeState.{NodeState};
+    ghost use Rattle.thp_node.specs.Holding.{IsNode};
+
+    ghost Value = { NodeState };
+
+    ghost view = { λ n. record { shape = n.journal.shape; journal = n.journal.events; room = n.journal.room; table = n.blocks.table; queue = n.blocks.queue } };
+
+    ghost invariant = { λ n. IsNode n.journal.shape n.journal.events n.blocks.table n.blocks.queue };
+}
+
+impl Node {
+    /// A node with no page, whose journal is empty.
+    pub fn new(alloc: Global, shape: Shape) -> Result<Node, NewFault>
+        ensures bad_size { (result ≡ Err NewFault.BadSize) ↔ ¬ IsShape shape }
+        ensures shape { IfOk result (λ n. n.shape ≡ shape) }
+        ensures journal { IfOk result (λ n. n.journal ≡ []) }
+    {
+        if !shape.is_valid() {
+            return Err(NewFault::BadSize);
+        }
+        match Blocks::new(alloc, shape) {
+            Ok(blocks) => Ok(Node {
+                journal: Journal::new(alloc, shape),
+                blocks,
+            }),
+            Err(_) => Err(NewFault::OutOfMemory),
+        }
+    }
+
+    /// Makes room for `k` events, or answers `OutOfMemory` and changes nothing. A scan counts here as three events for each
+    /// page that it takes.
+    pub fn reserve(&mut self, k: u32) -> Result<(), Refusal>
+        ensures same { self.new ≡ record self.old { room = self.new.room } }
+        ensures more { self.old.room ≤ self.new.room }
+        ensures room { OnOk result (k ≤ self.new.room) }
+        ensures only_memory { IfErr result (λ r. r ≡ Refusal.OutOfMemory) }
+        ensures full { OnErr result (self.old.room < k) }
+        ensures refused { OnErr result (self.new ≡ self.old) }
+    {
+        match self.journal.reserve(k as usize) {
+            Ok(()) => Ok(()),
+            Err(_) => Err(Refusal::OutOfMemory),
+        }
+    }
+
+    /// The node's shape.
+    pub fn shape(&self) -> Shape
+        ensures value { result ≡ self.now.shape }
+        ensures valid { IsShape self.now.shape }
+    {
+        self.journal.shape()
+    }
+
+    /// What happened so far, the oldest event first: a legal history.
+    pub fn journal(&self) -> &[Event]
+        ensures value { result.now ≡ self.now.journal }
+        ensures legal { IsLegal self.now.shape self.now.journal }
+    {
+        self.journal.events()
+    }
+
+    /// The table of pages, in whose links the queue stands.
+    pub fn table(&self) -> &PageTable
+        ensures { result.now ≡ self.now.table }
+    {
+        self.blocks.table()
+    }
+
+    /// The deferred split queue: the blocks of the queued pages, the oldest first.
+    pub fn queue(&self) -> &Queue
+        ensures value { result.now ≡ self.now.queue }
+        ensures stands { Stands self.now.queue self.now.table.links }
+        ensures pages { map (block_of self.now.journal) (queue self.now.journal) ≡ map (λ b. Some b) self.now.queue }
+    {
+        self.blocks.queue()
+    }
+
+    /// How many pages are queued, which is what the shrinker counts.
+    pub fn queue_len(&self) -> u32
+        ensures { result ≡ length (queue self.now.journal) }
+    {
+        self.blocks.queue().len()
+    }
+
+    /// How many frames were given back.
+    pub fn frames_given(&self) -> u128
+        ensures { result ≡ frames_given self.now.journal }
+    {
+        self.journal.frames_given()
+    }
+
+    /// How many frames the live pages hold.
+    pub fn frames_held(&self) -> u128
+        ensures { result ≡ frames_held self.now.shape self.now.journal }
+    {
+        self.journal.frames_held()
+    }
+
+    /// The node's statistics.
+    pub fn counters(&self) -> Counters
+        ensures { result ≡ counters_of self.now.journal }
+    {
+        self.journal.counters()
+    }
+}

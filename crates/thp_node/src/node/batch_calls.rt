@@ -1,0 +1,171 @@
+//! The shrinker's calls: a take, tries, a put-back, and the scan that is made of them.
+ghost use Rattle.std.specs.Prelude.{◌≡◌, ℕ, ◌+◌, ◌*◌, ◌<◌, ◌≤◌, Bool, true, false, ◌||◌, [], ◌∷◌, length, drop, take, slice_get, Option, None, Some, IfOk, IfErr, IfSome, IfNone, OnOk, OnErr};
+ghost use Rattle.thp_model.specs.History.{by};
+ghost use Rattle.thp_model.specs.Counts.{is_closed};
+ghost use Rattle.thp_model.specs.Legal.{IsLegal};
+ghost use Rattle.thp_model.specs.Places.{queue, flight, no_pages, is_taking, has_page};
+ghost use Rattle.thp_model.specs.Refusals.{refusal};
+ghost use Rattle.thp_model.specs.Refusals as call;
+ghost use Rattle.thp_model.specs.Runs.{take_events, split_next_events, put_back_events, scan_events, next_page, rest_after, still_flying, try_event, return_event};
+ghost use Rattle.thp_node.specs.Batches.{rest, tried, back_reply, scan_reply, IsInFront};
+ghost use Rattle.thp_node.specs.Calls.{Did, Refused};
+
+use crate::answers::{BackReply, ScanReply, Tried};
+use crate::batch::Batch;
+use crate::node::Node;
+use thp_model::{PageId, Refusal, What};
+
+impl Node {
+    ghost use Rattle.thp_node.specs.Flying.{IsFlyingAt, IsUnpinnedAt};
+
+    /// Takes up to `n` pages, the oldest of the queue in order, into a batch of the caller. Refused as `HasBatch`.
+    pub fn take(&mut self, caller: u32, n: u32) -> Result<Batch, Refusal>
+        requires caller { caller < 64 }
+        requires count { n ≤ 128 }
+        ensures allowed { OnOk result (refusal self.old.shape self.old.journal (call.take caller) ≡ None) }
+        ensures batch { IfOk result (λ b. b ≡ record { caller = caller; pages = take n (queue self.old.journal); place = 0 }) }
+        ensures recorded { OnOk result (Did self.old self.new caller (take_events self.old.journal caller n)) }
+        ensures refused { IfErr result (Refused self.old self.new (refusal self.old.shape self.old.journal (call.take caller)) (length (take_events self.old.journal caller n))) }
+    {
+        if self.journal.flying(caller) != 0 {
+            return Err(Refusal::HasBatch);
+        }
+        let count = n.min(self.blocks.queue().len());
+        if let Err(_) = self.journal.reserve(count as usize) {
+            return Err(Refusal::OutOfMemory);
+        }
+        Ok(self.take_oldest(caller, count))
+    }
+
+    // Takes the `count` oldest pages, for which there is room.
+    fn take_oldest(&mut self, caller: u32, count: u32) -> Batch
+        requires caller { caller < 64 }
+        requires few { count ≤ 128 }
+        requires queued { count ≤ length (queue self.old.journal) }
+        requires room { count ≤ self.old.room }
+        requires may_take { no_pages (flight self.old.journal caller) ≡ true }
+        requires legal { IsLegal self.old.shape self.old.journal }
+        ensures batch { result ≡ record { caller = caller; pages = take count (queue self.old.journal); place = 0 } }
+        ensures did { Did self.old self.new caller (take_events self.old.journal caller count) }
+    {
+        let mut batch = Batch::new(caller);
+        for _taken in 0..count {
+            let page = self.take_one(caller);
+            batch.push(page);
+        }
+        batch
+    }
+
+    // Takes the oldest page of the queue.
+    fn take_one(&mut self, caller: u32) -> PageId
+        requires caller { caller < 64 }
+        requires queued { 0 < length (queue self.old.journal) }
+        requires room { 0 < self.old.room }
+        requires may_take { (no_pages (flight self.old.journal caller) || is_taking self.old.journal caller) ≡ true }
+        ensures oldest { slice_get (queue self.old.journal) 0 ≡ Some result }
+        ensures did { Did self.old self.new caller (by caller (What.Taken result) ∷ []) }
+    {
+        let page = self.blocks.take_first(caller);
+        self.journal.record(caller, What::Taken { page }, None, 0);
+        page
+    }
+
+    /// Tries the next page of a batch that is still in the flight of the batch's caller: splits it, or finds it pinned and
+    /// leaves it in the flight. `Done` where no page is left to be tried.
+    ///
+    /// A page of the batch that was freed since is passed over, whatever page lies in its block now.
+    pub fn split_next(&mut self, batch: &mut Batch) -> Result<Tried, Refusal>
+        ensures tried { IfOk result (λ t. t ≡ tried self.old.journal (next_page self.old.journal batch.old.caller (rest batch.old))) }
+        ensures recorded { OnOk result (Did self.old self.new batch.old.caller (split_next_events self.old.shape self.old.journal batch.old.caller (rest batch.old))) }
+        ensures rest { OnOk result (rest batch.new ≡ rest_after self.old.journal batch.old.caller (rest batch.old)) }
+        ensures same_caller { batch.new.caller ≡ batch.old.caller }
+        ensures same_pages { batch.new.pages ≡ batch.old.pages }
+        ensures refused { IfErr result (Refused self.old self.new None (length (split_next_events self.old.shape self.old.journal batch.old.caller (rest batch.old)))) }
+        ensures kept { OnErr result (batch.new ≡ batch.old) }
+    {
+        let caller = batch.caller();
+        match self.next_flying(caller, batch.rest()) {
+            None => {
+                batch.finish();
+                Ok(Tried::Done)
+            }
+            Some((passed, block, page)) => {
+                if let Err(_) = self.journal.reserve(1) {
+                    return Err(Refusal::OutOfMemory);
+                }
+                batch.advance(passed + 1);
+                Ok(self.try_page(caller, block, page))
+            }
+        }
+    }
+
+    // The first of some pages that is in a caller's flight: how many stand before it, its block and its number.
+    fn next_flying(&self, caller: u32, pages: &[PageId]) -> Option<(usize, u32, PageId)>
+        requires { caller < 64 }
+        ensures none { IfNone result (next_page self.now.journal caller pages.now ≡ None) }
+        ensures page { IfSome result (λ f. next_page self.now.journal caller pages.now ≡ Some f.2) }
+        ensures rest { IfSome result (λ f. rest_after self.now.journal caller pages.now ≡ drop (f.0 + 1) pages.now) }
+        ensures inside { IfSome result (λ f. f.0 < length pages.now) }
+        ensures block { IfSome result (λ f. IsFlyingAt self.now.table caller f.2 f.1) }
+    {
+        for (passed, &page) in pages.iter().enumerate() {
+            if let Some(block) = self.flying_block(caller, page) {
+                return Some((passed, block, page));
+            }
+        }
+        None
+    }
+
+    // The block of a page that is in a caller's flight.
+    pub(super) fn flying_block(&self, caller: u32, page: PageId) -> Option<u32>
+        ensures none { IfNone result (has_page page (flight self.now.journal caller) ≡ false) }
+        ensures flies { IfSome result (λ b. has_page page (flight self.now.journal caller) ≡ true) }
+        ensures block { IfSome result (IsFlyingAt self.now.table caller page) }
+    {
+        match self.blocks.find(page) {
+            Some(block) => {
+                if self.blocks.is_in_batch(block, caller) {
+                    Some(block)
+                } else {
+                    None
+                }
+            }
+            None => None,
+        }
+    }
+
+    // Tries the page of a block, which is in the caller's flight: splits it, or finds it pinned.
+    fn try_page(&mut self, caller: u32, block: u32, page: PageId) -> Tried
+        requires caller { caller < 64 }
+        requires room { 0 < self.old.room }
+        requires flies { IsFlyingAt self.old.table caller page block }
+        ensures tried { result ≡ tried self.old.journal (Some page) }
+        ensures did { Did self.old self.new caller (try_event self.old.shape self.old.journal caller page ∷ []) }
+    {
+        if self.blocks.pins(block) == 0 {
+            self.split_page(caller, block, page);
+            Tried::Split(page)
+        } else {
+            self.journal.record(caller, What::Pinned { page }, None, 0);
+            Tried::Pinned(page)
+        }
+    }
+
+    // Splits the page of a block, which is in the caller's flight and has no pins.
+    fn split_page(&mut self, caller: u32, block: u32, page: PageId)
+        requires caller { caller < 64 }
+        requires room { 0 < self.old.room }
+        requires flies { IsFlyingAt self.old.table caller page block }
+        requires unpinned { IsUnpinnedAt self.old.table block }
+        ensures did { Did self.old self.new caller (try_event self.old.shape self.old.journal caller page ∷ []) }
+    {
+        let split_pmds = self.blocks.whole(block);
+        let released = self.blocks.split(block);
+        self.journal.record(
+            caller,
+            What::Split { page, released },
+            Some(caller),
+            split_pmds,
+        );
+    }
+}

@@ -1,0 +1,54 @@
+//! The calls about the node: a new page, and the close.
+ghost use Rattle.std.specs.Prelude.{◌≡◌, ℕ, ◌<◌, [], ◌∷◌, None, IfOk, IfErr, OnOk};
+ghost use Rattle.thp_model.specs.Counts.{allocations};
+ghost use Rattle.thp_model.specs.History.{by};
+ghost use Rattle.thp_model.specs.Refusals.{refusal};
+ghost use Rattle.thp_model.specs.Refusals as call;
+ghost use Rattle.thp_node.specs.Calls.{Did, DidAlloc, Refused};
+
+use crate::node::Node;
+use thp_model::{PageId, Refusal, What};
+
+impl Node {
+    /// A new page, mapped whole once, in a block of no live page. Its number is the count of allocations before it.
+    /// Refused as `Closed` and `NoBlock`.
+    pub fn alloc_page(&mut self, caller: u32) -> Result<PageId, Refusal>
+        requires { caller < 64 }
+        ensures allowed { OnOk result (refusal self.old.shape self.old.journal call.alloc_page ≡ None) }
+        ensures number { IfOk result (λ p. p ≡ allocations self.old.journal) }
+        ensures recorded { IfOk result (DidAlloc self.old self.new caller) }
+        ensures refused { IfErr result (Refused self.old self.new (refusal self.old.shape self.old.journal call.alloc_page) 1) }
+    {
+        if self.journal.is_closed() {
+            return Err(Refusal::Closed);
+        }
+        if !self.blocks.has_free() {
+            return Err(Refusal::NoBlock);
+        }
+        if let Err(_) = self.journal.reserve(1) {
+            return Err(Refusal::OutOfMemory);
+        }
+        let page = PageId(self.journal.next());
+        let block = self.blocks.place(page);
+        self.journal
+            .record(caller, What::Alloc { page, block }, None, 0);
+        Ok(page)
+    }
+
+    /// Closes the node: from here on nothing enters the queue and no page is allocated. Refused as `Closed`.
+    pub fn close(&mut self, caller: u32) -> Result<(), Refusal>
+        requires { caller < 64 }
+        ensures allowed { OnOk result (refusal self.old.shape self.old.journal call.close ≡ None) }
+        ensures recorded { OnOk result (Did self.old self.new caller (by caller What.Close ∷ [])) }
+        ensures refused { IfErr result (Refused self.old self.new (refusal self.old.shape self.old.journal call.close) 1) }
+    {
+        if self.journal.is_closed() {
+            return Err(Refusal::Closed);
+        }
+        if let Err(_) = self.journal.reserve(1) {
+            return Err(Refusal::OutOfMemory);
+        }
+        self.journal.record(caller, What::Close, None, 0);
+        Ok(())
+    }
+}

@@ -1,0 +1,161 @@
+//! The calls about one page: its mappings and its pins.
+ghost use Rattle.std.specs.Prelude.{◌≡◌, ℕ, ◌<◌, ◌≤◌, [], ◌∷◌, None, Some, IfOk, IfErr, OnOk};
+ghost use Rattle.thp_model.specs.History.{by};
+ghost use Rattle.thp_model.specs.Frames.{outcome, released};
+ghost use Rattle.thp_model.specs.Refusals.{refusal};
+ghost use Rattle.thp_model.specs.Refusals as call;
+ghost use Rattle.thp_node.specs.Calls.{Did, Refused};
+ghost use Rattle.thp_node.specs.Homes.{block_of};
+ghost use Rattle.thp_node.specs.PageCalls.{gain_call, loss_call, page_call, gain_what, loss_what};
+
+use crate::answers::Done;
+use crate::node::Node;
+use crate::page_call::{Gain, Loss, PageCall};
+use thp_model::{PageId, Refusal, What};
+
+impl Node {
+    /// One more mapping of the whole page, by a PMD entry. Refused as `NoPage`, `IsSplit` and `TooMany`.
+    pub fn map_whole(&mut self, caller: u32, page: PageId) -> Result<(), Refusal>
+        requires { caller < 64 }
+        ensures allowed { OnOk result (refusal self.old.shape self.old.journal (call.map_whole page) ≡ None) }
+        ensures recorded { OnOk result (Did self.old self.new caller (by caller (What.MapWhole page) ∷ [])) }
+        ensures refused { IfErr result (Refused self.old self.new (refusal self.old.shape self.old.journal (call.map_whole page)) 1) }
+    {
+        self.gain(caller, page, Gain::MapWhole)
+    }
+
+    /// One mapping of the whole page less. Refused as `NoPage`, `IsSplit` and `NotMapped`.
+    pub fn unmap_whole(&mut self, caller: u32, page: PageId) -> Result<Done, Refusal>
+        requires { caller < 64 }
+        ensures allowed { OnOk result (refusal self.old.shape self.old.journal (call.unmap_whole page) ≡ None) }
+        ensures recorded { IfOk result (λ d. Did self.old self.new caller (by caller (What.UnmapWhole page d.outcome d.released) ∷ [])) }
+        ensures outcome { IfOk result (λ d. d.outcome ≡ outcome self.old.shape self.old.journal self.new.journal page) }
+        ensures released { IfOk result (λ d. d.released ≡ released self.old.shape self.old.journal self.new.journal page) }
+        ensures refused { IfErr result (Refused self.old self.new (refusal self.old.shape self.old.journal (call.unmap_whole page)) 1) }
+    {
+        self.lose(caller, page, Loss::UnmapWhole)
+    }
+
+    /// One more mapping of each of the `count` subpages from `first` on, by PTE entries. Refused as `NoPage`, `BadRange`,
+    /// `Gone` and `TooMany`.
+    pub fn map_sub(
+        &mut self,
+        caller: u32,
+        page: PageId,
+        first: u32,
+        count: u32,
+    ) -> Result<(), Refusal>
+        requires { caller < 64 }
+        ensures allowed { OnOk result (refusal self.old.shape self.old.journal (call.map_sub page first count) ≡ None) }
+        ensures recorded { OnOk result (Did self.old self.new caller (by caller (What.MapSub page first count) ∷ [])) }
+        ensures refused { IfErr result (Refused self.old self.new (refusal self.old.shape self.old.journal (call.map_sub page first count)) 1) }
+    {
+        self.gain(caller, page, Gain::MapSub { first, count })
+    }
+
+    /// One mapping of each of the `count` subpages from `first` on less. Refused as `NoPage`, `BadRange` and `NotMapped`.
+    ///
+    /// Where that leaves the page partly in use it is queued for splitting, and nothing is freed at once
+    /// (mm/transhuge.rst, "Partial unmap and deferred_split_huge_page()").
+    pub fn unmap_sub(
+        &mut self,
+        caller: u32,
+        page: PageId,
+        first: u32,
+        count: u32,
+    ) -> Result<Done, Refusal>
+        requires { caller < 64 }
+        ensures allowed { OnOk result (refusal self.old.shape self.old.journal (call.unmap_sub page first count) ≡ None) }
+        ensures recorded { IfOk result (λ d. Did self.old self.new caller (by caller (What.UnmapSub page first count d.outcome d.released) ∷ [])) }
+        ensures outcome { IfOk result (λ d. d.outcome ≡ outcome self.old.shape self.old.journal self.new.journal page) }
+        ensures released { IfOk result (λ d. d.released ≡ released self.old.shape self.old.journal self.new.journal page) }
+        ensures refused { IfErr result (Refused self.old self.new (refusal self.old.shape self.old.journal (call.unmap_sub page first count)) 1) }
+    {
+        self.lose(caller, page, Loss::UnmapSub { first, count })
+    }
+
+    /// Makes one mapping of the whole page into one of each subpage, whatever references there are. Refused as `NoPage`,
+    /// `IsSplit` and `NotMapped`.
+    pub fn split_pmd(&mut self, caller: u32, page: PageId) -> Result<(), Refusal>
+        requires { caller < 64 }
+        ensures allowed { OnOk result (refusal self.old.shape self.old.journal (call.split_pmd page) ≡ None) }
+        ensures recorded { OnOk result (Did self.old self.new caller (by caller (What.SplitPmd page) ∷ [])) }
+        ensures refused { IfErr result (Refused self.old self.new (refusal self.old.shape self.old.journal (call.split_pmd page)) 1) }
+    {
+        self.gain(caller, page, Gain::SplitPmd)
+    }
+
+    /// One more pin, which keeps the page from being split. Refused as `NoPage`, `IsSplit` and `TooMany`.
+    pub fn pin(&mut self, caller: u32, page: PageId) -> Result<(), Refusal>
+        requires { caller < 64 }
+        ensures allowed { OnOk result (refusal self.old.shape self.old.journal (call.pin page) ≡ None) }
+        ensures recorded { OnOk result (Did self.old self.new caller (by caller (What.Pin page) ∷ [])) }
+        ensures refused { IfErr result (Refused self.old self.new (refusal self.old.shape self.old.journal (call.pin page)) 1) }
+    {
+        self.gain(caller, page, Gain::Pin)
+    }
+
+    /// One pin less. Refused as `NoPage`, `IsSplit` and `NotPinned`.
+    pub fn unpin(&mut self, caller: u32, page: PageId) -> Result<Done, Refusal>
+        requires { caller < 64 }
+        ensures allowed { OnOk result (refusal self.old.shape self.old.journal (call.unpin page) ≡ None) }
+        ensures recorded { IfOk result (λ d. Did self.old self.new caller (by caller (What.Unpin page d.outcome d.released) ∷ [])) }
+        ensures outcome { IfOk result (λ d. d.outcome ≡ outcome self.old.shape self.old.journal self.new.journal page) }
+        ensures released { IfOk result (λ d. d.released ≡ released self.old.shape self.old.journal self.new.journal page) }
+        ensures refused { IfErr result (Refused self.old self.new (refusal self.old.shape self.old.journal (call.unpin page)) 1) }
+    {
+        self.lose(caller, page, Loss::Unpin)
+    }
+
+    // A call that gives a page mappings or a pin.
+    fn gain(&mut self, caller: u32, page: PageId, gain: Gain) -> Result<(), Refusal>
+        requires { caller < 64 }
+        ensures allowed { OnOk result (refusal self.old.shape self.old.journal (gain_call gain page) ≡ None) }
+        ensures recorded { OnOk result (Did self.old self.new caller (by caller (gain_what gain page) ∷ [])) }
+        ensures refused { IfErr result (Refused self.old self.new (refusal self.old.shape self.old.journal (gain_call gain page)) 1) }
+    {
+        let block = self.admit(page, PageCall::Gain(gain))?;
+        self.blocks.gain(block, gain);
+        self.journal
+            .record(caller, gain.what(page), None, gain.split_pmds());
+        Ok(())
+    }
+
+    // A call that takes mappings or a pin from a page.
+    fn lose(&mut self, caller: u32, page: PageId, loss: Loss) -> Result<Done, Refusal>
+        requires { caller < 64 }
+        ensures allowed { OnOk result (refusal self.old.shape self.old.journal (loss_call loss page) ≡ None) }
+        ensures recorded { IfOk result (λ d. Did self.old self.new caller (by caller (loss_what loss page d.outcome d.released) ∷ [])) }
+        ensures outcome { IfOk result (λ d. d.outcome ≡ outcome self.old.shape self.old.journal self.new.journal page) }
+        ensures released { IfOk result (λ d. d.released ≡ released self.old.shape self.old.journal self.new.journal page) }
+        ensures refused { IfErr result (Refused self.old self.new (refusal self.old.shape self.old.journal (loss_call loss page)) 1) }
+    {
+        let block = self.admit(page, PageCall::Loss(loss))?;
+        let closed = self.journal.is_closed();
+        let (done, left) = self.blocks.lose(block, loss, closed);
+        self.journal.record(caller, loss.what(page, &done), left, 0);
+        Ok(done)
+    }
+
+    // The block of a page of which a call may be made, with room in the journal for its event; or why it is refused.
+    fn admit(&mut self, page: PageId, call: PageCall) -> Result<u32, Refusal>
+        ensures block { IfOk result (λ b. block_of self.old.journal page ≡ Some b) }
+        ensures allowed { OnOk result (refusal self.old.shape self.old.journal (page_call call page) ≡ None) }
+        ensures room { OnOk result (0 < self.new.room) }
+        ensures more { self.old.room ≤ self.new.room }
+        ensures same { self.new ≡ record self.old { room = self.new.room } }
+        ensures refused { IfErr result (Refused self.old self.new (refusal self.old.shape self.old.journal (page_call call page)) 1) }
+    {
+        let block = match self.blocks.find(page) {
+            Some(block) => block,
+            None => return Err(Refusal::NoPage),
+        };
+        if let Some(refusal) = self.blocks.refusal(block, call) {
+            return Err(refusal);
+        }
+        match self.journal.reserve(1) {
+            Ok(()) => Ok(block),
+            Err(_) => Err(Refusal::OutOfMemory),
+        }
+    }
+}

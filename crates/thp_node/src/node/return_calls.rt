@@ -1,0 +1,168 @@
+//! The calls by which pages leave a batch together: a put-back, and the scan that is a take, tries and a put-back.
+ghost use Rattle.std.specs.Prelude.{◌≡◌, ℕ, ◌*◌, ◌<◌, ◌≤◌, [], ◌∷◌, length, map, slice_get, None, Some, IfOk, IfErr, OnOk};
+ghost use Rattle.thp_model.specs.Legal.{IsLegal};
+ghost use Rattle.thp_model.specs.Places.{flight};
+ghost use Rattle.thp_model.specs.Refusals.{refusal};
+ghost use Rattle.thp_model.specs.Refusals as call;
+ghost use Rattle.thp_model.specs.Runs.{take_events, put_back_events, scan_events, still_flying, try_event, return_event};
+ghost use Rattle.thp_node.specs.Batches.{back_reply, scan_reply, IsInFront};
+ghost use Rattle.thp_node.specs.Calls.{Did, Refused};
+
+use crate::answers::{BackReply, ScanReply};
+use crate::batch::Batch;
+use crate::node::Node;
+use thp_model::{PageId, Refusal, What};
+
+impl Node {
+    ghost use Rattle.thp_node.specs.Flying.{IsFlyingAt};
+    ghost use Rattle.thp_node.specs.Scanning.{events_behind};
+
+    /// Returns the pages of a batch that are still in the flight of the batch's caller, in the batch's order: to the tail of
+    /// the queue, or nowhere where the node is closed. With no memory for that it hands the batch back.
+    ///
+    /// A page of the batch that was freed or split since is passed over.
+    pub fn put_back(&mut self, batch: Batch) -> Result<BackReply, (Batch, Refusal)>
+        requires front { IsInFront self.old.journal batch }
+        ensures reply { IfOk result (λ r. r ≡ back_reply self.old.journal (still_flying self.old.journal batch.caller batch.pages)) }
+        ensures recorded { OnOk result (Did self.old self.new batch.caller (put_back_events self.old.journal batch.caller batch.pages)) }
+        ensures refused { IfErr result (λ e. Refused self.old self.new None (length (put_back_events self.old.journal batch.caller batch.pages)) e.1) }
+        ensures handed_back { IfErr result (λ e. e.0 ≡ batch) }
+    {
+        let count = self.count_flying(batch.caller(), batch.pages());
+        if let Err(_) = self.journal.reserve(count as usize) {
+            return Err((batch, Refusal::OutOfMemory));
+        }
+        let closed = self.journal.is_closed();
+        self.return_all(&batch);
+        if closed {
+            Ok(BackReply {
+                back: 0,
+                dropped: count,
+            })
+        } else {
+            Ok(BackReply {
+                back: count,
+                dropped: 0,
+            })
+        }
+    }
+
+    // How many pages of a batch are in a caller's flight.
+    fn count_flying(&self, caller: u32, pages: &[PageId]) -> u32
+        requires { length pages.now ≤ 128 }
+        ensures { result ≡ length (still_flying self.now.journal caller pages.now) }
+    {
+        let mut count = 0;
+        for &page in pages {
+            if let Some(_) = self.flying_block(caller, page) {
+                count += 1;
+            }
+        }
+        count
+    }
+
+    // Returns the pages of a batch that are in flight, for which there is room.
+    fn return_all(&mut self, batch: &Batch)
+        requires legal { IsLegal self.old.shape self.old.journal }
+        requires front { IsInFront self.old.journal batch.now }
+        requires room { length (still_flying self.old.journal batch.now.caller batch.now.pages) ≤ self.old.room }
+        ensures did { Did self.old self.new batch.now.caller (put_back_events self.old.journal batch.now.caller batch.now.pages) }
+    {
+        let caller = batch.caller();
+        for &page in batch.pages() {
+            if let Some(block) = self.flying_block(caller, page) {
+                self.return_page(caller, block, page);
+            }
+        }
+    }
+
+    // Returns the page of a block, which is the first of the caller's flight.
+    fn return_page(&mut self, caller: u32, block: u32, page: PageId)
+        requires caller { caller < 64 }
+        requires room { 0 < self.old.room }
+        requires flies { IsFlyingAt self.old.table caller page block }
+        requires first { slice_get (flight self.old.journal caller) 0 ≡ Some page }
+        ensures did { Did self.old self.new caller (return_event self.old.journal caller page ∷ []) }
+    {
+        if self.journal.is_closed() {
+            self.blocks.drop_out(block);
+            self.journal
+                .record(caller, What::Dropped { page }, Some(caller), 0);
+        } else {
+            self.blocks.enqueue(block);
+            self.journal
+                .record(caller, What::Back { page }, Some(caller), 0);
+        }
+    }
+
+    /// Takes up to `n` pages, the oldest of the queue in order, tries each of them, and returns those that are pinned: to the
+    /// tail of the queue, or nowhere where the node is closed. Refused as `HasBatch`.
+    ///
+    /// It makes room for three events for each page at first, and changes nothing where the memory for that isn't there.
+    pub fn scan(&mut self, caller: u32, n: u32) -> Result<ScanReply, Refusal>
+        requires caller { caller < 64 }
+        requires count { n ≤ 128 }
+        ensures allowed { OnOk result (refusal self.old.shape self.old.journal (call.scan caller) ≡ None) }
+        ensures recorded { OnOk result (Did self.old self.new caller (scan_events self.old.shape self.old.journal caller n)) }
+        ensures reply { IfOk result (λ r. r ≡ scan_reply (scan_events self.old.shape self.old.journal caller n)) }
+        ensures refused { IfErr result (Refused self.old self.new (refusal self.old.shape self.old.journal (call.scan caller)) (3 * length (take_events self.old.journal caller n))) }
+    {
+        if self.journal.flying(caller) != 0 {
+            return Err(Refusal::HasBatch);
+        }
+        let count = n.min(self.blocks.queue().len());
+        if let Err(_) = self.journal.reserve(3 * count as usize) {
+            return Err(Refusal::OutOfMemory);
+        }
+        match self.take(caller, n) {
+            Ok(batch) => Ok(self.scan_batch(batch)),
+            Err(_) => unreachable!(),
+        }
+    }
+
+    // Tries each page of a batch that was just taken, and returns those that are pinned, for which there is room.
+    fn scan_batch(&mut self, batch: Batch) -> ScanReply
+        requires legal { IsLegal self.old.shape self.old.journal }
+        requires flies { flight self.old.journal batch.caller ≡ batch.pages }
+        requires untried { batch.place ≡ 0 }
+        requires room { 2 * length batch.pages ≤ self.old.room }
+        ensures reply { result ≡ record (scan_reply (events_behind self.old.shape self.old.journal batch.caller batch.pages)) { taken = length batch.pages } }
+        ensures did { Did self.old self.new batch.caller (events_behind self.old.shape self.old.journal batch.caller batch.pages) }
+    {
+        let mut batch = batch;
+        let taken = batch.pages().len() as u32;
+        self.try_all(&mut batch);
+        match self.put_back(batch) {
+            Ok(BackReply { back, dropped }) => {
+                // those that weren't split are the pinned ones
+                let pinned = back + dropped;
+                ScanReply {
+                    taken,
+                    split: taken - pinned,
+                    pinned,
+                    back,
+                    dropped,
+                }
+            }
+            Err(_) => unreachable!(),
+        }
+    }
+
+    // Tries each page of a batch that was just taken, for which there is room.
+    fn try_all(&mut self, batch: &mut Batch)
+        requires legal { IsLegal self.old.shape self.old.journal }
+        requires flies { flight self.old.journal batch.old.caller ≡ batch.old.pages }
+        requires untried { batch.old.place ≡ 0 }
+        requires room { length batch.old.pages ≤ self.old.room }
+        ensures did { Did self.old self.new batch.old.caller (map (try_event self.old.shape self.old.journal batch.old.caller) batch.old.pages) }
+        ensures same_caller { batch.new.caller ≡ batch.old.caller }
+        ensures same_pages { batch.new.pages ≡ batch.old.pages }
+    {
+        for _tried in 0..batch.pages().len() {
+            match self.split_next(batch) {
+                Ok(_) => {}
+                Err(_) => unreachable!(),
+            }
+        }
+    }
+}

@@ -1,0 +1,14 @@
+pub mod SomeBelow
+pub mod SubSets
+pub mod RangeLemmas
+pub mod FoundSets
+pub mod RangeCounts
+pub mod PageSizes
+pub mod PageRefusals
+pub mod PageChanges
+pub mod PageUse
+pub mod MappedCounts
+pub mod Halves
+pub mod TableSlots
+pub mod TableSteps
+pub mod Recording

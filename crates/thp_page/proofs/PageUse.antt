@@ -1,0 +1,145 @@
+-- Which subpages are in use, which go out of use, and which frames that gives back.
+use Rattle.std.proofs.Common.{◌≡◌, ◌≢◌, ℕ, ◌+◌, ◌^◌, ◌<◌, ◌≤◌, Bool, true, false, not, ◌&&◌, ◌||◌, cond, nat_eq, nat_lt, List, refl, ap, ap₂, sym, ◌∙◌, arith, inl, inr}
+use Rattle.std.proofs.lemmas.Bool.Decides.{nat_tests}
+use Rattle.std.proofs.lemmas.Bool.{cases_lt}
+use Rattle.thp_model.specs.Sets.{covers, set_of, has}
+use Rattle.thp_model.specs.Words.{get_or-set_of}
+use Rattle.thp_model.specs.Frames.{count_below}
+use Rattle.thp_model.specs.Pages.{PageState, size, own_at, total_at, holds, used_set, has_use, drops_use, gives_frames, WholeMapped, RangeMapped, PageSplit}
+use Rattle.thp_page.specs.Changes.{unused_set}
+use Rattle.thp_page.specs.PageView.{mapped_count}
+use Rattle.thp_page.specs.Ranges.{count_in_range}
+use Rattle.thp_model.proofs.Below.{some_yes, some_no, some_below-ext}
+use Rattle.thp_page.proofs.RangeCounts.{some_below-count}
+use Rattle.thp_page.proofs.MappedCounts.{mapped_or_not}
+use Rattle.thp_page.proofs.SubSets.{set_of-ext}
+use Rattle.thp_page.proofs.PageSizes.{size_least, size_most, range_test, whole_test, same_size}
+
+-- a page that is mapped whole is in use
+pub has_use-mapped : (t : PageState) → 2 ≤ t.order → 0 < t.whole → has_use t ≡ true
+has_use-mapped t least mapped =
+    some_yes (size t) (λ i. nat_lt 0 (total_at t i)) 0 (omega (arith, size_least t least)) (go t.whole (own_at t 0) mapped) where
+      go : (w x : ℕ) → 0 < w → nat_lt 0 (w + x) ≡ true
+      go w x h = grind (arith, nat_tests)
+
+-- another is where a subpage has a mapping of its own
+pub has_use-unmapped : (t : PageState) → t.whole ≡ 0 → has_use t ≡ nat_lt 0 (mapped_count t)
+has_use-unmapped t unmapped =
+    some_below-ext (size t) (λ i. nat_lt 0 (total_at t i)) (λ i. nat_lt 0 (own_at t i)) (λ i below. go t.whole (own_at t i) unmapped)
+    ∙ some_below-count (size t) (λ i. nat_lt 0 (own_at t i)) where
+      go : (w x : ℕ) → w ≡ 0 → nat_lt 0 (w + x) ≡ nat_lt 0 x
+      go w x h = grind (arith, nat_tests)
+
+-- the last whole mapping goes: a subpage goes out of use where not each has a mapping of its own
+pub drops_use-last : (t u : PageState) → WholeMapped u t → t.whole ≡ 1 → drops_use t u ≡ nat_lt (mapped_count t) (size t)
+drops_use-last t u r last =
+    some_below-ext (size t) (λ i. nat_lt 0 (total_at t i) && nat_eq (total_at u i) 0) (λ i. nat_eq (own_at t i) 0)
+    (λ i below. go t.whole u.whole (own_at t i) (own_at u i) last r.whole (r.own i (omega (arith, same_size t u (sym r.order)))))
+    ∙ some_below-count (size t) (λ i. nat_eq (own_at t i) 0)
+    ∙ rest (count_below (size t) (λ i. nat_eq (own_at t i) 0)) (mapped_count t) (size t) (mapped_or_not t) where
+      go : (w v x y : ℕ) → w ≡ 1 → w ≡ v + 1 → x ≡ y → (nat_lt 0 (w + x) && nat_eq (v + y) 0) ≡ nat_eq x 0
+      go w v x y e f g = grind (arith, nat_tests)
+
+      rest : (m k n : ℕ) → n ≡ k + m → nat_lt 0 m ≡ nat_lt k n
+      rest m k n e = grind (arith, nat_tests)
+
+-- a whole mapping is left: no subpage goes out of use
+pub drops_use-mapped : (t u : PageState) → 0 < u.whole → drops_use t u ≡ false
+drops_use-mapped t u mapped =
+    some_no (size t) (λ i. nat_lt 0 (total_at t i) && nat_eq (total_at u i) 0) (λ i below. go u.whole (own_at u i) (nat_lt 0 (total_at t i)) mapped) where
+      go : (v y : ℕ) (b : Bool) → 0 < v → (b && nat_eq (v + y) 0) ≡ false
+      go v y b h = grind (arith, nat_tests)
+
+-- no whole mapping, and one mapping of each subpage of a range goes: those that had just one go out of use
+pub drops_use-range : (t u : PageState) (first count : ℕ) → t.order ≤ 9 → RangeMapped first count u t → first + count ≤ size t → t.whole ≡ 0 →
+    drops_use t u ≡ nat_lt 0 (count_in_range t.own first count (λ x. nat_eq x 1))
+drops_use-range t u first count most r inside unmapped =
+    some_below-ext (size t) (λ i. nat_lt 0 (total_at t i) && nat_eq (total_at u i) 0) (λ i. covers first count i && nat_eq (own_at t i) 1)
+    (λ i below. go t.whole u.whole (own_at t i) (own_at u i) (covers first count i) unmapped r.whole (r.own i (omega (arith, same_size t u (sym r.order)))))
+    ∙ range_test (size t) first count (λ i. nat_eq (own_at t i) 1) inside (size_most t most)
+    ∙ some_below-count 512 (λ i. covers first count i && nat_eq (own_at t i) 1) where
+      go : (w v x y : ℕ) (b : Bool) → w ≡ 0 → w ≡ v → x ≡ y + cond b 1 0 → (nat_lt 0 (w + x) && nat_eq (v + y) 0) ≡ (b && nat_eq x 1)
+      go w v x y true e f g = grind (arith, nat_tests)
+      go w v x y false e f g = grind (arith, nat_tests)
+
+-- a page that isn't split gives back nothing
+pub gives_frames-unsplit : (t u : PageState) → u.order ≡ t.order → t.split ≡ false → u.split ≡ false → gives_frames t u ≡ set_of (λ i. false)
+gives_frames-unsplit t u order whole still =
+    set_of-ext (λ i. holds t i && not (holds u i)) (λ i. false)
+    (λ i below. go (nat_lt i (size t)) (nat_lt i (size u)) t.split u.split (nat_lt 0 (total_at t i)) (nat_lt 0 (total_at u i)) (ap (λ n. nat_lt i n) (same_size t u order)) whole still) where
+      go : (a b s v x y : Bool) → b ≡ a → s ≡ false → v ≡ false → ((a && (not s || x)) && not (b && (not v || y))) ≡ false
+      go true b s v x y e f g = cc
+      go false b s v x y e f g = refl
+
+-- a split page gives back the frames of the subpages of the range that have no mapping any more
+pub gives_frames-range : (t u : PageState) (first count : ℕ) → RangeMapped first count u t → first + count ≤ size t → t.split ≡ true → t.whole ≡ 0 →
+    gives_frames t u ≡ set_of (λ i. covers first count i && nat_eq (own_at u i) 0)
+gives_frames-range t u first count r inside split unmapped =
+    set_of-ext (λ i. holds t i && not (holds u i)) (λ i. covers first count i && nat_eq (own_at u i) 0)
+    (λ i short. elim (cases_lt i (size t)) [
+      | inl below ↦
+          let long : size u ≡ size t = same_size t u (sym r.order) in
+          here i (size t) (size u) t.split u.split t.whole u.whole (own_at t i) (own_at u i) (covers first count i) below long split (sym r.split ∙ split) unmapped r.whole (r.own i (omega (arith, long)))
+      | inr above ↦
+          there i (size t) first count (not t.split || nat_lt 0 (total_at t i)) (not (holds u i)) (nat_eq (own_at u i) 0) above inside
+    ]) where
+      here : (i n m : ℕ) (s v : Bool) (w x y z : ℕ) (b : Bool) → i < n → m ≡ n → s ≡ true → v ≡ true → w ≡ 0 → w ≡ x → y ≡ z + cond b 1 0 →
+          ((nat_lt i n && (not s || nat_lt 0 (w + y))) && not (nat_lt i m && (not v || nat_lt 0 (x + z)))) ≡ (b && nat_eq z 0)
+      here i n m s v w x y z true below long e f unmapped same g = grind (arith, nat_tests)
+      here i n m s v w x y z false below long e f unmapped same g = grind (arith, nat_tests)
+
+      there : (i n first count : ℕ) (a b c : Bool) → n ≤ i → first + count ≤ n → ((nat_lt i n && a) && b) ≡ (covers first count i && c)
+      there i n first count a b c above inside = grind (arith, nat_tests)
+
+-- a page that is split gives back the frames of the subpages that aren't in use
+pub gives_frames-split : (t u : PageState) → PageSplit t u → t.split ≡ false → gives_frames t u ≡ unused_set t
+gives_frames-split t u r whole =
+    set_of-ext (λ i. holds t i && not (holds u i)) (λ i. nat_lt i (size t) && not (nat_lt 0 (total_at t i)))
+    (λ i short. elim (cases_lt i (size t)) [
+      | inl below ↦ here i (size t) (size u) t.split u.split (total_at t i) (total_at u i) below (same_size t u r.order) whole r.split (now (total_at t i) u.whole (own_at u i) r.whole (r.own i below))
+      | inr above ↦ there i (size t) (not t.split || nat_lt 0 (total_at t i)) (not (holds u i)) (not (nat_lt 0 (total_at t i))) above
+    ]) where
+      now : (n w y : ℕ) → w ≡ 0 → y ≡ n → w + y ≡ n
+      now n w y e f = omega arith
+
+      here : (i n m : ℕ) (s v : Bool) (x y : ℕ) → i < n → m ≡ n → s ≡ false → v ≡ true → y ≡ x →
+          ((nat_lt i n && (not s || nat_lt 0 x)) && not (nat_lt i m && (not v || nat_lt 0 y))) ≡ (nat_lt i n && not (nat_lt 0 x))
+      here i n m s v x y below long e f g = grind (arith, nat_tests)
+
+      there : (i n : ℕ) (a b c : Bool) → n ≤ i → ((nat_lt i n && a) && b) ≡ (nat_lt i n && c)
+      there i n a b c above = grind (arith, nat_tests)
+
+-- the subpages that aren't in use: those without mappings of their own where the page isn't mapped whole, else none
+pub unused_set-unmapped : (t : PageState) (n : ℕ) → n ≡ size t → t.whole ≡ 0 → set_of (λ i. covers 0 n i && nat_eq (own_at t i) 0) ≡ unused_set t
+unused_set-unmapped t n long unmapped =
+    set_of-ext (λ i. covers 0 n i && nat_eq (own_at t i) 0) (λ i. nat_lt i (size t) && not (nat_lt 0 (total_at t i)))
+    (λ i short. go i n (size t) t.whole (own_at t i) long unmapped) where
+      go : (i n m w x : ℕ) → n ≡ m → w ≡ 0 → (covers 0 n i && nat_eq x 0) ≡ (nat_lt i m && not (nat_lt 0 (w + x)))
+      go i n m w x long e = grind (arith, nat_tests)
+
+pub unused_set-mapped : (t : PageState) → t.whole ≢ 0 → set_of (λ i. false) ≡ unused_set t
+unused_set-mapped t mapped =
+    set_of-ext (λ i. false) (λ i. nat_lt i (size t) && not (nat_lt 0 (total_at t i))) (λ i short. go (nat_lt i (size t)) t.whole (own_at t i) mapped) where
+      go : (b : Bool) (w x : ℕ) → w ≢ 0 → false ≡ (b && not (nat_lt 0 (w + x)))
+      go b w x f = grind (arith, nat_tests)
+
+-- each subpage of a page that is mapped whole is in use
+pub used_set-mapped : (t : PageState) → 0 < t.whole → set_of (λ i. nat_lt i (2 ^ t.order)) ≡ used_set t
+unfolding size
+used_set-mapped t mapped =
+    set_of-ext (λ i. nat_lt i (2 ^ t.order)) (λ i. nat_lt i (size t) && nat_lt 0 (total_at t i)) (λ i short. go (nat_lt i (size t)) t.whole (own_at t i) mapped) where
+      go : (b : Bool) (w x : ℕ) → 0 < w → b ≡ (b && nat_lt 0 (w + x))
+      go b w x h = grind (arith, nat_tests)
+
+-- the subpages of another page that are in use are those that have a mapping of their own
+pub used_set-unmapped : (t : PageState) (n : ℕ) (all bare : List Bool) → n ≡ size t → t.whole ≡ 0 → all ≡ set_of (λ i. nat_lt i (2 ^ t.order)) →
+    bare ≡ set_of (λ i. covers 0 n i && nat_eq (own_at t i) 0) → set_of (λ i. has all i && not (has bare i)) ≡ used_set t
+unfolding size
+used_set-unmapped t n all bare long unmapped e f =
+    set_of-ext (λ i. has all i && not (has bare i)) (λ i. nat_lt i (size t) && nat_lt 0 (total_at t i))
+    (λ i below.
+    ap₂ (λ a b. a && not b) (ap (λ s. has s i) e ∙ get_or-set_of (λ j. nat_lt j (2 ^ t.order)) i below)
+    (ap (λ s. has s i) f ∙ get_or-set_of (λ j. covers 0 n j && nat_eq (own_at t j) 0) i below)
+    ∙ go i n (2 ^ t.order) t.whole (own_at t i) long unmapped) where
+      go : (i n m w x : ℕ) → n ≡ m → w ≡ 0 → (nat_lt i m && not (covers 0 n i && nat_eq x 0)) ≡ (nat_lt i m && nat_lt 0 (w + x))
+      go i n m w x long e = grind (arith, nat_tests)

@@ -1,0 +1,25 @@
+use Rattle.std.proofs.Common.{refl, sym, ◌∙◌, ◌+◌, arith}
+use Rattle.thp_model.specs.Refusals as call
+use Rattle.thp_model.specs.Pages.{PageState}
+use Rattle.thp_page.specs.PageView.{state_of}
+use Rattle.thp_page.proofs.PageRefusals.{allowed_as, pin_allowed}
+use Rattle.thp_page.proofs.MappedCounts.{mapped_count-same}
+use Rattle.thp_page.proofs.PageChanges.{IsPage-pin}
+use Rattle.thp_page.proofs.page.Page.do_pin.Goals as goal
+
+pub overflow_add-self : goal.overflow_add-self
+overflow_add-self c =
+    let s : PageState = state_of c.self.inside in
+    let facts = pin_allowed s 0 c.self.invariant.page (allowed_as s _ (call.pin 0) c.self.view_is c.requires) in
+    omega (arith, facts.1)
+
+pub invariant_of-self : goal.invariant_of-self
+invariant_of-self c =
+    let s : PageState = state_of c.self.inside in
+    let t : PageState = record s { pins = s.pins + 1 } in
+    record {
+      page =
+          IsPage-pin s t 0 c.self.invariant.page (allowed_as s _ (call.pin 0) c.self.view_is c.requires)
+          (record { order = refl; whole = refl; own = λ i below. refl; pins = refl; split = refl });
+      mapped = c.self.invariant.mapped ∙ sym (mapped_count-same s t refl (λ i below. refl));
+    }

@@ -1,0 +1,39 @@
+use Rattle.std.proofs.Common.{◌≡◌, ◌+◌, ◌-◌, ◌≤◌, ℕ, refl, sym, ◌∙◌, arith, subst}
+use Rattle.thp_model.specs.Refusals as call
+use Rattle.thp_model.specs.Pages.{PageState, Pinned}
+use Rattle.thp_page.specs.PageView.{state_of}
+use Rattle.thp_page.proofs.PageRefusals.{allowed_as, unpin_allowed}
+use Rattle.thp_page.proofs.MappedCounts.{mapped_count-same}
+use Rattle.thp_page.proofs.PageChanges.{IsPage-unpin}
+use Rattle.thp_page.proofs.page.Page.do_unpin.Goals as goal
+
+-- the page with one pin less
+less : PageState → PageState
+less s = record s { pins = s.pins - 1 }
+
+pinned : (s : PageState) → 1 ≤ s.pins → Pinned (less s) s
+unfolding less
+pinned s h = record { order = refl; whole = refl; own = λ i below. refl; pins = omega arith; split = refl }
+
+pub overflow_sub-self : goal.overflow_sub-self
+overflow_sub-self c =
+    let s : PageState = state_of c.self.inside in
+    (unpin_allowed s 0 (allowed_as s _ (call.unpin 0) c.self.view_is c.requires)).1
+
+pub invariant_of-self : goal.invariant_of-self
+unfolding less
+invariant_of-self c =
+    let s : PageState = state_of c.self.inside in
+    let allowed = allowed_as s _ (call.unpin 0) c.self.view_is c.requires in
+    record {
+      page = IsPage-unpin s (less s) 0 c.self.invariant.page allowed (pinned s (unpin_allowed s 0 allowed).1);
+      mapped = c.self.invariant.mapped ∙ sym (mapped_count-same s (less s) refl (λ i below. refl));
+    }
+
+pub returns : goal.returns
+unfolding less
+returns c =
+    let s : PageState = state_of c.self.inside in
+    let allowed = allowed_as s _ (call.unpin 0) c.self.view_is c.requires in
+    let P : PageState → Type 0 = λ t. Pinned (less s) t in
+    subst P c.self.view_is (pinned s (unpin_allowed s 0 allowed).1)

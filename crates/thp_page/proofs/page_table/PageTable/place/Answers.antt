@@ -1,0 +1,16 @@
+use Rattle.std.proofs.Common.{ap, ◌∙◌, refl, Some}
+use Rattle.thp_model.specs.Pages.{PageState}
+use Rattle.thp_page.specs.declared.standing.Standing.TheVariants.{Nowhere}
+use Rattle.thp_page.specs.Fresh.{fresh_page}
+use Rattle.thp_page.specs.Table.{Table}
+use Rattle.thp_page.specs.Slots.{with_slot}
+use Rattle.thp_page.proofs.TableSteps.{both_written}
+use Rattle.thp_page.proofs.page_table.PageTable.place.Goals as goal
+
+pub returns : goal.returns
+returns c =
+    let d = c.index_mut-descriptor.result.now in
+    both_written c.self.inside.order c.self.inside.numbers _ c.self.inside.descriptors.items c.self.inside.accesses c.args.block c.args.id d
+    (record { link = d.link; standing = Nowhere; page = c.fresh-descriptor.result }) _ c.self.view_is c.place.ensures c.index_mut-descriptor.ensures.value refl
+    ∙ ap (λ (p : PageState). with_slot c.args.self.now c.args.block (Some (record { id = c.args.id; page = p; standing = Nowhere })))
+    (c.fresh-descriptor.ensures.state ∙ ap (λ (u : Table). fresh_page u.order) c.self.view_is)

@@ -1,0 +1,7 @@
+-- A page that was just allocated.
+use Rattle.std.specs.Prelude.{ℕ, false, replicate}
+use Rattle.thp_model.specs.Pages.{PageState}
+
+-- a new page of this order: mapped whole once, with room for 512 own counts
+abbrev pub fresh_page : ℕ → PageState
+fresh_page order = record { order = order; whole = 1; own = replicate 512 0; pins = 0; split = false }

@@ -1,0 +1,10 @@
+pub mod Ranges
+pub mod Fresh
+pub mod PageView
+pub mod Changes
+pub mod Table
+pub mod Slots
+pub mod Descriptors
+pub mod Searching
+pub mod Lending
+pub mod Bridge

@@ -1,0 +1,474 @@
+//! One page: its map counts, its pins, and whether it is split.
+ghost use Rattle.std.specs.Prelude.{◌≡◌, ℕ, ◌+◌, ◌<◌, ◌≤◌, Bool, true, false, not, ◌||◌, nat_eq, nat_lt, OnOk, OnErr, IfOk, Option, None};
+ghost use Rattle.std.specs.Result.{result_err};
+ghost use Rattle.thp_model.specs.Pages.{size, own_at, total_at, holds, used_set, has_use, gives_frames, some_in_range, page_refusal, IsFresh, WholeMapped, RangeMapped, PmdSplit, Pinned, PageSplit};
+ghost use Rattle.thp_model.specs.Refusals.{most};
+ghost use Rattle.thp_model.specs.Refusals as call;
+ghost use Rattle.thp_page.specs.Fresh.{fresh_page};
+
+use crate::counts::{
+    MOST_SUBPAGES, add_to_range, map_range, range_has_count, subpages_with_count, unmap_range,
+};
+use std::marker::Model;
+use thp_model::{Refusal, SubSet};
+
+/// What an unmap did to the use of its page.
+#[derive(Clone, Copy, PartialEq, Eq, Debug)]
+pub struct Change {
+    /// A subpage that was in use isn't any more.
+    pub unused: bool,
+    /// A subpage is still in use.
+    pub used_left: bool,
+    /// The subpages whose frames were given back, since the page is split.
+    pub released: SubSet,
+}
+
+/// The map counts, the pins and the split state of one page.
+///
+/// A mapping of the whole page by a PMD entry counts in `whole`, and one of a subpage by a PTE entry in that subpage's own
+/// count; a subpage is in use while either is positive (mm/transhuge.rst, "Refcounts and transparent huge pages"; this
+/// project's profile keeps a count for the page by itself). No call takes memory, and none copies the counts.
+#[derive(Drop)]
+pub struct Page {
+    // The page has `2 ^ order` subpages.
+    order: u32,
+    // How often a PMD entry maps the page.
+    whole: u16,
+    // The extra pins.
+    pins: u16,
+    // The page was split into base pages.
+    split: bool,
+    // How many subpages a PTE entry maps. It saves a pass over the counts.
+    mapped: u16,
+    // How often a PTE entry maps each subpage. No call looks behind the page's last subpage.
+    own: [u16; MOST_SUBPAGES],
+}
+
+impl Model for Page {
+    ghost use Rattle.thp_model.specs.Pages.{PageState};
+
+    ghost Value = { PageState };
+
+    ghost use Rattle.thp_page.specs.PageView.{state_of, IsKept};
+
+    ghost view = { state_of };
+
+    ghost invariant = { IsKept };
+}
+
+impl Page {
+    ghost use Rattle.thp_page.specs.Changes.{IsChange, unused_set};
+
+    /// A page that was just allocated: mapped whole once.
+    pub fn fresh(order: u32) -> Page
+        requires least { 2 ≤ order }
+        requires most { order ≤ 9 }
+        ensures fresh { IsFresh order result }
+        ensures state { result ≡ fresh_page order }
+    {
+        Page {
+            order,
+            whole: 1,
+            pins: 0,
+            split: false,
+            mapped: 0,
+            own: [0; MOST_SUBPAGES],
+        }
+    }
+
+    /// One more mapping of the whole page. Refused as `IsSplit` and `TooMany`.
+    pub fn map_whole(&mut self) -> Result<(), Refusal>
+        ensures refusal { (p : ℕ) → result_err result ≡ page_refusal self.old (call.map_whole p) }
+        ensures counts { OnOk result (WholeMapped self.old self.new) }
+        ensures kept { OnErr result (self.new ≡ self.old) }
+    {
+        match self.refusal_map_whole() {
+            Some(refusal) => Err(refusal),
+            None => {
+                self.do_map_whole();
+                Ok(())
+            }
+        }
+    }
+
+    /// Why `map_whole` would be refused, if it would.
+    #[tactic(auto, unfolding(thp_model::specs::Pages::page_refusal))]
+    pub fn refusal_map_whole(&self) -> Option<Refusal>
+        ensures { (p : ℕ) → result ≡ page_refusal self.now (call.map_whole p) }
+    {
+        if self.split {
+            Some(Refusal::IsSplit)
+        } else if self.has_total_at_limit(0, self.subpages()) {
+            Some(Refusal::TooMany)
+        } else {
+            None
+        }
+    }
+
+    /// `map_whole`, where it isn't refused.
+    pub fn do_map_whole(&mut self)
+        requires { page_refusal self.old (call.map_whole 0) ≡ None }
+        ensures { WholeMapped self.old self.new }
+    {
+        self.whole += 1;
+    }
+
+    /// One mapping of the whole page less. Refused as `IsSplit` and `NotMapped`.
+    pub fn unmap_whole(&mut self) -> Result<Change, Refusal>
+        ensures refusal { (p : ℕ) → result_err result ≡ page_refusal self.old (call.unmap_whole p) }
+        ensures counts { OnOk result (WholeMapped self.new self.old) }
+        ensures change { IfOk result (IsChange self.old self.new) }
+        ensures kept { OnErr result (self.new ≡ self.old) }
+    {
+        match self.refusal_unmap_whole() {
+            Some(refusal) => Err(refusal),
+            None => Ok(self.do_unmap_whole()),
+        }
+    }
+
+    /// Why `unmap_whole` would be refused, if it would.
+    #[tactic(auto, unfolding(thp_model::specs::Pages::page_refusal))]
+    pub fn refusal_unmap_whole(&self) -> Option<Refusal>
+        ensures { (p : ℕ) → result ≡ page_refusal self.now (call.unmap_whole p) }
+    {
+        if self.split {
+            Some(Refusal::IsSplit)
+        } else if self.whole == 0 {
+            Some(Refusal::NotMapped)
+        } else {
+            None
+        }
+    }
+
+    /// `unmap_whole`, where it isn't refused.
+    pub fn do_unmap_whole(&mut self) -> Change
+        requires { page_refusal self.old (call.unmap_whole 0) ≡ None }
+        ensures counts { WholeMapped self.new self.old }
+        ensures change { IsChange self.old self.new result }
+    {
+        let unused = self.whole == 1 && (self.mapped as usize) < self.subpages();
+        self.whole -= 1;
+        Change {
+            unused,
+            used_left: self.has_use(),
+            released: SubSet::empty(),
+        }
+    }
+
+    /// One more mapping of each of the `count` subpages from `first` on. Refused as `BadRange`, `Gone` and `TooMany`.
+    pub fn map_sub(&mut self, first: u32, count: u32) -> Result<(), Refusal>
+        ensures refusal { (p : ℕ) → result_err result ≡ page_refusal self.old (call.map_sub p first count) }
+        ensures counts { OnOk result (RangeMapped first count self.old self.new) }
+        ensures kept { OnErr result (self.new ≡ self.old) }
+    {
+        match self.refusal_map_sub(first, count) {
+            Some(refusal) => Err(refusal),
+            None => {
+                self.do_map_sub(first, count);
+                Ok(())
+            }
+        }
+    }
+
+    /// Why `map_sub` would be refused, if it would.
+    #[tactic(auto, unfolding(thp_model::specs::Pages::page_refusal))]
+    pub fn refusal_map_sub(&self, first: u32, count: u32) -> Option<Refusal>
+        ensures { (p : ℕ) → result ≡ page_refusal self.now (call.map_sub p first count) }
+    {
+        if self.is_bad_range(first, count) {
+            return Some(Refusal::BadRange);
+        }
+        let (first, count) = (first as usize, count as usize);
+        if self.split && self.has_gone_frame(first, count) {
+            Some(Refusal::Gone)
+        } else if self.has_total_at_limit(first, count) {
+            Some(Refusal::TooMany)
+        } else {
+            None
+        }
+    }
+
+    /// `map_sub`, where it isn't refused.
+    pub fn do_map_sub(&mut self, first: u32, count: u32)
+        requires { page_refusal self.old (call.map_sub 0 first count) ≡ None }
+        ensures { RangeMapped first count self.old self.new }
+    {
+        self.mapped += map_range(&mut self.own, first as usize, count as usize);
+    }
+
+    /// One mapping of each of the `count` subpages from `first` on less. Refused as `BadRange` and `NotMapped`.
+    pub fn unmap_sub(&mut self, first: u32, count: u32) -> Result<Change, Refusal>
+        ensures refusal { (p : ℕ) → result_err result ≡ page_refusal self.old (call.unmap_sub p first count) }
+        ensures counts { OnOk result (RangeMapped first count self.new self.old) }
+        ensures change { IfOk result (IsChange self.old self.new) }
+        ensures kept { OnErr result (self.new ≡ self.old) }
+    {
+        match self.refusal_unmap_sub(first, count) {
+            Some(refusal) => Err(refusal),
+            None => Ok(self.do_unmap_sub(first, count)),
+        }
+    }
+
+    /// Why `unmap_sub` would be refused, if it would.
+    #[tactic(auto, unfolding(thp_model::specs::Pages::page_refusal))]
+    pub fn refusal_unmap_sub(&self, first: u32, count: u32) -> Option<Refusal>
+        ensures { (p : ℕ) → result ≡ page_refusal self.now (call.unmap_sub p first count) }
+    {
+        if self.is_bad_range(first, count) {
+            Some(Refusal::BadRange)
+        } else if self.has_unmapped(first as usize, count as usize) {
+            Some(Refusal::NotMapped)
+        } else {
+            None
+        }
+    }
+
+    /// `unmap_sub`, where it isn't refused.
+    pub fn do_unmap_sub(&mut self, first: u32, count: u32) -> Change
+        requires { page_refusal self.old (call.unmap_sub 0 first count) ≡ None }
+        ensures counts { RangeMapped first count self.new self.old }
+        ensures change { IsChange self.old self.new result }
+    {
+        let (first, count) = (first as usize, count as usize);
+        let gone = unmap_range(&mut self.own, first, count);
+        self.mapped -= gone;
+        let unused = self.whole == 0 && gone > 0;
+        let released = if self.split {
+            subpages_with_count(&self.own, first, count, 0)
+        } else {
+            SubSet::empty()
+        };
+        Change {
+            unused,
+            used_left: self.has_use(),
+            released,
+        }
+    }
+
+    /// Makes a mapping of the whole page into one of each subpage. Refused as `IsSplit` and `NotMapped`.
+    pub fn split_pmd(&mut self) -> Result<(), Refusal>
+        ensures refusal { (p : ℕ) → result_err result ≡ page_refusal self.old (call.split_pmd p) }
+        ensures counts { OnOk result (PmdSplit self.old self.new) }
+        ensures kept { OnErr result (self.new ≡ self.old) }
+    {
+        match self.refusal_split_pmd() {
+            Some(refusal) => Err(refusal),
+            None => {
+                self.do_split_pmd();
+                Ok(())
+            }
+        }
+    }
+
+    /// Why `split_pmd` would be refused, if it would.
+    #[tactic(auto, unfolding(thp_model::specs::Pages::page_refusal))]
+    pub fn refusal_split_pmd(&self) -> Option<Refusal>
+        ensures { (p : ℕ) → result ≡ page_refusal self.now (call.split_pmd p) }
+    {
+        // Like an unmap it needs a whole mapping.
+        self.refusal_unmap_whole()
+    }
+
+    /// `split_pmd`, where it isn't refused.
+    pub fn do_split_pmd(&mut self)
+        requires { page_refusal self.old (call.split_pmd 0) ≡ None }
+        ensures { PmdSplit self.old self.new }
+    {
+        let subpages = self.subpages();
+        self.whole -= 1;
+        self.mapped += map_range(&mut self.own, 0, subpages);
+    }
+
+    /// One more pin, which keeps the page from being split. Refused as `IsSplit` and `TooMany`.
+    pub fn pin(&mut self) -> Result<(), Refusal>
+        ensures refusal { (p : ℕ) → result_err result ≡ page_refusal self.old (call.pin p) }
+        ensures counts { OnOk result (Pinned self.old self.new) }
+        ensures kept { OnErr result (self.new ≡ self.old) }
+    {
+        match self.refusal_pin() {
+            Some(refusal) => Err(refusal),
+            None => {
+                self.do_pin();
+                Ok(())
+            }
+        }
+    }
+
+    /// Why `pin` would be refused, if it would.
+    #[tactic(auto, unfolding(thp_model::specs::Pages::page_refusal))]
+    pub fn refusal_pin(&self) -> Option<Refusal>
+        ensures { (p : ℕ) → result ≡ page_refusal self.now (call.pin p) }
+    {
+        if self.split {
+            Some(Refusal::IsSplit)
+        } else if self.pins == u16::MAX {
+            Some(Refusal::TooMany)
+        } else {
+            None
+        }
+    }
+
+    /// `pin`, where it isn't refused.
+    pub fn do_pin(&mut self)
+        requires { page_refusal self.old (call.pin 0) ≡ None }
+        ensures { Pinned self.old self.new }
+    {
+        self.pins += 1;
+    }
+
+    /// One pin less. Refused as `IsSplit` and `NotPinned`.
+    pub fn unpin(&mut self) -> Result<(), Refusal>
+        ensures refusal { (p : ℕ) → result_err result ≡ page_refusal self.old (call.unpin p) }
+        ensures counts { OnOk result (Pinned self.new self.old) }
+        ensures kept { OnErr result (self.new ≡ self.old) }
+    {
+        match self.refusal_unpin() {
+            Some(refusal) => Err(refusal),
+            None => {
+                self.do_unpin();
+                Ok(())
+            }
+        }
+    }
+
+    /// Why `unpin` would be refused, if it would.
+    #[tactic(auto, unfolding(thp_model::specs::Pages::page_refusal))]
+    pub fn refusal_unpin(&self) -> Option<Refusal>
+        ensures { (p : ℕ) → result ≡ page_refusal self.now (call.unpin p) }
+    {
+        if self.split {
+            Some(Refusal::IsSplit)
+        } else if self.pins == 0 {
+            Some(Refusal::NotPinned)
+        } else {
+            None
+        }
+    }
+
+    /// `unpin`, where it isn't refused.
+    pub fn do_unpin(&mut self)
+        requires { page_refusal self.old (call.unpin 0) ≡ None }
+        ensures { Pinned self.new self.old }
+    {
+        self.pins -= 1;
+    }
+
+    /// Splits the page into base pages, each with all its mappings as its own, and answers the subpages whose frames that
+    /// gives back: those that aren't in use (mm/transhuge.rst, "Partial unmap and deferred_split_huge_page()").
+    pub fn split(&mut self) -> SubSet
+        requires whole { self.old.split ≡ false }
+        requires unpinned { self.old.pins ≡ 0 }
+        ensures counts { PageSplit self.old self.new }
+        ensures unused { result ≡ unused_set self.old }
+        ensures released { result ≡ gives_frames self.old self.new }
+    {
+        let subpages = self.subpages();
+        let (mapped, unused) = if self.whole == 0 {
+            (self.mapped, subpages_with_count(&self.own, 0, subpages, 0))
+        } else {
+            (subpages as u16, SubSet::empty())
+        };
+        add_to_range(&mut self.own, 0, subpages, self.whole);
+        self.mapped = mapped;
+        self.whole = 0;
+        self.split = true;
+        unused
+    }
+
+    /// The page's order.
+    pub fn order(&self) -> u32
+        ensures value { result ≡ self.now.order }
+        ensures most { result ≤ 9 }
+    {
+        self.order
+    }
+
+    /// Whether subpage `i` is in use.
+    pub fn in_use(&self, i: u32) -> bool
+        requires { i < size self.now }
+        ensures { result ≡ nat_lt 0 (total_at self.now i) }
+    {
+        self.whole > 0 || self.own[i as usize] > 0
+    }
+
+    /// Whether some subpage is in use.
+    pub fn has_use(&self) -> bool
+        ensures { result ≡ has_use self.now }
+    {
+        self.whole > 0 || self.mapped > 0
+    }
+
+    /// The subpages in use.
+    pub fn in_use_set(&self) -> SubSet
+        ensures { result ≡ used_set self.now }
+    {
+        let all = SubSet::full(self.order);
+        if self.whole > 0 {
+            all
+        } else {
+            all.difference(subpages_with_count(&self.own, 0, self.subpages(), 0))
+        }
+    }
+
+    /// How often a PMD entry maps the whole page.
+    pub fn whole(&self) -> u32
+        ensures { result ≡ self.now.whole }
+    {
+        u32::from(self.whole)
+    }
+
+    /// The extra pins, which keep the page from being split.
+    pub fn pins(&self) -> u32
+        ensures { result ≡ self.now.pins }
+    {
+        u32::from(self.pins)
+    }
+
+    /// Whether the page was split into base pages.
+    pub fn is_split(&self) -> bool
+        ensures { result ≡ self.now.split }
+    {
+        self.split
+    }
+
+    // How many subpages the page has.
+    fn subpages(&self) -> usize
+        ensures size { result ≡ size self.now }
+        ensures most { result ≤ 512 }
+    {
+        1 << self.order
+    }
+
+    // Whether a range has no subpage, or one that the page hasn't.
+    fn is_bad_range(&self, first: u32, count: u32) -> bool
+        ensures { result ≡ (nat_eq count 0 || nat_lt (size self.now) (first + count)) }
+    {
+        let subpages = self.subpages() as u32;
+        count == 0 || count > subpages || first > subpages - count
+    }
+
+    // Whether a subpage of the range is mapped as often as one can be.
+    fn has_total_at_limit(&self, first: usize, count: usize) -> bool
+        requires { first + count ≤ size self.now }
+        ensures { result ≡ some_in_range self.now first count (λ i. nat_eq (total_at self.now i) most) }
+    {
+        range_has_count(&self.own, first, count, u16::MAX - self.whole)
+    }
+
+    // Whether the frame of a subpage of the range was given back.
+    fn has_gone_frame(&self, first: usize, count: usize) -> bool
+        requires split { self.now.split ≡ true }
+        requires inside { first + count ≤ size self.now }
+        ensures { result ≡ some_in_range self.now first count (λ i. not (holds self.now i)) }
+    {
+        range_has_count(&self.own, first, count, 0)
+    }
+
+    // Whether a subpage of the range has no mapping of its own.
+    fn has_unmapped(&self, first: usize, count: usize) -> bool
+        requires { first + count ≤ size self.now }
+        ensures { result ≡ some_in_range self.now first count (λ i. nat_eq (own_at self.now i) 0) }
+    {
+        range_has_count(&self.own, first, count, 0)
+    }
+}

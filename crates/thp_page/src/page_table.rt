@@ -1,0 +1,191 @@
+//! The table of page descriptors: for each block of a node a link pair and, where it is taken, a page.
+ghost use Rattle.std.specs.Prelude.{◌≡◌, ◌<◌, ◌≤◌, ℕ, ◌+◌, length, replicate, IsSome, IfOk, IfSome, IfNone, Option, Some, None};
+ghost use Rattle.std.specs.Option.{option_map, option_copied_mut};
+ghost use Rattle.thp_page.specs.Table.{Slot};
+ghost use Rattle.thp_page.specs.Slots.{slot_at, with_slot, fresh_slot, number_in, page_in, stood, IsHeld};
+
+use crate::page::Page;
+use crate::page_numbers::PageNumbers;
+use crate::standing::Standing;
+use std::alloc::{AllocError, Global};
+use std::marker::Model;
+use thp_links::{AccessCount, Link, LinkTable, NIL};
+use thp_model::PageId;
+
+// What the table keeps for a block, taken or not. An empty block keeps what stood there last.
+#[derive(Drop)]
+struct Descriptor {
+    link: Link,
+    standing: Standing,
+    page: Page,
+}
+
+/// The page descriptors of a node, by block.
+#[derive(Drop)]
+pub struct PageTable {
+    order: u32,
+    // A block is taken exactly where it has a number.
+    numbers: PageNumbers,
+    descriptors: Vec<Descriptor>,
+    accesses: AccessCount,
+}
+
+impl Model for PageTable {
+    ghost use Rattle.thp_page.specs.Table.{Table};
+    ghost use Rattle.thp_page.specs.Descriptors.{links_of, slots_of, IsSized};
+
+    ghost Value = { Table };
+
+    ghost view = { λ t. record { order = t.order; links = links_of t.descriptors.items; slots = slots_of t.numbers t.descriptors.items; accesses = t.accesses } };
+
+    ghost invariant = { λ t. IsSized t.order t.numbers t.descriptors.items };
+}
+
+impl Descriptor {
+    ghost use Rattle.std.specs.Borrow.{sem};
+    ghost use Rattle.std.specs.Prelude.{cond};
+    ghost use Rattle.thp_page.specs.Lending.{lends_own_page};
+
+    // The page, if the block is taken.
+    fn page_mut(&mut self, taken: bool) -> Option<&mut Page>
+        ensures* writes_back { sem 𝓛 (lends_own_page self.entry result) }
+        ensures value { option_copied_mut result ≡ cond taken (Some self.old.page) None }
+    {
+        if taken { Some(&mut self.page) } else { None }
+    }
+}
+
+impl PageTable {
+    ghost use Rattle.std.specs.Borrow.{sem};
+    ghost use Rattle.thp_page.specs.Lending.{lends_page};
+
+    /// A table of `blocks` empty blocks, for pages of `2 ^ order` subpages. It takes all memory that the table will need.
+    pub fn new(alloc: Global, blocks: u32, order: u32) -> Result<PageTable, AllocError>
+        requires least { 2 ≤ order }
+        requires most { order ≤ 9 }
+        ensures order { IfOk result (λ t. t.order ≡ order) }
+        ensures size { IfOk result (λ t. length t.links ≡ blocks) }
+        ensures empty { IfOk result (λ t. t.slots ≡ replicate blocks None) }
+        ensures accesses { IfOk result (λ t. t.accesses ≡ 0) }
+    {
+        let mut descriptors = Vec::with_capacity(alloc, blocks as usize)?;
+        for _block in 0..blocks {
+            descriptors.push(Descriptor {
+                link: Link {
+                    prev: NIL,
+                    next: NIL,
+                },
+                standing: Standing::Nowhere,
+                page: Page::fresh(order),
+            })?;
+        }
+        Ok(PageTable {
+            order,
+            numbers: PageNumbers::new(alloc, blocks)?,
+            descriptors,
+            accesses: AccessCount::new(),
+        })
+    }
+
+    /// The block of the page of this number; where no block has it, `None`.
+    pub fn block_of(&self, id: PageId) -> Option<u32>
+        ensures found { IfSome result (λ b. IsHeld (slot_at self.now b) id) }
+        ensures inside { IfSome result (λ b. b < length self.now.links) }
+        ensures absent { IfNone result ((b : ℕ) → IsHeld (slot_at self.now b) id → ⊥) }
+    {
+        let _blocks = self.descriptors.len();
+        self.numbers.block_of(id)
+    }
+
+    /// The page of a block with its number; `None` where the block is empty.
+    pub fn page(&self, block: u32) -> Option<(PageId, &Page)>
+        requires inside { block < length self.now.links }
+        ensures number { option_map (λ r. r.0) result ≡ number_in (slot_at self.now block) }
+        ensures page { option_map (λ r. r.1.now) result ≡ page_in (slot_at self.now block) }
+    {
+        match self.numbers.at(block) {
+            Some(id) => Some((id, &self.descriptors[block as usize].page)),
+            None => None,
+        }
+    }
+
+    /// The page of a block, to be changed; `None` where the block is empty.
+    pub fn page_mut(&mut self, block: u32) -> Option<&mut Page>
+        requires inside { block < length self.old.links }
+        ensures* writes_back { sem 𝓛 (lends_page self.entry block result) }
+        ensures value { option_copied_mut result ≡ page_in (slot_at self.old block) }
+    {
+        let taken = self.numbers.at(block).is_some();
+        self.descriptors[block as usize].page_mut(taken)
+    }
+
+    /// Puts a fresh page of this number into an empty block. It stands nowhere.
+    pub fn place(&mut self, block: u32, id: PageId)
+        requires inside { block < length self.old.links }
+        requires empty { slot_at self.old block ≡ None }
+        requires new { (b : ℕ) → IsHeld (slot_at self.old b) id → ⊥ }
+        ensures { self.new ≡ with_slot self.old block (Some (fresh_slot self.old.order id)) }
+    {
+        let descriptor = &mut self.descriptors[block as usize];
+        descriptor.standing = Standing::Nowhere;
+        descriptor.page = Page::fresh(self.order);
+        self.numbers.place(block, id);
+    }
+
+    /// Empties a block that is taken.
+    pub fn clear(&mut self, block: u32)
+        requires inside { block < length self.old.links }
+        requires occupied { IsSome (slot_at self.old block) }
+        ensures { self.new ≡ with_slot self.old block None }
+    {
+        self.numbers.clear(block);
+    }
+
+    /// Where the page of a block stands.
+    pub fn standing(&self, block: u32) -> Standing
+        requires inside { block < length self.now.links }
+        requires occupied { IsSome (slot_at self.now block) }
+        ensures { IfSome (slot_at self.now block) (λ s. result ≡ s.standing) }
+    {
+        self.descriptors[block as usize].standing
+    }
+
+    /// Says where the page of a block stands from now on.
+    pub fn set_standing(&mut self, block: u32, standing: Standing)
+        requires inside { block < length self.old.links }
+        requires occupied { IsSome (slot_at self.old block) }
+        ensures { self.new ≡ with_slot self.old block (stood (slot_at self.old block) standing) }
+    {
+        let descriptor = &mut self.descriptors[block as usize];
+        descriptor.standing = standing;
+    }
+}
+
+impl LinkTable for PageTable {
+    ghost use Rattle.std.proofs.Common.{refl, ◌∙◌};
+    ghost use Rattle.thp_page.specs.Table.{SameSlots};
+
+    ghost links = { λ t. t.links };
+
+    ghost accesses = { λ t. t.accesses };
+
+    ghost same_rest = { SameSlots };
+
+    fn len(&self) -> u32 {
+        self.descriptors.len() as u32
+    }
+
+    fn link(&mut self, i: u32) -> Link {
+        self.accesses.step();
+        self.descriptors[i as usize].link
+    }
+
+    fn set_link(&mut self, i: u32, link: Link) {
+        self.accesses.step();
+        self.descriptors[i as usize].link = link;
+    }
+
+    ghost same_rest_refl = { λ t. record { order = refl; slots = refl } };
+
+    ghost same_rest_trans = { λ a b c p q. record { order = q.order ∙ p.order; slots = q.slots ∙ p.slots } };
+}

@@ -1,4 +1,0 @@
-pub mod Settings
-pub mod Watch
-pub mod Devices
-pub mod Words
