@@ -1,0 +1,13 @@
+pub mod PieceLaws
+pub mod NumberLaws
+pub mod SectionLaws
+pub mod ScriptLaws
+pub mod ReportLaws
+pub mod DeviceLaws
+pub mod OptionLaws
+pub mod LineLaws
+pub mod ChainLaws
+pub mod CommandLineLaws
+pub mod StepLaws
+pub mod RunLaws
+pub mod OneNodeLaws

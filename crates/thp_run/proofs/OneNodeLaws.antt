@@ -1,0 +1,154 @@
+-- Calls of the one node, as steps of a holder of all callers.
+use Rattle.std.proofs.Common.{◌≡◌, ◌⊎◌, ◌<◌, zero, suc, ap, ℕ, Bool, true, false, cond, List, [], ◌∷◌, Option, Some, None, Ok, Err, refl, subst, sym, inl, inr, unwrap_or, arith}
+use Rattle.std.proofs.lemmas.List.{append-nil}
+use Rattle.std.proofs.lemmas.List.Elements.{All-nil}
+use Rattle.thp_model.specs.declared.events.Event.{Event}
+use Rattle.thp_model.specs.declared.refusal.Refusal.{Refusal}
+use Rattle.thp_model.specs.declared.refusal.Refusal.TheVariants.{NoPage, BadRange, IsSplit, NotMapped, Closed, NoBlock, HasBatch, OutOfMemory}
+use Rattle.thp_model.specs.declared.shape.Shape.{Shape}
+use Rattle.thp_model.specs.declared.events.What.TheVariants as what
+use Rattle.thp_model.specs.Counts.{allocations}
+use Rattle.thp_model.specs.History.{History, by}
+use Rattle.thp_model.specs.Refusals.{refusal}
+use Rattle.thp_model.specs.Refusals as call
+use Rattle.thp_model.specs.Runs.{scan_events}
+use Rattle.thp_node.specs.declared.answers.Done.{Done}
+use Rattle.thp_node.specs.declared.answers.ScanReply.{ScanReply}
+use Rattle.thp_node.specs.Batches.{scan_reply}
+use Rattle.thp_node.specs.Calls.{Did, DidAlloc, Refused}
+use Rattle.thp_node.specs.NodeState.{NodeState}
+use Rattle.thp_run.specs.declared.reply.Reply.{Reply}
+use Rattle.thp_run.specs.declared.reply.Reply.TheVariants as reply
+use Rattle.thp_run.specs.declared.reply.Reply.TheVariants.{Page, Unit as UnitReply}
+use Rattle.thp_run.specs.declared.script.Op.{Op}
+use Rattle.thp_run.specs.declared.script.Op.TheVariants.{Alloc, SplitPmd, Unmap, Scan}
+use Rattle.thp_run.specs.Answers.{Answer, Answers, Does, call_of}
+use Rattle.thp_run.specs.Fronts.{Moves, StepDone, Tells}
+use Rattle.thp_run.specs.declared.settings.Settings.{Settings}
+use Rattle.thp_run.specs.NewNodes.{IsNew, shape_of}
+use Rattle.thp_run.specs.OneNode.{fronts_of, only}
+
+-- a call is never refused at a history for want of memory
+memory_last : (b : Bool) (why : Refusal) (rest : Option Refusal) → (why ≡ OutOfMemory → ⊥) → (rest ≡ Some OutOfMemory → ⊥) → cond b (Some why) rest ≡ Some OutOfMemory → ⊥
+memory_last true why rest here later is = here (ap (λ o. unwrap_or o why) is)
+memory_last false why rest here later is = later is
+
+never_memory : (s : Shape) (h : History) (c : ℕ) (op : Op) → refusal s h (call_of c op) ≡ Some OutOfMemory → ⊥
+unfolding refusal
+never_memory s h c Alloc = memory_last _ Closed _ (λ e. cc) (memory_last _ NoBlock None (λ e. cc) (λ e. cc))
+never_memory s h c (SplitPmd p) = memory_last _ NoPage _ (λ e. cc) (memory_last _ IsSplit _ (λ e. cc) (memory_last _ NotMapped None (λ e. cc) (λ e. cc)))
+never_memory s h c (Unmap p first count) = memory_last _ NoPage _ (λ e. cc) (memory_last _ BadRange _ (λ e. cc) (memory_last _ NotMapped None (λ e. cc) (λ e. cc)))
+never_memory s h c (Scan count) = memory_last _ HasBatch None (λ e. cc) (λ e. cc)
+
+abbrev shapes : Shape → ℕ → Shape
+shapes s n = s
+
+only_elsewhere : (h k : History) (n : ℕ) → (n ≡ 0 → ⊥) → only k n ≡ only h n
+only_elsewhere h k zero other = absurd (other refl)
+only_elsewhere h k (suc n) other = refl
+
+same_shapes : (s t : Shape) → t ≡ s → shapes t ≡ shapes s
+same_shapes s t same = ap shapes same
+
+-- the node recorded these events, its caller's own
+did_moves : (old new : NodeState) (c : ℕ) (own : List Event) → Did old new c own → Moves c 0 (fronts_of old) (fronts_of new) [] own
+did_moves old new c own did = record {
+  same = record {
+    nodes = refl;
+    shape = same_shapes old.shape new.shape did.shape;
+    callers = refl;
+    first = refl;
+    end = refl;
+  };
+  by_others = All-nil _;
+  by_caller = did.own;
+  front = rw append-nil did.journal;
+  elsewhere = only_elsewhere old.journal new.journal;
+  legal = λ _. rw did.shape at did.legal;
+}
+
+answers_done : (s : Shape) (h : History) (c : ℕ) (op : Op) (own : List Event) (reply : Reply) → refusal s h (call_of c op) ≡ None → Does s h c op own (Ok reply) → Answers s h c op own (Ok reply)
+unfolding Answers
+answers_done s h c op own reply allowed does = rw allowed does
+
+answers_refused : (s : Shape) (h : History) (c : ℕ) (op : Op) (why : Refusal) → refusal s h (call_of c op) ≡ Some why → Answers s h c op [] (Err why)
+unfolding Answers
+answers_refused s h c op why refused = rw refused (refl, refl)
+
+-- a call that was done
+pub done_step : (old new : NodeState) (c : ℕ) (op : Op) (own : List Event) (reply : Reply) → refusal old.shape old.journal (call_of c op) ≡ None → Did old new c own → Does old.shape old.journal c op own (Ok reply) → StepDone c 0 op (fronts_of old) (fronts_of new) (Ok reply)
+done_step old new c op own reply allowed did does = record {
+  others = [];
+  own = own;
+  moves = did_moves old new c own did;
+  tells = rw append-nil (answers_done old.shape old.journal c op own reply allowed does);
+}
+
+tells_refused : (s : Shape) (h : History) (c : ℕ) (op : Op) (why : Refusal) → refusal s h (call_of c op) ≡ Some why → Tells s h c op [] (Err why)
+tells_refused s h c op OutOfMemory refused = absurd (never_memory s h c op refused)
+tells_refused s h c op why refused = answers_refused s h c op why refused
+
+-- the node recorded nothing
+nothing_moves : (old new : NodeState) (c : ℕ) → new ≡ old → Moves c 0 (fronts_of old) (fronts_of new) [] []
+nothing_moves old new c same = record {
+  same = record {
+    nodes = refl;
+    shape = same_shapes old.shape new.shape (ap (λ n. n.shape) same);
+    callers = refl;
+    first = refl;
+    end = refl;
+  };
+  by_others = All-nil _;
+  by_caller = All-nil _;
+  front = rw (append-nil, append-nil) (ap (λ n. n.journal) same);
+  elsewhere = only_elsewhere old.journal new.journal;
+  legal = λ legal. rw same legal;
+}
+
+tells_cause : (old : NodeState) (c : ℕ) (op : Op) (m : ℕ) (why : Refusal) → (refusal old.shape old.journal (call_of c op) ≡ Some why) ⊎ ((refusal old.shape old.journal (call_of c op) ≡ None) × (why ≡ OutOfMemory) × (old.room < m)) → Tells old.shape old.journal c op [] (Err why)
+tells_cause old c op m why (inl told) = tells_refused old.shape old.journal c op why told
+tells_cause old c op m why (inr memory) = subst (λ (r : Refusal). Tells old.shape old.journal c op [] (Err r)) (sym memory.1) (memory.0, refl)
+
+-- a call that was refused, or that had no memory
+pub refused_step : (old new : NodeState) (c : ℕ) (op : Op) (m : ℕ) (why : Refusal) → Refused old new (refusal old.shape old.journal (call_of c op)) m why → StepDone c 0 op (fronts_of old) (fronts_of new) (Err why)
+refused_step old new c op m why refused = record {
+  others = [];
+  own = [];
+  moves = nothing_moves old new c refused.same;
+  tells = subst (λ (h : History). Tells old.shape h c op [] (Err why)) (sym (append-nil old.journal)) (tells_cause old c op m why refused.cause);
+}
+
+-- ---- the calls
+
+pub alloc_step : (old new : NodeState) (c p : ℕ) → refusal old.shape old.journal call.alloc_page ≡ None → p ≡ allocations old.journal → DidAlloc old new c p → StepDone c 0 Alloc (fronts_of old) (fronts_of new) (Ok (Page p))
+alloc_step old new c p allowed number d =
+    done_step old new c Alloc (by c (what.Alloc p d.block) ∷ []) (Page p) allowed d.did (d.block, rw number refl, rw number refl)
+
+pub split_pmd_step : (old new : NodeState) (c p : ℕ) → refusal old.shape old.journal (call.split_pmd p) ≡ None → Did old new c (by c (what.SplitPmd p) ∷ []) → StepDone c 0 (SplitPmd p) (fronts_of old) (fronts_of new) (Ok UnitReply)
+split_pmd_step old new c p allowed did = done_step old new c (SplitPmd p) (by c (what.SplitPmd p) ∷ []) UnitReply allowed did (refl, refl)
+
+pub unmap_step : (old new : NodeState) (c p first count : ℕ) (d : Done) → refusal old.shape old.journal (call.unmap_sub p first count) ≡ None → Did old new c (by c (what.UnmapSub p first count d.outcome d.released) ∷ []) → StepDone c 0 (Unmap p first count) (fronts_of old) (fronts_of new) (Ok (reply.Done d))
+unmap_step old new c p first count d allowed did = done_step old new c (Unmap p first count) (by c (what.UnmapSub p first count d.outcome d.released) ∷ []) (reply.Done d) allowed did (d, refl, refl)
+
+pub scan_step : (old new : NodeState) (c count : ℕ) (r : ScanReply) → refusal old.shape old.journal (call.scan c) ≡ None → Did old new c (scan_events old.shape old.journal c count) → r ≡ scan_reply (scan_events old.shape old.journal c count) → StepDone c 0 (Scan count) (fronts_of old) (fronts_of new) (Ok (reply.Scan r))
+scan_step old new c count r allowed did is = done_step old new c (Scan count) (scan_events old.shape old.journal c count) (reply.Scan r) allowed did (refl, rw is refl)
+
+-- ---- a new node
+
+only_nothing : (n : ℕ) → only [] n ≡ []
+only_nothing zero = refl
+only_nothing (suc n) = refl
+
+pub new_node : (s : Settings) (node : NodeState) → node.shape ≡ shape_of s 0 → node.journal ≡ [] → IsNew s (fronts_of node)
+new_node s node shape journal = record {
+  nodes = omega (arith, s.within_limits.least_nodes, s.within_limits.most_nodes);
+  shape = ap shapes shape;
+  front = λ n. rw journal (only_nothing n);
+  first = refl;
+  end = refl;
+  some_caller = omega arith;
+}
+
+-- the node of a step is the one that there is
+pub on_node_0 : (old new : NodeState) (c n : ℕ) (op same : Op) (answer : Answer) → n ≡ 0 → op ≡ same → StepDone c 0 same (fronts_of old) (fronts_of new) answer → StepDone c n op (fronts_of old) (fronts_of new) answer
+on_node_0 old new c n op same answer is-0 is done = rw (is-0, is) done

@@ -1,0 +1,14 @@
+use Rattle.std.proofs.Common.{◌≡◌, length, false}
+use Rattle.thp_run.proofs.DeviceLaws.{Written}
+use Rattle.thp_run.proofs.device.write_text.Given as goal
+
+abbrev pub decreases-loop-rest : goal.decreases-loop-rest
+decreases-loop-rest g l = length l.rest
+
+abbrev pub invariant-loop-rest : goal.invariant-loop-rest
+invariant-loop-rest g l =
+    let contents = g.W.Write.contents in
+    record {
+      written : Written (contents l.fn.writer.device) (contents l.writer.device) l.text l.rest;
+      flag : l.writer.failed ≡ false;
+    }

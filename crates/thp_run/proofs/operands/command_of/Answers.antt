@@ -1,0 +1,10 @@
+use Rattle.std.proofs.Common.{◌≡◌, codes, rules}
+use Rattle.std.proofs.lemmas.Slice.Eq.{text_from_reads}
+use Rattle.thp_run.specs.Commands.{command_of}
+use Rattle.thp_run.proofs.operands.command_of.Goals as goal
+
+pub returns-in-splitpmd-clause-command : goal.returns-in-splitpmd-clause-command
+unfolding command_of
+returns-in-splitpmd-clause-command c =
+    let is : c.args.name.now ≡ codes "splitpmd" = text_from_reads c.args.name.now (codes "splitpmd") (search rules) (search rules) in
+    rw is c.split_pmd_of.ensures.command

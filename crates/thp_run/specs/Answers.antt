@@ -1,0 +1,44 @@
+-- What a command does to its node: its own events, and what it is answered.
+use Rattle.std.specs.Prelude.{◌≡◌, ℕ, List, [], ◌∷◌, Option, Some, None, Result, Ok, Err}
+use Rattle.thp_model.specs.declared.events.Event.{Event}
+use Rattle.thp_model.specs.declared.events.What.TheVariants as what
+use Rattle.thp_model.specs.declared.refusal.Refusal.{Refusal}
+use Rattle.thp_model.specs.declared.shape.Shape.{Shape}
+use Rattle.thp_model.specs.Counts.{allocations}
+use Rattle.thp_model.specs.History.{History, by}
+use Rattle.thp_model.specs.Refusals.{Call, refusal}
+use Rattle.thp_model.specs.Refusals as call
+use Rattle.thp_model.specs.Runs.{scan_events}
+use Rattle.thp_node.specs.declared.answers.Done.{Done}
+use Rattle.thp_node.specs.Batches.{scan_reply}
+use Rattle.thp_run.specs.declared.reply.Reply.{Reply}
+use Rattle.thp_run.specs.declared.reply.Reply.TheVariants as reply
+use Rattle.thp_run.specs.declared.reply.Reply.TheVariants.{Page, Unit as UnitReply}
+use Rattle.thp_run.specs.declared.script.Op.{Op}
+use Rattle.thp_run.specs.declared.script.Op.TheVariants.{Alloc, SplitPmd, Unmap, Scan}
+
+-- what a command is answered: its reply, or why it was refused
+abbrev pub Answer : Type 0
+Answer = Result Reply Refusal
+
+-- the call that a command of caller c makes on its node
+abbrev pub call_of : ℕ → Op → Call
+call_of c Alloc = call.alloc_page
+call_of c (SplitPmd p) = call.split_pmd p
+call_of c (Unmap p first count) = call.unmap_sub p first count
+call_of c (Scan count) = call.scan c
+
+-- the events and the answer of a command that isn't refused at h; a new page's block is free to choose
+abbrev pub Does : Shape → History → ℕ → Op → List Event → Answer → Type 0
+Does s h c Alloc own answer = (block : ℕ) × (own ≡ by c (what.Alloc (allocations h) block) ∷ []) × (answer ≡ Ok (Page (allocations h)))
+Does s h c (SplitPmd p) own answer = (own ≡ by c (what.SplitPmd p) ∷ []) × (answer ≡ Ok UnitReply)
+Does s h c (Unmap p first count) own answer = (d : Done) × (own ≡ by c (what.UnmapSub p first count d.outcome d.released) ∷ []) × (answer ≡ Ok (reply.Done d))
+Does s h c (Scan count) own answer = (own ≡ scan_events s h c count) × (answer ≡ Ok (reply.Scan (scan_reply own)))
+
+abbrev pub AnswersBy : Option Refusal → Shape → History → ℕ → Op → List Event → Answer → Type 0
+AnswersBy (Some why) s h c op own answer = (own ≡ []) × (answer ≡ Err why)
+AnswersBy None s h c op own answer = Does s h c op own answer
+
+-- the events and the answer of a command of caller c at h: a refused one has no events
+unfoldable pub Answers : Shape → History → ℕ → Op → List Event → Answer → Type 0
+Answers s h c op own answer = AnswersBy (refusal s h (call_of c op)) s h c op own answer
