@@ -30,3 +30,6 @@ pub use script::{Command, Op, Script};
 pub use sequence::Sequence;
 pub use settings::{Report, Settings};
 pub use watched::Watched;
+
+#[cfg(test)]
+mod tests;
