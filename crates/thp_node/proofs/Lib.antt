@@ -15,3 +15,6 @@ pub mod Starting
 pub mod BatchRuns
 pub mod ReturnLemmas
 pub mod ScanLemmas
+pub mod JournalFacts
+pub mod Fronts
+pub mod TableFacts

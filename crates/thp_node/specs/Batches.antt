@@ -1,5 +1,5 @@
 -- What contracts see of a batch, what a try and a put-back answer, and what a scan counts.
-use Rattle.std.specs.Prelude.{◌≡◌, ℕ, ◌≤◌, ◌<◌, length, nat_eq, if◌then◌else◌, Bool, true, false, List, ◌++◌, drop, Option, Some, None}
+use Rattle.std.specs.Prelude.{◌≡◌, ◌≢◌, ℕ, ◌≤◌, ◌<◌, length, nat_eq, if◌then◌else◌, Bool, true, false, List, ◌++◌, drop, Option, Some, None}
 use Rattle.thp_model.specs.declared.events.Event.{Event}
 use Rattle.thp_model.specs.declared.events.What.{What}
 use Rattle.thp_model.specs.declared.events.What.TheVariants.{Taken, Split as SplitOf, Pinned as PinnedOf, Back, Dropped}
@@ -32,6 +32,14 @@ pub record IsBatch (b : BatchState) : Type 0 where
 pub record IsInFront (h : History) (b : BatchState) : Type 0 where
   pub others : List ℕ
   pub front : flight h b.caller ≡ still_flying h b.caller b.pages ++ others
+
+-- every batch that is in front of its flight at h is so at k
+abbrev pub FrontsStay : History → History → Type 0
+FrontsStay h k = (b : BatchState) → IsInFront h b → IsInFront k b
+
+-- every batch of a caller other than c
+abbrev pub OtherFrontsStay : ℕ → History → History → Type 0
+OtherFrontsStay c h k = (b : BatchState) → b.caller ≢ c → IsInFront h b → IsInFront k b
 
 -- what a try of the next page answers
 abbrev pub tried : History → Option ℕ → Tried

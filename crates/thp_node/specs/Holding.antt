@@ -1,4 +1,4 @@
--- What a node's table and queue keep of its history. No public clause cites this module.
+-- What a node's table and queue keep of its history.
 use Rattle.std.specs.Prelude.{◌≡◌, ℕ, length, map, List, Option, Some, None}
 use Rattle.thp_model.specs.declared.shape.Shape.{Shape}
 use Rattle.thp_model.specs.History.{History}
@@ -7,7 +7,7 @@ use Rattle.thp_model.specs.Pages.{Tallies}
 use Rattle.thp_model.specs.Places.{queue}
 use Rattle.thp_page.specs.Table.{Slot}
 use Rattle.thp_page.specs.Table.{Table}
-use Rattle.thp_page.specs.Slots.{slot_at}
+use Rattle.thp_page.specs.Slots.{slot_at, IsHeld}
 use Rattle.thp_node.specs.Homes.{block_of, standing_of}
 
 -- what stands in block b is what the history says of its page
@@ -20,6 +20,10 @@ pub record IsSlot (s : Shape) (h : History) (b : ℕ) (x : Slot) : Type 0 where
 abbrev pub Fills : Shape → History → ℕ → Option Slot → Type 0
 Fills s h b None = (p : ℕ) → block_of h p ≡ Some b → ⊥
 Fills s h b (Some x) = IsSlot s h b x
+
+-- page p stands in some block
+abbrev pub HasBlock : Table → ℕ → Type 0
+HasBlock t p = (b : ℕ) × IsHeld (slot_at t b) p
 
 -- the history is legal, the table's slots are the live pages, and the queue's indices are the blocks of the queued pages
 -- in order

@@ -1,12 +1,13 @@
 -- Where a history says that a live page lies, and in which flight it is.
-use Rattle.std.specs.Prelude.{ℕ, Bool, true, false, nat_eq, if◌then◌else◌, List, [], ◌∷◌, Option, Some, None}
+use Rattle.std.specs.Prelude.{◌≡◌, ◌↔◌, ℕ, Bool, true, false, nat_eq, if◌then◌else◌, List, [], ◌∷◌, Option, Some, None}
 use Rattle.std.specs.List.{fold}
 use Rattle.thp_model.specs.declared.events.Event.{Event}
 use Rattle.thp_model.specs.declared.events.Outcome.{Outcome}
 use Rattle.thp_model.specs.declared.events.What.{What}
 use Rattle.thp_model.specs.declared.events.What.TheVariants.{Alloc, UnmapWhole, UnmapSub, Unpin}
-use Rattle.thp_model.specs.History.{History}
-use Rattle.thp_model.specs.Counts.{is_freed}
+use Rattle.thp_model.specs.History.{History, some_event}
+use Rattle.thp_model.specs.Counts.{is_freed, is_live}
+use Rattle.thp_model.specs.Frames.{places}
 use Rattle.thp_model.specs.Places.{queue, flights, has_page}
 use Rattle.thp_page.specs.declared.standing.Standing.{Standing}
 use Rattle.thp_page.specs.declared.standing.Standing.TheVariants.{Nowhere, Queued, Batch}
@@ -26,6 +27,10 @@ block_after p o _ = o
 -- the block in which live page p lies
 unfoldable pub block_of : History → ℕ → Option ℕ
 block_of h p = fold (λ o (e : Event). block_after p o e.what) None h
+
+-- the pages with a block are the live ones, each in the block of its allocation
+abbrev pub LiesWherePlaced : History → Type 0
+LiesWherePlaced h = (p b : ℕ) → (block_of h p ≡ Some b) ↔ ((is_live h p ≡ true) × (some_event (places p b) h ≡ true))
 
 -- the caller in whose flight page p is
 abbrev pub flier : ℕ → List (ℕ × ℕ) → Option ℕ

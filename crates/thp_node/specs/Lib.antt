@@ -1,6 +1,7 @@
 pub mod Homes
 pub mod NodeState
 pub mod Journals
+pub mod JournalLaws
 pub mod Batches
 pub mod Calls
 pub mod Holding

@@ -111,6 +111,7 @@ impl Journal {
     // What happened so far, the oldest event first.
     pub(crate) fn events(&self) -> &[Event]
         ensures value { result.now ≡ self.now.events }
+        ensures shape { IsShape self.now.shape }
         ensures legal { IsLegal self.now.shape self.now.events }
     {
         &self.events

@@ -1,11 +1,15 @@
 //! A memory node: what it is made of, how it is made, and what can be read of it.
-ghost use Rattle.std.specs.Prelude.{◌≡◌, ℕ, ◌<◌, ◌≤◌, [], length, map, Some, ◌↔◌, Err, IfOk, IfErr, OnOk, OnErr};
+ghost use Rattle.std.specs.Prelude.{◌≡◌, ℕ, ◌<◌, ◌≤◌, true, [], length, map, Some, ◌↔◌, Err, IfOk, IfErr, OnOk, OnErr};
 ghost use Rattle.thp_links.specs.Standing.{Stands};
+ghost use Rattle.thp_model.specs.Counts.{is_live};
 ghost use Rattle.thp_model.specs.Shapes.{IsShape};
 ghost use Rattle.thp_model.specs.Frames.{frames_given, frames_held};
 ghost use Rattle.thp_model.specs.Legal.{IsLegal};
 ghost use Rattle.thp_model.specs.Places.{queue};
-ghost use Rattle.thp_node.specs.Homes.{block_of};
+ghost use Rattle.thp_page.specs.Slots.{slot_at};
+ghost use Rattle.thp_node.specs.Holding.{Fills, HasBlock};
+ghost use Rattle.thp_node.specs.Homes.{block_of, LiesWherePlaced};
+ghost use Rattle.thp_node.specs.JournalLaws.{StandsOnce, StandsWhole, TakesOldest, LeavesFreedAlone, AllocatesOnce, NothingEnters, HasFramesOnce, KeepsFrames, HoldsWhileLive, LivesApart, OthersFree, FlightsGoOn, QueueGoesOn};
 ghost use Rattle.thp_node.specs.Journals.{counters_of};
 
 mod batch_calls;
@@ -91,13 +95,33 @@ impl Node {
     pub fn journal(&self) -> &[Event]
         ensures value { result.now ≡ self.now.journal }
         ensures legal { IsLegal self.now.shape self.now.journal }
+        // the laws of every legal history, at this one
+        ensures once { StandsOnce self.now.journal }
+        ensures whole { StandsWhole self.now.journal }
+        ensures oldest { TakesOldest self.now.journal }
+        ensures freed { LeavesFreedAlone self.now.journal }
+        ensures new { AllocatesOnce self.now.journal }
+        ensures closed { NothingEnters self.now.journal }
+        ensures frames { HasFramesOnce self.now.shape self.now.journal }
+        ensures sum { KeepsFrames self.now.shape self.now.journal }
+        ensures holds { HoldsWhileLive self.now.shape self.now.journal }
+        ensures apart { LivesApart self.now.journal }
+        ensures others { OthersFree self.now.journal }
+        ensures flights { FlightsGoOn self.now.journal }
+        ensures queue { QueueGoesOn self.now.journal }
     {
         self.journal.events()
     }
 
-    /// The table of pages, in whose links the queue stands.
+    /// The table of pages, in whose links the queue stands. Its slots are the live pages, each in the block of its
+    /// allocation and with the counts and the standing that the journal gives it.
     pub fn table(&self) -> &PageTable
-        ensures { result.now ≡ self.now.table }
+        ensures value { result.now ≡ self.now.table }
+        ensures size { length self.now.table.slots ≡ self.now.shape.blocks }
+        ensures order { self.now.table.order ≡ self.now.shape.order }
+        ensures slots { (b : ℕ) → Fills self.now.shape self.now.journal b (slot_at self.now.table b) }
+        ensures live { (p : ℕ) → is_live self.now.journal p ≡ true → HasBlock self.now.table p }
+        ensures homes { LiesWherePlaced self.now.journal }
     {
         self.blocks.table()
     }

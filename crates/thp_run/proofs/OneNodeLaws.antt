@@ -1,11 +1,14 @@
 -- Calls of the one node, as steps of a holder of all callers.
 use Rattle.std.proofs.Common.{◌≡◌, ◌⊎◌, ◌<◌, zero, suc, ap, ℕ, Bool, true, false, cond, List, [], ◌∷◌, Option, Some, None, Ok, Err, refl, subst, sym, inl, inr, unwrap_or, arith}
+use Rattle.std.specs.Prelude.{Result, IfErr, IfOk, OnOk}
 use Rattle.std.proofs.lemmas.List.{append-nil}
 use Rattle.std.proofs.lemmas.List.Elements.{All-nil}
 use Rattle.thp_model.specs.declared.events.Event.{Event}
 use Rattle.thp_model.specs.declared.refusal.Refusal.{Refusal}
-use Rattle.thp_model.specs.declared.refusal.Refusal.TheVariants.{NoPage, BadRange, IsSplit, NotMapped, Closed, NoBlock, HasBatch, OutOfMemory}
+use Rattle.thp_model.specs.declared.refusal.Refusal.TheVariants.{NoPage, BadRange, IsSplit, NotMapped, Gone, NotPinned, TooMany, Closed, NoBlock, HasBatch, OutOfMemory}
 use Rattle.thp_model.specs.declared.shape.Shape.{Shape}
+use Rattle.thp_model.specs.declared.events.Outcome.{Outcome}
+use Rattle.thp_model.specs.declared.events.What.{What}
 use Rattle.thp_model.specs.declared.events.What.TheVariants as what
 use Rattle.thp_model.specs.Counts.{allocations}
 use Rattle.thp_model.specs.History.{History, by}
@@ -21,12 +24,12 @@ use Rattle.thp_run.specs.declared.reply.Reply.{Reply}
 use Rattle.thp_run.specs.declared.reply.Reply.TheVariants as reply
 use Rattle.thp_run.specs.declared.reply.Reply.TheVariants.{Page, Unit as UnitReply}
 use Rattle.thp_run.specs.declared.script.Op.{Op}
-use Rattle.thp_run.specs.declared.script.Op.TheVariants.{Alloc, SplitPmd, Unmap, Scan}
+use Rattle.thp_run.specs.declared.script.Op.TheVariants.{Alloc, MapWhole, UnmapWhole, Map, Unmap, SplitPmd, Pin, Unpin, Close, Scan}
 use Rattle.thp_run.specs.Answers.{Answer, Answers, Does, call_of}
 use Rattle.thp_run.specs.Fronts.{Moves, StepDone, Tells}
 use Rattle.thp_run.specs.declared.settings.Settings.{Settings}
 use Rattle.thp_run.specs.NewNodes.{IsNew, shape_of}
-use Rattle.thp_run.specs.OneNode.{fronts_of, only}
+use Rattle.thp_run.specs.OneNode.{change_answer, fronts_of, only, unit_answer}
 
 -- a call is never refused at a history for want of memory
 memory_last : (b : Bool) (why : Refusal) (rest : Option Refusal) → (why ≡ OutOfMemory → ⊥) → (rest ≡ Some OutOfMemory → ⊥) → cond b (Some why) rest ≡ Some OutOfMemory → ⊥
@@ -36,8 +39,14 @@ memory_last false why rest here later is = later is
 never_memory : (s : Shape) (h : History) (c : ℕ) (op : Op) → refusal s h (call_of c op) ≡ Some OutOfMemory → ⊥
 unfolding refusal
 never_memory s h c Alloc = memory_last _ Closed _ (λ e. cc) (memory_last _ NoBlock None (λ e. cc) (λ e. cc))
+never_memory s h c (MapWhole p) = memory_last _ NoPage _ (λ e. cc) (memory_last _ IsSplit _ (λ e. cc) (memory_last _ TooMany None (λ e. cc) (λ e. cc)))
+never_memory s h c (UnmapWhole p) = memory_last _ NoPage _ (λ e. cc) (memory_last _ IsSplit _ (λ e. cc) (memory_last _ NotMapped None (λ e. cc) (λ e. cc)))
+never_memory s h c (Map p first count) = memory_last _ NoPage _ (λ e. cc) (memory_last _ BadRange _ (λ e. cc) (memory_last _ Gone _ (λ e. cc) (memory_last _ TooMany None (λ e. cc) (λ e. cc))))
 never_memory s h c (SplitPmd p) = memory_last _ NoPage _ (λ e. cc) (memory_last _ IsSplit _ (λ e. cc) (memory_last _ NotMapped None (λ e. cc) (λ e. cc)))
 never_memory s h c (Unmap p first count) = memory_last _ NoPage _ (λ e. cc) (memory_last _ BadRange _ (λ e. cc) (memory_last _ NotMapped None (λ e. cc) (λ e. cc)))
+never_memory s h c (Pin p) = memory_last _ NoPage _ (λ e. cc) (memory_last _ IsSplit _ (λ e. cc) (memory_last _ TooMany None (λ e. cc) (λ e. cc)))
+never_memory s h c (Unpin p) = memory_last _ NoPage _ (λ e. cc) (memory_last _ IsSplit _ (λ e. cc) (memory_last _ NotPinned None (λ e. cc) (λ e. cc)))
+never_memory s h c Close = memory_last _ Closed None (λ e. cc) (λ e. cc)
 never_memory s h c (Scan count) = memory_last _ HasBatch None (λ e. cc) (λ e. cc)
 
 abbrev shapes : Shape → ℕ → Shape
@@ -120,18 +129,42 @@ refused_step old new c op m why refused = record {
 
 -- ---- the calls
 
+-- the node of a step is the one that there is
+pub on_node_0 : (old new : NodeState) (c n : ℕ) (op same : Op) (answer : Answer) → n ≡ 0 → op ≡ same → StepDone c 0 same (fronts_of old) (fronts_of new) answer → StepDone c n op (fronts_of old) (fronts_of new) answer
+on_node_0 old new c n op same answer is-0 is done = rw (is-0, is) done
+
 pub alloc_step : (old new : NodeState) (c p : ℕ) → refusal old.shape old.journal call.alloc_page ≡ None → p ≡ allocations old.journal → DidAlloc old new c p → StepDone c 0 Alloc (fronts_of old) (fronts_of new) (Ok (Page p))
 alloc_step old new c p allowed number d =
     done_step old new c Alloc (by c (what.Alloc p d.block) ∷ []) (Page p) allowed d.did (d.block, rw number refl, rw number refl)
 
-pub split_pmd_step : (old new : NodeState) (c p : ℕ) → refusal old.shape old.journal (call.split_pmd p) ≡ None → Did old new c (by c (what.SplitPmd p) ∷ []) → StepDone c 0 (SplitPmd p) (fronts_of old) (fronts_of new) (Ok UnitReply)
-split_pmd_step old new c p allowed did = done_step old new c (SplitPmd p) (by c (what.SplitPmd p) ∷ []) UnitReply allowed did (refl, refl)
-
-pub unmap_step : (old new : NodeState) (c p first count : ℕ) (d : Done) → refusal old.shape old.journal (call.unmap_sub p first count) ≡ None → Did old new c (by c (what.UnmapSub p first count d.outcome d.released) ∷ []) → StepDone c 0 (Unmap p first count) (fronts_of old) (fronts_of new) (Ok (reply.Done d))
-unmap_step old new c p first count d allowed did = done_step old new c (Unmap p first count) (by c (what.UnmapSub p first count d.outcome d.released) ∷ []) (reply.Done d) allowed did (d, refl, refl)
-
 pub scan_step : (old new : NodeState) (c count : ℕ) (r : ScanReply) → refusal old.shape old.journal (call.scan c) ≡ None → Did old new c (scan_events old.shape old.journal c count) → r ≡ scan_reply (scan_events old.shape old.journal c count) → StepDone c 0 (Scan count) (fronts_of old) (fronts_of new) (Ok (reply.Scan r))
 scan_step old new c count r allowed did is = done_step old new c (Scan count) (scan_events old.shape old.journal c count) (reply.Scan r) allowed did (refl, rw is refl)
+
+-- a call of one event that tells nothing once it is done
+pub unit_step : (old new : NodeState) (c n : ℕ) (op same : Op) (event : What) (called : Result (Unit {0}) Refusal) (answer : Answer)
+    → n ≡ 0
+    → op ≡ same
+    → answer ≡ unit_answer called
+    → OnOk called (refusal old.shape old.journal (call_of c same) ≡ None)
+    → OnOk called (Did old new c (by c event ∷ []))
+    → IfErr called (Refused old new (refusal old.shape old.journal (call_of c same)) 1)
+    → Does old.shape old.journal c same (by c event ∷ []) (Ok UnitReply)
+    → StepDone c n op (fronts_of old) (fronts_of new) answer
+unit_step old new c n op same event (Ok u) answer is-0 is answered allowed did refused does = rw (is-0, is, answered) (done_step old new c same (by c event ∷ []) UnitReply allowed did does)
+unit_step old new c n op same event (Err why) answer is-0 is answered allowed did refused does = rw (is-0, is, answered) (refused_step old new c same 1 why refused)
+
+-- a call of one event that takes mappings or a pin away; the event has what came of it
+pub change_step : (old new : NodeState) (c n : ℕ) (op same : Op) (event : Outcome → List Bool → What) (called : Result Done Refusal) (answer : Answer)
+    → n ≡ 0
+    → op ≡ same
+    → answer ≡ change_answer called
+    → OnOk called (refusal old.shape old.journal (call_of c same) ≡ None)
+    → IfOk called (λ d. Did old new c (by c (event d.outcome d.released) ∷ []))
+    → IfErr called (Refused old new (refusal old.shape old.journal (call_of c same)) 1)
+    → ((d : Done) → Does old.shape old.journal c same (by c (event d.outcome d.released) ∷ []) (Ok (reply.Done d)))
+    → StepDone c n op (fronts_of old) (fronts_of new) answer
+change_step old new c n op same event (Ok d) answer is-0 is answered allowed did refused does = rw (is-0, is, answered) (done_step old new c same (by c (event d.outcome d.released) ∷ []) (reply.Done d) allowed did (does d))
+change_step old new c n op same event (Err why) answer is-0 is answered allowed did refused does = rw (is-0, is, answered) (refused_step old new c same 1 why refused)
 
 -- ---- a new node
 
@@ -148,7 +181,3 @@ new_node s node shape journal = record {
   end = refl;
   some_caller = omega arith;
 }
-
--- the node of a step is the one that there is
-pub on_node_0 : (old new : NodeState) (c n : ℕ) (op same : Op) (answer : Answer) → n ≡ 0 → op ≡ same → StepDone c 0 same (fronts_of old) (fronts_of new) answer → StepDone c n op (fronts_of old) (fronts_of new) answer
-on_node_0 old new c n op same answer is-0 is done = rw (is-0, is) done

@@ -1,6 +1,8 @@
 -- What a command does to its node: its own events, and what it is answered.
-use Rattle.std.specs.Prelude.{◌≡◌, ℕ, List, [], ◌∷◌, Option, Some, None, Result, Ok, Err}
+use Rattle.std.specs.Prelude.{◌≡◌, ℕ, Bool, List, [], ◌∷◌, Option, Some, None, Result, Ok, Err}
 use Rattle.thp_model.specs.declared.events.Event.{Event}
+use Rattle.thp_model.specs.declared.events.Outcome.{Outcome}
+use Rattle.thp_model.specs.declared.events.What.{What}
 use Rattle.thp_model.specs.declared.events.What.TheVariants as what
 use Rattle.thp_model.specs.declared.refusal.Refusal.{Refusal}
 use Rattle.thp_model.specs.declared.shape.Shape.{Shape}
@@ -15,7 +17,7 @@ use Rattle.thp_run.specs.declared.reply.Reply.{Reply}
 use Rattle.thp_run.specs.declared.reply.Reply.TheVariants as reply
 use Rattle.thp_run.specs.declared.reply.Reply.TheVariants.{Page, Unit as UnitReply}
 use Rattle.thp_run.specs.declared.script.Op.{Op}
-use Rattle.thp_run.specs.declared.script.Op.TheVariants.{Alloc, SplitPmd, Unmap, Scan}
+use Rattle.thp_run.specs.declared.script.Op.TheVariants.{Alloc, MapWhole, UnmapWhole, Map, Unmap, SplitPmd, Pin, Unpin, Close, Scan}
 
 -- what a command is answered: its reply, or why it was refused
 abbrev pub Answer : Type 0
@@ -24,15 +26,35 @@ Answer = Result Reply Refusal
 -- the call that a command of caller c makes on its node
 abbrev pub call_of : ℕ → Op → Call
 call_of c Alloc = call.alloc_page
-call_of c (SplitPmd p) = call.split_pmd p
+call_of c (MapWhole p) = call.map_whole p
+call_of c (UnmapWhole p) = call.unmap_whole p
+call_of c (Map p first count) = call.map_sub p first count
 call_of c (Unmap p first count) = call.unmap_sub p first count
+call_of c (SplitPmd p) = call.split_pmd p
+call_of c (Pin p) = call.pin p
+call_of c (Unpin p) = call.unpin p
+call_of c Close = call.close
 call_of c (Scan count) = call.scan c
+
+-- caller c's one event is this, and there is nothing to answer
+abbrev pub DoesOne : ℕ → What → List Event → Answer → Type 0
+DoesOne c what own answer = (own ≡ by c what ∷ []) × (answer ≡ Ok UnitReply)
+
+-- caller c's one event is this, with what became of its page and the frames given back, and those are the answer
+abbrev pub DoesLoss : ℕ → (Outcome → List Bool → What) → List Event → Answer → Type 0
+DoesLoss c what own answer = (d : Done) × (own ≡ by c (what d.outcome d.released) ∷ []) × (answer ≡ Ok (reply.Done d))
 
 -- the events and the answer of a command that isn't refused at h; a new page's block is free to choose
 abbrev pub Does : Shape → History → ℕ → Op → List Event → Answer → Type 0
 Does s h c Alloc own answer = (block : ℕ) × (own ≡ by c (what.Alloc (allocations h) block) ∷ []) × (answer ≡ Ok (Page (allocations h)))
-Does s h c (SplitPmd p) own answer = (own ≡ by c (what.SplitPmd p) ∷ []) × (answer ≡ Ok UnitReply)
-Does s h c (Unmap p first count) own answer = (d : Done) × (own ≡ by c (what.UnmapSub p first count d.outcome d.released) ∷ []) × (answer ≡ Ok (reply.Done d))
+Does s h c (MapWhole p) own answer = DoesOne c (what.MapWhole p) own answer
+Does s h c (UnmapWhole p) own answer = DoesLoss c (what.UnmapWhole p) own answer
+Does s h c (Map p first count) own answer = DoesOne c (what.MapSub p first count) own answer
+Does s h c (Unmap p first count) own answer = DoesLoss c (what.UnmapSub p first count) own answer
+Does s h c (SplitPmd p) own answer = DoesOne c (what.SplitPmd p) own answer
+Does s h c (Pin p) own answer = DoesOne c (what.Pin p) own answer
+Does s h c (Unpin p) own answer = DoesLoss c (what.Unpin p) own answer
+Does s h c Close own answer = DoesOne c what.Close own answer
 Does s h c (Scan count) own answer = (own ≡ scan_events s h c count) × (answer ≡ Ok (reply.Scan (scan_reply own)))
 
 abbrev pub AnswersBy : Option Refusal → Shape → History → ℕ → Op → List Event → Answer → Type 0

@@ -5,7 +5,7 @@ use Rattle.thp_run.specs.declared.fault.TextKind.{TextKind}
 use Rattle.thp_run.specs.declared.fault.TextKind.TheVariants.{BadWord, BadCount, BadNumber}
 use Rattle.thp_run.specs.declared.script.Command.{Command}
 use Rattle.thp_run.specs.declared.script.Op.{Op}
-use Rattle.thp_run.specs.declared.script.Op.TheVariants.{Alloc, SplitPmd, Unmap, Scan}
+use Rattle.thp_run.specs.declared.script.Op.TheVariants.{Alloc, MapWhole, UnmapWhole, Map, Unmap, SplitPmd, Pin, Unpin, Close, Scan}
 use Rattle.thp_run.specs.declared.settings.Settings.{Settings}
 use Rattle.thp_run.specs.Steps.{◌>>=◌}
 use Rattle.thp_run.specs.Words.{Text, number_of}
@@ -33,34 +33,34 @@ number_up_to most word = ok_or (number_of most word) BadNumber
 abbrev pub node_number : Settings → Text → Result ℕ TextKind
 node_number s = number_up_to (s.nodes - 1)
 
--- `alloc NODE`
-unfoldable pub alloc_of : Settings → List Text → Result Command TextKind
-alloc_of s words = do
+-- a command on a node as a whole, behind its name: `NODE`
+unfoldable pub node_command : Op → Settings → List Text → Result Command TextKind
+node_command op s words = do
   word ← one_word words
   node ← node_number s word
-  Ok (record { node = node; op = Alloc })
+  Ok (record { node = node; op = op })
 
--- `splitpmd NODE PAGE`
-unfoldable pub split_pmd_of : Settings → List Text → Result Command TextKind
-split_pmd_of s words = do
+-- a command on a page: `NODE PAGE`
+unfoldable pub page_command : (ℕ → Op) → Settings → List Text → Result Command TextKind
+page_command op s words = do
   word ← two_words words
   node ← node_number s word.0
   page ← number_up_to 18446744073709551615 word.1
-  Ok (record { node = node; op = SplitPmd page })
+  Ok (record { node = node; op = op page })
 
--- `unmap NODE PAGE FIRST COUNT`
-unfoldable pub unmap_of : Settings → List Text → Result Command TextKind
-unmap_of s words = do
+-- a command on a range of a page's subpages: `NODE PAGE FIRST COUNT`
+unfoldable pub range_command : (ℕ → ℕ → ℕ → Op) → Settings → List Text → Result Command TextKind
+range_command op s words = do
   word ← four_words words
   node ← node_number s word.0
   page ← number_up_to 18446744073709551615 word.1
   first ← number_up_to 65535 word.2
   count ← number_up_to 65535 word.3
-  Ok (record { node = node; op = Unmap page first count })
+  Ok (record { node = node; op = op page first count })
 
--- `scan NODE COUNT`
-unfoldable pub scan_of : Settings → List Text → Result Command TextKind
-scan_of s words = do
+-- a scan: `NODE COUNT`
+unfoldable pub scan_command : Settings → List Text → Result Command TextKind
+scan_command s words = do
   word ← two_words words
   node ← node_number s word.0
   count ← number_up_to 128 word.1
@@ -69,10 +69,16 @@ scan_of s words = do
 -- a command by its first word and the others
 unfoldable pub command_of : Settings → Text → List Text → Result Command TextKind
 command_of s name words =
-    if bytes_eq name (codes "alloc") then alloc_of s words
-    else if bytes_eq name (codes "splitpmd") then split_pmd_of s words
-    else if bytes_eq name (codes "unmap") then unmap_of s words
-    else if bytes_eq name (codes "scan") then scan_of s words
+    if bytes_eq name (codes "alloc") then node_command Alloc s words
+    else if bytes_eq name (codes "mapwhole") then page_command MapWhole s words
+    else if bytes_eq name (codes "unmapwhole") then page_command UnmapWhole s words
+    else if bytes_eq name (codes "map") then range_command Map s words
+    else if bytes_eq name (codes "unmap") then range_command Unmap s words
+    else if bytes_eq name (codes "splitpmd") then page_command SplitPmd s words
+    else if bytes_eq name (codes "pin") then page_command Pin s words
+    else if bytes_eq name (codes "unpin") then page_command Unpin s words
+    else if bytes_eq name (codes "close") then node_command Close s words
+    else if bytes_eq name (codes "scan") then scan_command s words
     else Err BadWord
 
 -- a scan is of as many pages as a batch holds

@@ -4,6 +4,7 @@ pub mod Devices
 pub mod Words
 pub mod Steps
 pub mod Commands
+pub mod Operands
 pub mod Statements
 pub mod Scripts
 pub mod RunFaults

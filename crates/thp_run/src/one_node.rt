@@ -1,6 +1,7 @@
 //! The one node of this version, with all its callers.
 ghost use Rattle.std.specs.Prelude.{◌≡◌};
 ghost use Rattle.thp_model.specs.Counts.{allocations};
+ghost use Rattle.thp_run.specs.OneNode.{unit_answer, change_answer};
 
 use crate::nodes::Nodes;
 use crate::reply::Reply;
@@ -10,7 +11,7 @@ use crate::settings::Settings;
 use crate::steps::Steps;
 use std::alloc::{AllocError, Global};
 use thp_model::{Event, PageId, Refusal, Shape, What};
-use thp_node::{NewFault, Node};
+use thp_node::{Done, NewFault, Node};
 
 /// One node.
 #[derive(Drop)]
@@ -29,21 +30,43 @@ impl Steps for OneNode {
                 Ok(page) => Ok(Reply::Page(page)),
                 Err(refusal) => Err(refusal),
             },
-            Op::SplitPmd { page } => match self.node.split_pmd(caller, PageId(page)) {
-                Ok(()) => Ok(Reply::Unit),
-                Err(refusal) => Err(refusal),
-            },
-            Op::Unmap { page, first, count } => {
-                match self.node.unmap_sub(caller, PageId(page), first, count) {
-                    Ok(done) => Ok(Reply::Done(done)),
-                    Err(refusal) => Err(refusal),
-                }
+            Op::MapWhole { page } => unit(self.node.map_whole(caller, PageId(page))),
+            Op::UnmapWhole { page } => change(self.node.unmap_whole(caller, PageId(page))),
+            Op::Map { page, first, count } => {
+                unit(self.node.map_sub(caller, PageId(page), first, count))
             }
+            Op::Unmap { page, first, count } => {
+                change(self.node.unmap_sub(caller, PageId(page), first, count))
+            }
+            Op::SplitPmd { page } => unit(self.node.split_pmd(caller, PageId(page))),
+            Op::Pin { page } => unit(self.node.pin(caller, PageId(page))),
+            Op::Unpin { page } => change(self.node.unpin(caller, PageId(page))),
+            Op::Close => unit(self.node.close(caller)),
             Op::Scan { count } => match self.node.scan(caller, count) {
                 Ok(reply) => Ok(Reply::Scan(reply)),
                 Err(refusal) => Err(refusal),
             },
         }
+    }
+}
+
+/// The answer of a call that tells nothing once it is done.
+fn unit(called: Result<(), Refusal>) -> Result<Reply, Refusal>
+    ensures { result ≡ unit_answer called }
+{
+    match called {
+        Ok(()) => Ok(Reply::Unit),
+        Err(refusal) => Err(refusal),
+    }
+}
+
+/// The answer of a call that takes mappings or a pin away.
+fn change(called: Result<Done, Refusal>) -> Result<Reply, Refusal>
+    ensures { result ≡ change_answer called }
+{
+    match called {
+        Ok(done) => Ok(Reply::Done(done)),
+        Err(refusal) => Err(refusal),
     }
 }
 

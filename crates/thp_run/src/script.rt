@@ -6,10 +6,22 @@ use crate::sequence::Sequence;
 pub enum Op {
     /// Allocates a page.
     Alloc,
+    /// Maps a page whole once more, by a PMD entry.
+    MapWhole { page: u64 },
+    /// Takes one mapping of the whole page away.
+    UnmapWhole { page: u64 },
+    /// Maps `count` subpages of a page once more by PTE entries, from subpage `first` on.
+    Map { page: u64, first: u32, count: u32 },
+    /// Takes one PTE mapping of each of `count` subpages of a page away, from subpage `first` on.
+    Unmap { page: u64, first: u32, count: u32 },
     /// Splits the PMD mapping of a page.
     SplitPmd { page: u64 },
-    /// Unmaps `count` subpages of a page by their PTE entries, from subpage `first` on.
-    Unmap { page: u64, first: u32, count: u32 },
+    /// Pins a page once more.
+    Pin { page: u64 },
+    /// Takes one pin of a page away.
+    Unpin { page: u64 },
+    /// Closes the node: nothing enters its queue from then on, and no page is allocated.
+    Close,
     /// Lets the shrinker take up to `count` pages, try to split each, and put back the others.
     Scan { count: u32 },
 }

@@ -2,7 +2,7 @@
 use crate::{
     Command, Line, NoGate, Op, Report, RunFault, Sequence, Settings, Watched, read_line, run,
 };
-use std::alloc::Global;
+use std::alloc::{AllocError, Global};
 use std::io;
 use std::io::{Error, ErrorKind, Read, Write};
 
@@ -130,6 +130,167 @@ fn no_free_block(rt: HostRuntime) {
 }
 
 #[test]
+fn pinned_goes_to_the_tail(rt: HostRuntime) {
+    let script =
+        b"setup\nalloc 0\nsplitpmd 0 0\nunmap 0 0 0 1\nalloc 0\nsplitpmd 0 1\nunmap 0 1 0 1\nalloc 0\nsplitpmd 0 2\nunmap 0 2 0 1\npin 0 1\nscan 0 3\n";
+    let report =
+        b"node 0\npages 3\nqueue 1\nframes_held 1534\nframes_given 2\nthp_split_page 2\nthp_split_page_failed 1\nthp_deferred_split_page 3\nthp_split_pmd 3\n";
+    assert!(rt; reports(rt.alloc(), 16, script, report));
+    let script =
+        b"setup\nalloc 0\nsplitpmd 0 0\nunmap 0 0 0 1\nalloc 0\nsplitpmd 0 1\nunmap 0 1 0 1\nalloc 0\nsplitpmd 0 2\nunmap 0 2 0 1\npin 0 1\nscan 0 3\nunpin 0 1\nscan 0 3\n";
+    let report =
+        b"node 0\npages 3\nqueue 0\nframes_held 1533\nframes_given 3\nthp_split_page 3\nthp_split_page_failed 1\nthp_deferred_split_page 3\nthp_split_pmd 3\n";
+    assert!(rt; reports(rt.alloc(), 16, script, report));
+}
+
+#[test]
+fn all_pinned_rotate(rt: HostRuntime) {
+    let script =
+        b"setup\nalloc 0\nsplitpmd 0 0\nunmap 0 0 0 1\nalloc 0\nsplitpmd 0 1\nunmap 0 1 0 1\nalloc 0\nsplitpmd 0 2\nunmap 0 2 0 1\npin 0 0\npin 0 1\npin 0 2\nscan 0 2\nscan 0 3\n";
+    let report =
+        b"node 0\npages 3\nqueue 3\nframes_held 1536\nframes_given 0\nthp_split_page 0\nthp_split_page_failed 5\nthp_deferred_split_page 3\nthp_split_pmd 3\n";
+    assert!(rt; reports(rt.alloc(), 16, script, report));
+}
+
+#[test]
+fn split_of_a_mapped_page(rt: HostRuntime) {
+    let script = b"setup\nalloc 0\nsplitpmd 0 0\nunmap 0 0 0 1\nmapwhole 0 0\nscan 0 1\n";
+    let report =
+        b"node 0\npages 1\nqueue 0\nframes_held 512\nframes_given 0\nthp_split_page 1\nthp_split_page_failed 0\nthp_deferred_split_page 1\nthp_split_pmd 2\n";
+    assert!(rt; reports(rt.alloc(), 16, script, report));
+}
+
+#[test]
+fn pinned_page_is_freed_by_unpin(rt: HostRuntime) {
+    let held = b"setup\nalloc 0\npin 0 0\nunmapwhole 0 0\n";
+    let report =
+        b"node 0\npages 1\nqueue 0\nframes_held 512\nframes_given 0\nthp_split_page 0\nthp_split_page_failed 0\nthp_deferred_split_page 0\nthp_split_pmd 0\n";
+    assert!(rt; reports(rt.alloc(), 16, held, report));
+    let freed = b"setup\nalloc 0\npin 0 0\nunmapwhole 0 0\nunpin 0 0\npin 0 0\n";
+    let report =
+        b"node 0\npages 1\nqueue 0\nframes_held 0\nframes_given 512\nthp_split_page 0\nthp_split_page_failed 0\nthp_deferred_split_page 0\nthp_split_pmd 0\n";
+    assert!(rt; reports(rt.alloc(), 16, freed, report));
+}
+
+#[test]
+fn bad_ranges(rt: HostRuntime) {
+    let script =
+        b"setup\nalloc 0\nsplitpmd 0 0\nunmap 0 0 511 1\nmap 0 0 511 2\nunmap 0 0 0 0\nunmap 0 0 512 1\nunmap 0 0 511 1\nmap 0 0 511 1\nunmap 0 1 0 0\nscan 0 1\n";
+    let report =
+        b"node 0\npages 1\nqueue 0\nframes_held 512\nframes_given 0\nthp_split_page 1\nthp_split_page_failed 0\nthp_deferred_split_page 1\nthp_split_pmd 1\n";
+    assert!(rt; reports(rt.alloc(), 16, script, report));
+}
+
+#[test]
+fn refusals_after_a_split(rt: HostRuntime) {
+    let script =
+        b"setup\nalloc 0\nsplitpmd 0 0\nunmap 0 0 1 511\nscan 0 1\nmap 0 0 1 1\nunmap 0 0 1 1\nmap 0 0 0 1\nmapwhole 0 0\nunmapwhole 0 0\nsplitpmd 0 0\npin 0 0\nunpin 0 0\nunmap 0 0 0 1\nunmap 0 0 0 1\nunmap 0 0 0 1\n";
+    let report =
+        b"node 0\npages 1\nqueue 0\nframes_held 0\nframes_given 512\nthp_split_page 1\nthp_split_page_failed 0\nthp_deferred_split_page 1\nthp_split_pmd 1\n";
+    assert!(rt; reports(rt.alloc(), 16, script, report));
+}
+
+#[test]
+fn refusals_before_a_split(rt: HostRuntime) {
+    let script =
+        b"setup\nalloc 0\nunmap 0 0 0 1\nunpin 0 0\nsplitpmd 0 0\nsplitpmd 0 0\nunmapwhole 0 0\nunmap 0 0 0 1\nunmap 0 0 3 1\nscan 0 1\nunmap 0 0 5 2\n";
+    let report =
+        b"node 0\npages 1\nqueue 0\nframes_held 508\nframes_given 4\nthp_split_page 1\nthp_split_page_failed 0\nthp_deferred_split_page 1\nthp_split_pmd 1\n";
+    assert!(rt; reports(rt.alloc(), 16, script, report));
+}
+
+#[test]
+fn closed_node(rt: HostRuntime) {
+    let script =
+        b"setup\nalloc 0\nsplitpmd 0 0\nunmap 0 0 0 1\nalloc 0\nsplitpmd 0 1\npin 0 0\nclose 0\nalloc 0\nclose 0\nunmap 0 1 0 1\nscan 0 8\n";
+    let report =
+        b"node 0\npages 2\nqueue 0\nframes_held 1024\nframes_given 0\nthp_split_page 0\nthp_split_page_failed 1\nthp_deferred_split_page 1\nthp_split_pmd 2\n";
+    assert!(rt; reports(rt.alloc(), 16, script, report));
+}
+
+/// A script that allocates a page and then has these lines, each so many times.
+fn repeated(alloc: Global, lines: &[(&[u8], u32)]) -> Result<Vec<u8>, AllocError> {
+    let mut script = Vec::new(alloc);
+    script.extend_from_slice(b"setup\nalloc 0\n")?;
+    for &(line, count) in lines {
+        for _ in 0..count {
+            script.extend_from_slice(line)?;
+        }
+    }
+    Ok(script)
+}
+
+#[test]
+fn counts_at_their_limit(rt: HostRuntime) {
+    let alloc = rt.alloc();
+    let held =
+        b"node 0\npages 1\nqueue 0\nframes_held 512\nframes_given 0\nthp_split_page 0\nthp_split_page_failed 0\nthp_deferred_split_page 0\nthp_split_pmd 0\n";
+    let freed =
+        b"node 0\npages 1\nqueue 0\nframes_held 0\nframes_given 512\nthp_split_page 0\nthp_split_page_failed 0\nthp_deferred_split_page 0\nthp_split_pmd 0\n";
+    let rows: [(&[(&[u8], u32)], &[u8]); 4] = [
+        // of 65,536 more whole mappings and one of a subpage all but 65,534 are refused, so 65,535 unmaps free the page
+        (
+            &[
+                (b"mapwhole 0 0\n", 65_536),
+                (b"map 0 0 0 1\n", 1),
+                (b"unmapwhole 0 0\n", 65_534),
+            ],
+            held,
+        ),
+        (
+            &[
+                (b"mapwhole 0 0\n", 65_536),
+                (b"map 0 0 0 1\n", 1),
+                (b"unmapwhole 0 0\n", 65_535),
+            ],
+            freed,
+        ),
+        // of 65,536 pins one is refused
+        (
+            &[
+                (b"pin 0 0\n", 65_536),
+                (b"unmapwhole 0 0\n", 1),
+                (b"unpin 0 0\n", 65_534),
+            ],
+            held,
+        ),
+        (
+            &[
+                (b"pin 0 0\n", 65_536),
+                (b"unmapwhole 0 0\n", 1),
+                (b"unpin 0 0\n", 65_535),
+            ],
+            freed,
+        ),
+    ];
+    for (lines, report) in rows {
+        let script = repeated(alloc, lines).expect(&rt, "memory");
+        assert!(rt; reports(alloc, 16, script.as_slice(), report));
+    }
+}
+
+/// Faults in the words of commands, each in line 2.
+const COMMAND_FAULTS: [(&[u8], &str); 14] = [
+    (b"setup\nmapwhole 0\n", "line 2: bad-count"),
+    (b"setup\nunmapwhole 0 0 0\n", "line 2: bad-count"),
+    (b"setup\nmap 0 0 0\n", "line 2: bad-count"),
+    (b"setup\npin 0\n", "line 2: bad-count"),
+    (b"setup\nclose 0 0\n", "line 2: bad-count"),
+    (b"setup\nclose 1\n", "line 2: bad-number"),
+    (b"setup\nmap 0 0 65536 1\n", "line 2: bad-number"),
+    (b"setup\nmap 0 0 0 65536\n", "line 2: bad-number"),
+    (
+        b"setup\nunpin 0 18446744073709551616\n",
+        "line 2: bad-number",
+    ),
+    (b"setup\npin 0 -1\n", "line 2: bad-number"),
+    (b"setup\nMap 0 0 0 1\n", "line 2: bad-word"),
+    (b"setup\nmapwhol 0 0\n", "line 2: bad-word"),
+    (b"setup\nmapwhole 0 0 \n", "line 2: bad-word"),
+    (b"pin 0 0\n", "line 1: bad-order"),
+];
+
+#[test]
 fn script_faults(rt: HostRuntime) {
     let alloc = rt.alloc();
     assert!(rt; refuses(alloc, b"alloc 0\n", "line 1: bad-order"));
@@ -142,6 +303,9 @@ fn script_faults(rt: HostRuntime) {
     assert!(rt; refuses(alloc, b"setup\nsetup\n", "line 2: bad-order"));
     assert!(rt; refuses(alloc, b"setup\nalloc  0\n", "line 2: bad-word"));
     assert!(rt; refuses(alloc, b"setup\n#\x00\n", "line 2: bad-byte"));
+    for (script, told) in COMMAND_FAULTS {
+        assert!(rt; refuses(alloc, script, told), "{told}");
+    }
 }
 
 #[test]

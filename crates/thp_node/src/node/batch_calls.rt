@@ -7,7 +7,7 @@ ghost use Rattle.thp_model.specs.Places.{queue, flight, no_pages, is_taking, has
 ghost use Rattle.thp_model.specs.Refusals.{refusal};
 ghost use Rattle.thp_model.specs.Refusals as call;
 ghost use Rattle.thp_model.specs.Runs.{take_events, split_next_events, put_back_events, scan_events, next_page, rest_after, still_flying, try_event, return_event};
-ghost use Rattle.thp_node.specs.Batches.{rest, tried, back_reply, scan_reply, IsInFront};
+ghost use Rattle.thp_node.specs.Batches.{rest, tried, back_reply, scan_reply, IsInFront, FrontsStay, OtherFrontsStay};
 ghost use Rattle.thp_node.specs.Calls.{Did, Refused};
 
 use crate::answers::{BackReply, ScanReply, Tried};
@@ -26,6 +26,8 @@ impl Node {
         ensures batch { IfOk result (λ b. b ≡ record { caller = caller; pages = take n (queue self.old.journal); place = 0 }) }
         ensures recorded { OnOk result (Did self.old self.new caller (take_events self.old.journal caller n)) }
         ensures refused { IfErr result (Refused self.old self.new (refusal self.old.shape self.old.journal (call.take caller)) (length (take_events self.old.journal caller n))) }
+        ensures front { IfOk result (IsInFront self.new.journal) }
+        ensures fronts { OtherFrontsStay caller self.old.journal self.new.journal }
     {
         if self.journal.flying(caller) != 0 {
             return Err(Refusal::HasBatch);
@@ -82,6 +84,8 @@ impl Node {
         ensures same_pages { batch.new.pages ≡ batch.old.pages }
         ensures refused { IfErr result (Refused self.old self.new None (length (split_next_events self.old.shape self.old.journal batch.old.caller (rest batch.old)))) }
         ensures kept { OnErr result (batch.new ≡ batch.old) }
+        ensures front { IsInFront self.old.journal batch.old → IsInFront self.new.journal batch.new }
+        ensures fronts { FrontsStay self.old.journal self.new.journal }
     {
         let caller = batch.caller();
         match self.next_flying(caller, batch.rest()) {

@@ -4,6 +4,7 @@ ghost use Rattle.thp_model.specs.Counts.{allocations};
 ghost use Rattle.thp_model.specs.History.{by};
 ghost use Rattle.thp_model.specs.Refusals.{refusal};
 ghost use Rattle.thp_model.specs.Refusals as call;
+ghost use Rattle.thp_node.specs.Batches.{FrontsStay};
 ghost use Rattle.thp_node.specs.Calls.{Did, DidAlloc, Refused};
 
 use crate::node::Node;
@@ -18,6 +19,7 @@ impl Node {
         ensures number { IfOk result (λ p. p ≡ allocations self.old.journal) }
         ensures recorded { IfOk result (DidAlloc self.old self.new caller) }
         ensures refused { IfErr result (Refused self.old self.new (refusal self.old.shape self.old.journal call.alloc_page) 1) }
+        ensures fronts { FrontsStay self.old.journal self.new.journal }
     {
         if self.journal.is_closed() {
             return Err(Refusal::Closed);
@@ -41,6 +43,7 @@ impl Node {
         ensures allowed { OnOk result (refusal self.old.shape self.old.journal call.close ≡ None) }
         ensures recorded { OnOk result (Did self.old self.new caller (by caller What.Close ∷ [])) }
         ensures refused { IfErr result (Refused self.old self.new (refusal self.old.shape self.old.journal call.close) 1) }
+        ensures fronts { FrontsStay self.old.journal self.new.journal }
     {
         if self.journal.is_closed() {
             return Err(Refusal::Closed);

@@ -4,6 +4,7 @@ ghost use Rattle.thp_model.specs.History.{by};
 ghost use Rattle.thp_model.specs.Frames.{outcome, released};
 ghost use Rattle.thp_model.specs.Refusals.{refusal};
 ghost use Rattle.thp_model.specs.Refusals as call;
+ghost use Rattle.thp_node.specs.Batches.{FrontsStay};
 ghost use Rattle.thp_node.specs.Calls.{Did, Refused};
 ghost use Rattle.thp_node.specs.Homes.{block_of};
 ghost use Rattle.thp_node.specs.PageCalls.{gain_call, loss_call, page_call, gain_what, loss_what};
@@ -20,6 +21,7 @@ impl Node {
         ensures allowed { OnOk result (refusal self.old.shape self.old.journal (call.map_whole page) ≡ None) }
         ensures recorded { OnOk result (Did self.old self.new caller (by caller (What.MapWhole page) ∷ [])) }
         ensures refused { IfErr result (Refused self.old self.new (refusal self.old.shape self.old.journal (call.map_whole page)) 1) }
+        ensures fronts { FrontsStay self.old.journal self.new.journal }
     {
         self.gain(caller, page, Gain::MapWhole)
     }
@@ -32,6 +34,7 @@ impl Node {
         ensures outcome { IfOk result (λ d. d.outcome ≡ outcome self.old.shape self.old.journal self.new.journal page) }
         ensures released { IfOk result (λ d. d.released ≡ released self.old.shape self.old.journal self.new.journal page) }
         ensures refused { IfErr result (Refused self.old self.new (refusal self.old.shape self.old.journal (call.unmap_whole page)) 1) }
+        ensures fronts { FrontsStay self.old.journal self.new.journal }
     {
         self.lose(caller, page, Loss::UnmapWhole)
     }
@@ -49,6 +52,7 @@ impl Node {
         ensures allowed { OnOk result (refusal self.old.shape self.old.journal (call.map_sub page first count) ≡ None) }
         ensures recorded { OnOk result (Did self.old self.new caller (by caller (What.MapSub page first count) ∷ [])) }
         ensures refused { IfErr result (Refused self.old self.new (refusal self.old.shape self.old.journal (call.map_sub page first count)) 1) }
+        ensures fronts { FrontsStay self.old.journal self.new.journal }
     {
         self.gain(caller, page, Gain::MapSub { first, count })
     }
@@ -70,6 +74,7 @@ impl Node {
         ensures outcome { IfOk result (λ d. d.outcome ≡ outcome self.old.shape self.old.journal self.new.journal page) }
         ensures released { IfOk result (λ d. d.released ≡ released self.old.shape self.old.journal self.new.journal page) }
         ensures refused { IfErr result (Refused self.old self.new (refusal self.old.shape self.old.journal (call.unmap_sub page first count)) 1) }
+        ensures fronts { FrontsStay self.old.journal self.new.journal }
     {
         self.lose(caller, page, Loss::UnmapSub { first, count })
     }
@@ -81,6 +86,7 @@ impl Node {
         ensures allowed { OnOk result (refusal self.old.shape self.old.journal (call.split_pmd page) ≡ None) }
         ensures recorded { OnOk result (Did self.old self.new caller (by caller (What.SplitPmd page) ∷ [])) }
         ensures refused { IfErr result (Refused self.old self.new (refusal self.old.shape self.old.journal (call.split_pmd page)) 1) }
+        ensures fronts { FrontsStay self.old.journal self.new.journal }
     {
         self.gain(caller, page, Gain::SplitPmd)
     }
@@ -91,6 +97,7 @@ impl Node {
         ensures allowed { OnOk result (refusal self.old.shape self.old.journal (call.pin page) ≡ None) }
         ensures recorded { OnOk result (Did self.old self.new caller (by caller (What.Pin page) ∷ [])) }
         ensures refused { IfErr result (Refused self.old self.new (refusal self.old.shape self.old.journal (call.pin page)) 1) }
+        ensures fronts { FrontsStay self.old.journal self.new.journal }
     {
         self.gain(caller, page, Gain::Pin)
     }
@@ -103,6 +110,7 @@ impl Node {
         ensures outcome { IfOk result (λ d. d.outcome ≡ outcome self.old.shape self.old.journal self.new.journal page) }
         ensures released { IfOk result (λ d. d.released ≡ released self.old.shape self.old.journal self.new.journal page) }
         ensures refused { IfErr result (Refused self.old self.new (refusal self.old.shape self.old.journal (call.unpin page)) 1) }
+        ensures fronts { FrontsStay self.old.journal self.new.journal }
     {
         self.lose(caller, page, Loss::Unpin)
     }
@@ -113,6 +121,7 @@ impl Node {
         ensures allowed { OnOk result (refusal self.old.shape self.old.journal (gain_call gain page) ≡ None) }
         ensures recorded { OnOk result (Did self.old self.new caller (by caller (gain_what gain page) ∷ [])) }
         ensures refused { IfErr result (Refused self.old self.new (refusal self.old.shape self.old.journal (gain_call gain page)) 1) }
+        ensures fronts { FrontsStay self.old.journal self.new.journal }
     {
         let block = self.admit(page, PageCall::Gain(gain))?;
         self.blocks.gain(block, gain);
@@ -129,6 +138,7 @@ impl Node {
         ensures outcome { IfOk result (λ d. d.outcome ≡ outcome self.old.shape self.old.journal self.new.journal page) }
         ensures released { IfOk result (λ d. d.released ≡ released self.old.shape self.old.journal self.new.journal page) }
         ensures refused { IfErr result (Refused self.old self.new (refusal self.old.shape self.old.journal (loss_call loss page)) 1) }
+        ensures fronts { FrontsStay self.old.journal self.new.journal }
     {
         let block = self.admit(page, PageCall::Loss(loss))?;
         let closed = self.journal.is_closed();

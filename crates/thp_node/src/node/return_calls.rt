@@ -5,7 +5,7 @@ ghost use Rattle.thp_model.specs.Places.{flight};
 ghost use Rattle.thp_model.specs.Refusals.{refusal};
 ghost use Rattle.thp_model.specs.Refusals as call;
 ghost use Rattle.thp_model.specs.Runs.{take_events, put_back_events, scan_events, still_flying, try_event, return_event};
-ghost use Rattle.thp_node.specs.Batches.{back_reply, scan_reply, IsInFront};
+ghost use Rattle.thp_node.specs.Batches.{back_reply, scan_reply, IsInFront, FrontsStay, OtherFrontsStay};
 ghost use Rattle.thp_node.specs.Calls.{Did, Refused};
 
 use crate::answers::{BackReply, ScanReply};
@@ -27,6 +27,7 @@ impl Node {
         ensures recorded { OnOk result (Did self.old self.new batch.caller (put_back_events self.old.journal batch.caller batch.pages)) }
         ensures refused { IfErr result (λ e. Refused self.old self.new None (length (put_back_events self.old.journal batch.caller batch.pages)) e.1) }
         ensures handed_back { IfErr result (λ e. e.0 ≡ batch) }
+        ensures fronts { FrontsStay self.old.journal self.new.journal }
     {
         let count = self.count_flying(batch.caller(), batch.pages());
         if let Err(_) = self.journal.reserve(count as usize) {
@@ -106,6 +107,7 @@ impl Node {
         ensures recorded { OnOk result (Did self.old self.new caller (scan_events self.old.shape self.old.journal caller n)) }
         ensures reply { IfOk result (λ r. r ≡ scan_reply (scan_events self.old.shape self.old.journal caller n)) }
         ensures refused { IfErr result (Refused self.old self.new (refusal self.old.shape self.old.journal (call.scan caller)) (3 * length (take_events self.old.journal caller n))) }
+        ensures fronts { OtherFrontsStay caller self.old.journal self.new.journal }
     {
         if self.journal.flying(caller) != 0 {
             return Err(Refusal::HasBatch);

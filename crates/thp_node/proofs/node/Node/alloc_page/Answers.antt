@@ -16,6 +16,7 @@ use Rattle.thp_node.specs.NodeState.{NodeState}
 use Rattle.thp_node.proofs.Closing.{refused_alloc, refused_full, allowed_alloc, next_is_new}
 use Rattle.thp_node.proofs.Homing.{legal_homed}
 use Rattle.thp_node.proofs.ListEvents.{placed_fits, placed_node}
+use Rattle.thp_node.proofs.Fronts.{fronts_same, fronts_grown}
 use Rattle.thp_node.proofs.node.Node.alloc_page.Goals as goal
 
 pub returns-then-is_closed-clause-refused : goal.returns-then-is_closed-clause-refused
@@ -96,3 +97,13 @@ returns-clause-allowed c =
     let P : Bool → Type 0 = λ z. OnTrue z (HasFree b.table) in
     ap (λ (n : NodeState). refusal n.shape n.journal call.alloc_page) (sym c.self.view_is)
     ∙ allowed_alloc j.shape j.events b.table b.queue c.self.invariant (sym c.is_closed.ensures ∙ c.if-is_closed.false) (subst P c.if-not-has_free.false c.has_free.ensures.some)
+
+pub returns-in-Err-clause-fronts : goal.returns-in-Err-clause-fronts
+returns-in-Err-clause-fronts c =
+    fronts_same c.args.self.now.journal _ (ap (λ (n : NodeState). n.journal) (returns-in-Err-clause-refused c).same)
+
+pub returns-clause-fronts : goal.returns-clause-fronts
+returns-clause-fronts c =
+    fronts_grown c.args.self.now.journal _ _
+    (c.record.ensures.events ∙ ap (λ h. h ++ by c.args.caller (what.Alloc c.next.result c.place-block.result) ∷ []) (c.in_default.ensures.events ∙ ap (λ (n : NodeState). n.journal) c.self.view_is))
+    (λ d. refl)

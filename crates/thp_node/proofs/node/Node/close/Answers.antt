@@ -10,6 +10,7 @@ use Rattle.thp_node.specs.Journals.{JournalState}
 use Rattle.thp_node.specs.NodeState.{NodeState}
 use Rattle.thp_node.proofs.Closing.{refused_close, allowed_close}
 use Rattle.thp_node.proofs.ListEvents.{closed_node}
+use Rattle.thp_node.proofs.Fronts.{fronts_same, fronts_grown}
 use Rattle.thp_node.proofs.node.Node.close.Goals as goal
 
 pub returns-then-is_closed-clause-refused : goal.returns-then-is_closed-clause-refused
@@ -50,3 +51,13 @@ pub returns-clause-allowed : goal.returns-clause-allowed
 returns-clause-allowed c =
     ap (λ (n : NodeState). refusal n.shape n.journal call.close) (sym c.self.view_is)
     ∙ allowed_close c.self.inside.journal.shape c.self.inside.journal.events (sym c.is_closed.ensures ∙ c.if-is_closed.false)
+
+pub returns-in-Err-clause-fronts : goal.returns-in-Err-clause-fronts
+returns-in-Err-clause-fronts c =
+    fronts_same c.args.self.now.journal _ (ap (λ (n : NodeState). n.journal) (returns-in-Err-clause-refused c).same)
+
+pub returns-clause-fronts : goal.returns-clause-fronts
+returns-clause-fronts c =
+    fronts_grown c.args.self.now.journal _ (by c.args.caller what.Close ∷ [])
+    (c.record.ensures.events ∙ ap (λ h. h ++ by c.args.caller what.Close ∷ []) (c.in_default.ensures.events ∙ ap (λ (n : NodeState). n.journal) c.self.view_is))
+    (λ d. refl)

@@ -10,6 +10,7 @@ use Rattle.thp_node.specs.PageCalls.{gain_call, gain_what}
 use Rattle.thp_node.proofs.Admitting.{Found, at_home, ready}
 use Rattle.thp_node.proofs.CallLemmas.{did_one}
 use Rattle.thp_node.proofs.PageEvents.{gained}
+use Rattle.thp_node.proofs.Fronts.{fronts_same, fronts_grown, gain_takes_none}
 use Rattle.thp_node.proofs.node.Node.gain.Goals as goal
 
 pub gain-requires-clause-allowed : goal.gain-requires-clause-allowed
@@ -57,3 +58,12 @@ returns-clause-recorded c =
     c.record.ensures.room
     (omega (arith, (c.gain.ensures w.slot w.at).2.work, ap (λ (n : NodeState). n.table.accesses) is))
     (omega arith)
+
+pub returns-in_err-block-clause-fronts : goal.returns-in_err-block-clause-fronts
+returns-in_err-block-clause-fronts c =
+    fronts_same c.args.self.now.journal _ (ap (λ (n : NodeState). n.journal) c.in_err-block.ensures.refused.same)
+
+pub returns-clause-fronts : goal.returns-clause-fronts
+returns-clause-fronts c =
+    fronts_grown c.args.self.now.journal _ (by c.args.caller (gain_what c.args.gain c.args.page) ∷ []) (returns-clause-recorded c).journal
+    (λ d. gain_takes_none d c.args.caller c.args.page c.args.gain)

@@ -14,6 +14,7 @@ use Rattle.thp_node.specs.PageCalls.{loss_call, loss_what}
 use Rattle.thp_node.proofs.Admitting.{ready}
 use Rattle.thp_node.proofs.CallLemmas.{did_one}
 use Rattle.thp_node.proofs.Losing.{Losing, losing}
+use Rattle.thp_node.proofs.Fronts.{fronts_same, fronts_grown, loss_takes_none}
 use Rattle.thp_node.proofs.node.Node.lose.Goals as goal
 
 pub lose-done-requires-clause-allowed : goal.lose-done-requires-clause-allowed
@@ -92,3 +93,13 @@ returns-clause-released c =
     let is = c.self.view_is ∙ c.in_ok-block.ensures.same in
     (after c).gives.set_is
     ∙ ap₂ (λ (n : NodeState) h. released n.shape n.journal h c.args.page) is (sym (events c))
+
+pub returns-in_err-block-clause-fronts : goal.returns-in_err-block-clause-fronts
+returns-in_err-block-clause-fronts c =
+    fronts_same c.args.self.now.journal _ (ap (λ (n : NodeState). n.journal) c.in_err-block.ensures.refused.same)
+
+pub returns-clause-fronts : goal.returns-clause-fronts
+returns-clause-fronts c =
+    let done = c.lose-done.result.0 in
+    fronts_grown c.args.self.now.journal _ (by c.args.caller (loss_what c.args.loss c.args.page done.outcome done.released) ∷ []) (returns-clause-recorded c).journal
+    (λ d. loss_takes_none d c.args.caller c.args.page c.args.loss done.outcome done.released)

@@ -13,6 +13,7 @@ use Rattle.thp_node.specs.NodeState.{NodeState}
 use Rattle.thp_node.specs.contracts.node.Node.{the_view}
 use Rattle.thp_node.proofs.BatchRuns.{refused_take, unrefused_take, queue_length, take_length}
 use Rattle.thp_node.proofs.ScanLemmas.{scan_as_take, whole_batch, took_reserved, no_refusal, scan_flies, scan_recorded, scan_replied}
+use Rattle.thp_node.proofs.Fronts.{fronts_same, fronts_did}
 use Rattle.thp_node.proofs.node.Node.scan.Goals as goal
 
 pub returns-then-flying-ne0-clause-refused : goal.returns-then-flying-ne0-clause-refused
@@ -133,3 +134,10 @@ returns-clause-reply c =
     c.in-Ok.ensures.recorded)
     (c.in-Ok.ensures.batch ∙ ap (λ h. whole_batch c.args.caller (take c.args.n (queue h))) (c.in_default.ensures.events ∙ events_are))
     c.scan_batch.result c.scan_batch.ensures.reply
+
+pub returns-in-Err-clause-fronts : goal.returns-in-Err-clause-fronts
+returns-in-Err-clause-fronts c =
+    λ b apart f. fronts_same c.args.self.now.journal _ (ap (λ (n : NodeState). n.journal) (returns-in-Err-clause-refused c).same) b f
+
+pub returns-clause-fronts : goal.returns-clause-fronts
+returns-clause-fronts c = fronts_did c.args.self.now _ c.args.caller _ (returns-clause-recorded c)

@@ -4,6 +4,7 @@ use Rattle.thp_model.specs.Runs.{next_page}
 use Rattle.thp_node.specs.Batches.{rest}
 use Rattle.thp_node.specs.NodeState.{NodeState}
 use Rattle.thp_node.proofs.BatchRuns.{none_left, tried_after, did_after}
+use Rattle.thp_node.proofs.Fronts.{fronts_same, fronts_grown, front_advanced, try_takes_none}
 use Rattle.thp_node.proofs.node.Node.split_next.Goals as goal
 
 pub next_flying-requires : goal.next_flying-requires
@@ -35,3 +36,25 @@ returns-in_default-clause-recorded c =
     (c.in_default.ensures.events ∙ ap (λ (n : NodeState). n.journal) c.self.view_is)
     (omega (arith, c.in_default.ensures.room, ap (λ (n : NodeState). n.room) c.self.view_is))
     (ap (λ (n : NodeState). n.table) c.self.view_is)
+
+pub returns-in-None-clause-front : goal.returns-in-None-clause-front
+returns-in-None-clause-front c =
+    let h : History = c.args.self.now.journal in
+    front_advanced h h c.args.batch.now c.finish.new.self c.finish.ensures.caller c.finish.ensures.pages (λ f. f)
+
+pub returns-in-Err-clause-fronts : goal.returns-in-Err-clause-fronts
+returns-in-Err-clause-fronts c =
+    fronts_same c.args.self.now.journal c.reserve.new.self.events (c.in-Err.ensures.events ∙ ap (λ (n : NodeState). n.journal) c.self.view_is)
+
+pub returns-in-Err-clause-front : goal.returns-in-Err-clause-front
+returns-in-Err-clause-front c = returns-in-Err-clause-fronts c c.args.batch.now
+
+pub returns-in_default-clause-fronts : goal.returns-in_default-clause-fronts
+returns-in_default-clause-fronts c =
+    fronts_grown c.args.self.now.journal _ _ (returns-in_default-clause-recorded c).journal
+    (λ d. try_takes_none d c.args.self.now.shape c.args.self.now.journal c.args.batch.now.caller (rest c.args.batch.now))
+
+pub returns-in_default-clause-front : goal.returns-in_default-clause-front
+returns-in_default-clause-front c =
+    front_advanced c.args.self.now.journal c.try_page.new.self.journal c.args.batch.now c.advance.new.self c.advance.ensures.caller c.advance.ensures.pages
+    (returns-in_default-clause-fronts c c.args.batch.now)

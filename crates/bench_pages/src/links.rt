@@ -1,0 +1,86 @@
+//! Times of a queue that is linked through a table of pages.
+ghost use Rattle.std.specs.Prelude.{◌≡◌, ℕ, ◌<◌, length, Contains, IfOk};
+ghost use Rattle.thp_links.specs.Standing.{Stands};
+
+use crate::stopwatch::Stopwatch;
+use anyhow::Result;
+use std::alloc::{AllocError, Global};
+use std::time::CpuClock;
+use thp_links::{LinkTable, Queue};
+use thp_page::PageTable;
+
+// From one block that is taken out of the queue to the next.
+const STEP: u32 = 5;
+
+/// Takes the oldest block out and puts it back, at a queue of this many blocks.
+pub(crate) fn time_front<R: CpuClock + Eprint + AllocGlobal>(
+    rt: &R,
+    blocks: u32,
+    rounds: u32,
+) -> Result<()> {
+    let (mut table, mut queue) = filled(rt.alloc(), blocks)?;
+    let watch = Stopwatch::start(rt)?;
+    let mut sum = 0u64;
+    for _round in 0..rounds {
+        if let Some(i) = rotate(&mut table, &mut queue) {
+            sum = sum.wrapping_add(u64::from(i));
+        }
+    }
+    let what = format_args!("pop_front and push_back, {blocks} blocks");
+    watch.tell(rt, what, rounds, sum)
+}
+
+// Takes the oldest block out and puts it behind all others.
+fn rotate(table: &mut PageTable, queue: &mut Queue) -> Option<u32>
+    requires { Stands queue.old table.old.links }
+    ensures { Stands queue.new table.new.links }
+{
+    let i = queue.pop_front(table)?;
+    queue.push_back(table, i);
+    Some(i)
+}
+
+/// Takes a block out of the middle and puts it back, at a queue of this many blocks.
+pub(crate) fn time_middle<R: CpuClock + Eprint + AllocGlobal>(
+    rt: &R,
+    blocks: u32,
+    rounds: u32,
+) -> Result<()>
+    requires { 0 < blocks }
+{
+    let (mut table, mut queue) = filled(rt.alloc(), blocks)?;
+    let watch = Stopwatch::start(rt)?;
+    let mut sum = 0u64;
+    let mut i = 0;
+    for _round in 0..rounds {
+        queue.remove(&mut table, i);
+        queue.push_back(&mut table, i);
+        sum = sum.wrapping_add(u64::from(queue.len()));
+        i = after(i, blocks);
+    }
+    let what = format_args!("remove and push_back, {blocks} blocks");
+    watch.tell(rt, what, rounds, sum)
+}
+
+// The block to be taken out after this one.
+pub(crate) fn after(i: u32, blocks: u32) -> u32
+    requires { 0 < blocks }
+    ensures { result < blocks }
+{
+    let next = i.saturating_add(STEP);
+    if next < blocks { next } else { 0 }
+}
+
+// A table of this many blocks, all of them in the queue.
+fn filled(alloc: Global, blocks: u32) -> Result<(PageTable, Queue), AllocError>
+    ensures size { IfOk result (λ r. length r.0.links ≡ blocks) }
+    ensures stands { IfOk result (λ r. Stands r.1 r.0.links) }
+    ensures all { IfOk result (λ r. (i : ℕ) → i < blocks → Contains r.1 i) }
+{
+    let mut table = PageTable::new(alloc, blocks, 9)?;
+    let mut queue = Queue::new();
+    for i in 0..blocks {
+        queue.push_back(&mut table, i);
+    }
+    Ok((table, queue))
+}

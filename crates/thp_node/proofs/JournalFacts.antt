@@ -1,0 +1,63 @@
+-- The laws of every legal history, at one journal.
+use Rattle.std.proofs.Common.{◌≡◌, ◌++◌, subst}
+use Rattle.thp_model.specs.declared.shape.Shape.{Shape}
+use Rattle.thp_model.specs.History.{History}
+use Rattle.thp_model.specs.Legal.{IsLegal}
+use Rattle.thp_model.specs.PlaceLaws.{takes_of}
+use Rattle.thp_model.specs.Shapes.{IsShape}
+use Rattle.thp_model.proofs.Alive.{live_holds}
+use Rattle.thp_model.proofs.BlockPages.{pages_apart}
+use Rattle.thp_model.proofs.EachFrame.{each_frame_once}
+use Rattle.thp_model.proofs.FlightLaws.{stands_whole, oldest, left_alone, new_once, none_enters, others_only_free}
+use Rattle.thp_model.proofs.Flights.{flight_push}
+use Rattle.thp_model.proofs.Kept.{frames_kept}
+use Rattle.thp_model.proofs.LegalSteps.{legal_front}
+use Rattle.thp_model.proofs.Pushes.{queue_push}
+use Rattle.thp_model.proofs.Standing.{once_of_legal}
+use Rattle.thp_node.specs.JournalLaws.{StandsOnce, StandsWhole, TakesOldest, LeavesFreedAlone, AllocatesOnce, NothingEnters, HasFramesOnce, KeepsFrames, HoldsWhileLive, LivesApart, OthersFree, FlightsGoOn, QueueGoesOn}
+
+-- the first part of a legal history is legal
+legal_before : (s : Shape) (h before after : History) → IsLegal s h → h ≡ before ++ after → IsLegal s before
+legal_before s h before after l e = let P : History → Type 0 = λ k. IsLegal s k in legal_front s before after (subst P e l)
+
+module _ (s : Shape) (h : History) (legal : IsLegal s h) where
+  pub stands_once : StandsOnce h
+  stands_once = once_of_legal s h legal
+
+  pub all_stand_whole : StandsWhole h
+  all_stand_whole = stands_whole s h legal
+
+  pub takes_oldest : TakesOldest h
+  takes_oldest = λ before after c ps e. oldest s before c ps (legal_before s h (before ++ takes_of c ps) after legal e)
+
+  pub leaves_freed_alone : LeavesFreedAlone h
+  leaves_freed_alone = left_alone s h legal
+
+  pub allocates_once : AllocatesOnce h
+  allocates_once = new_once s h legal
+
+  pub nothing_enters : NothingEnters h
+  nothing_enters = none_enters s h legal
+
+  pub has_frames_once : IsShape s → HasFramesOnce s h
+  has_frames_once = λ is. each_frame_once s h is.most_order legal
+
+  pub keeps_frames : IsShape s → KeepsFrames s h
+  keeps_frames = λ is. frames_kept s h is.most_order legal
+
+  pub holds_while_live : HoldsWhileLive s h
+  holds_while_live = λ p. live_holds s h p legal
+
+  pub lives_apart : LivesApart h
+  lives_apart = pages_apart s h legal
+
+  pub others_free : OthersFree h
+  others_free = λ before es after c e o.
+      let P : History → Type 0 = λ k. IsLegal s k in
+      others_only_free s before es c (legal_front s before es (legal_before s h (before ++ es) after legal e)) o
+
+  pub flights_go_on : FlightsGoOn h
+  flights_go_on = λ before after e c is. flight_push before c e.caller e.what
+
+  pub queue_goes_on : QueueGoesOn h
+  queue_goes_on = λ before after e is. queue_push before e

@@ -1,0 +1,28 @@
+use Rattle.std.proofs.Common.{ap}
+use Rattle.thp_node.specs.Holding.{IsNode}
+use Rattle.thp_node.specs.NodeState.{NodeState}
+use Rattle.thp_node.proofs.TableFacts.{live_has_block, lies_where_placed, node_seen}
+use Rattle.thp_node.proofs.node.Node.table.Goals as goal
+
+seen : (c : goal.After-table) → IsNode c.args.self.now.shape c.args.self.now.journal c.args.self.now.table c.args.self.now.queue
+seen c =
+    let j = c.self.inside.journal in
+    let b = c.self.inside.blocks in
+    let is = c.self.view_is in
+    node_seen c.args.self.now j.shape j.events b.table b.queue (ap (λ (n : NodeState). n.shape) is) (ap (λ (n : NodeState). n.journal) is) (ap (λ (n : NodeState). n.table) is)
+    (ap (λ (n : NodeState). n.queue) is) c.self.invariant
+
+pub returns-clause-size : goal.returns-clause-size
+returns-clause-size c = (seen c).size
+
+pub returns-clause-order : goal.returns-clause-order
+returns-clause-order c = (seen c).order
+
+pub returns-clause-slots : goal.returns-clause-slots
+returns-clause-slots c = (seen c).fills
+
+pub returns-clause-live : goal.returns-clause-live
+returns-clause-live c = let n = c.args.self.now in live_has_block n.shape n.journal n.table n.queue (seen c)
+
+pub returns-clause-homes : goal.returns-clause-homes
+returns-clause-homes c = lies_where_placed c.args.self.now.shape c.args.self.now.journal (seen c).legal
