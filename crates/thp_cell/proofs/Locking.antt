@@ -1,0 +1,164 @@
+-- The steps that end no hold keep the rule: the lock step, and the two loads.
+use Rattle.std.proofs.Common.{◌≡◌, ◌≢◌, inl, ℕ, ◌+◌, ◌*◌, ◌/◌, ◌%◌, ◌^◌, ◌<◌, ◌≤◌, Bool, true, false, List, [], ◌∷◌, set, get_or, length, refl, sym, ap, ◌∙◌, subst, arith, Option, Some, true≢false}
+use Rattle.std.specs.Prelude.{bit_or, cond, sum_by}
+use Rattle.std.specs.List.{All}
+use Rattle.std.proofs.lemmas.List.Elements.{All-nil, All-weaker}
+use mathlib.Core.Logic.{dite}
+use mathlib.Core.Option.{some, none}
+use native.Mathlib.Decide.{ℕ_discrete}
+use lib.ListN.{get_elem?}
+use Rattle.atomic_table.specs.Table.{keeps, takes, step, stepped, Allows}
+use Rattle.thp_model.specs.declared.shape.Shape.{Shape}
+use Rattle.thp_model.specs.History.{History}
+use Rattle.thp_model.specs.Legal.{IsLegal}
+use Rattle.thp_model.specs.Places.{queue}
+use Rattle.thp_node.specs.NodeState.{NodeState}
+use Rattle.thp_cell.specs.declared.rule.OldFront.{OldFront}
+use Rattle.thp_cell.specs.declared.rule.Knows.{Knows}
+use Rattle.thp_cell.specs.Rule.{Since, holding, word_of, FitsOld, Fits, FitsSeat, HasNode, Home, Kept}
+use Rattle.thp_cell.specs.Steps.{Sat, seen, Took, WasBusy, Locked, Counted, Looked}
+use Rattle.thp_cell.proofs.Fronts.{since_same, between}
+use Rattle.thp_cell.proofs.Sums.{sum_set, bit_set}
+use Rattle.thp_cell.proofs.Seating.{Cell, reseated, stays, nobody}
+
+module _ (n : ℕ) (s : Shape) where
+  -- what a seat that saw the whole history knows
+  knows_all : (h : History) (v : Knows) (has_node : Bool) → Fits n s h v → v.first < v.end → FitsSeat n s h (seen v has_node h)
+  knows_all h v has_node was live = record {
+    lives = λ _. live;
+    knows = λ _. record {
+      callers = was.callers;
+      shape = was.shape;
+      inside = was.inside;
+      since = since_same v.first v.end h;
+      old_fronts = All-nil _;
+      at_node = λ _. refl;
+    };
+  }
+
+  -- the lock step finds the bit clear and takes the node, or finds it set and changes nothing
+  pub locks : (slots id : ℕ) (v : Knows) → v.has_node ≡ false → v.first < v.end → v.old_fronts ≡ [] → Allows (Kept n s) slots id (v, []) 0 (λ x. bit_or x 1) (Locked (step slots 0 1 0 none) (v, []))
+  locks slots id v free live clean t r wide at small =
+      let q : ℕ = length (queue r.history) in
+      let out : ℕ = sum_by holding t.views in
+      let x : ℕ = get_or t.words 0 0 in
+      let is : x ≡ 2 * q + out = ap (λ l. get_or l 0 0) r.word in
+      let bit = bit_set x in
+      let few = r.home.one_at_most in
+      let was = (r.seats id v at).knows live in
+      dite (ℕ_discrete out 0)
+      (λ home.
+      let m = r.home.in_slot home in
+      let node = m.node in
+      let w : Knows = seen v true node.journal in
+      let sum = sum_set holding t.views id v w at in
+      let none_yet : holding v ≡ 0 = ap (λ b. cond b 1 0) free in
+      let now : sum_by holding (set t.views id w) ≡ 1 = omega arith in
+      let to : bit_or x 1 ≡ 2 * q + sum_by holding (set t.views id w) = omega arith in
+      let mine : FitsSeat n s r.history w = subst (λ l. FitsSeat n s r.history (seen v true l)) (sym m.journal) (knows_all r.history v true was live) in
+      let took : Took (v, []) (w, (0, Some node) ∷ []) = record {
+        node = node;
+        now = refl;
+        shape = m.shape ∙ sym was.shape;
+        since = subst (Since v.first v.end v.front) (sym m.journal) was.since;
+        legal = subst (λ (z : Shape × History). IsLegal z.0 z.1) (λ i. (sym was.shape i, sym m.journal i)) r.legal;
+      } in (
+        w,
+        takes 0 (Some node),
+        ap (λ l. get_elem? l 0) m.at_home,
+        reseated n s t r id v w r.history (set t.words 0 (bit_or x 1)) (set t.homes 0 none) at (inl refl) refl refl live r.legal r.short
+            (ap (λ l. set l 0 (bit_or x 1)) r.word ∙ ap (λ (y : ℕ). y ∷ []) to)
+            record {
+              one_at_most = omega arith;
+              in_slot = λ zero_now. absurd (omega arith);
+              out = λ _. ap (λ l. set l 0 none) m.at_home;
+            } mine,
+        record { clear = λ _. took; set = λ odd. absurd (odd (omega arith)) },
+      ))
+      (λ away. let one_out : out ≡ 1 = omega arith in (
+        v,
+        keeps,
+        tt,
+        stays n s t id (v, []) v at (r.word ∙ ap (λ (y : ℕ). y ∷ []) (sym is)) (bit_or x 1) (omega arith) r,
+        record {
+          clear = λ even. absurd (omega arith);
+          set = λ _. record { same = refl; shared = nobody n s t r id v at free live one_out };
+        },
+      ))
+
+  -- a load, after which the seat knows w, of the same history
+  loaded : (t : Cell) (r : Kept n s t) (id : ℕ) (me : Sat) (w : Knows) → get_elem? t.views id ≡ some me.0 → me.0.has_node ≡ false → w.has_node ≡ false → w.first ≡ me.0.first → w.end ≡ me.0.end → me.0.first < me.0.end
+      → FitsSeat n s r.history w → Kept n s (stepped t 0 (get_or t.words 0 0) id me.1 w keeps)
+  loaded t r id me w at free free' f e live mine =
+      let v = me.0 in
+      let x : ℕ = get_or t.words 0 0 in
+      let is : x ≡ 2 * length (queue r.history) + sum_by holding t.views = ap (λ l. get_or l 0 0) r.word in
+      let sum = sum_set holding t.views id v w at in
+      let a : holding v ≡ 0 = ap (λ b. cond b 1 0) free in
+      let c : holding w ≡ 0 = ap (λ b. cond b 1 0) free' in
+      let same : sum_by holding t.views ≡ sum_by holding (set t.views id w) = omega arith in
+      reseated n s t r id v w r.history (set t.words 0 x) t.homes at (inl refl) f e live r.legal r.short
+      (ap (λ l. set l 0 x) r.word ∙ ap (λ (y : ℕ). y ∷ []) (omega arith))
+      (subst (λ (k : ℕ). Home k s r.history t.homes) same r.home) mine
+
+  -- the load of a count sees the whole history and its queue's length
+  pub counts : (slots id : ℕ) (v : Knows) → v.has_node ≡ false → v.first < v.end → Allows (Kept n s) slots id (v, []) 0 (λ x. x) (Counted (step slots 0 0 0 none) (v, []))
+  counts slots id v free live t r wide at small =
+      let x : ℕ = get_or t.words 0 0 in
+      let is : x ≡ 2 * length (queue r.history) + sum_by holding t.views = ap (λ l. get_or l 0 0) r.word in
+      let was = (r.seats id v at).knows live in
+      let few = r.home.one_at_most in
+      let short = r.short in
+      let half : x / 2 ≡ length (queue r.history) = omega arith in (
+        seen v false r.history,
+        keeps,
+        tt,
+        loaded t r id (v, []) (seen v false r.history) at free refl refl refl live (knows_all r.history v false was live),
+        record {
+          front = r.history;
+          now = refl;
+          since = was.since;
+          legal = subst (λ z. IsLegal z r.history) (sym was.shape) r.legal;
+          count = half;
+          short = omega arith;
+        },
+      )
+
+  -- the load after a join finds both old fronts to begin the front
+  pub looks : (slots id : ℕ) (v : Knows) → v.has_node ≡ false → v.first < v.end → Allows (Kept n s) slots id (v, []) 0 (λ x. x) (Looked (step slots 0 0 0 none) (v, []))
+  looks slots id v free live t r wide at small =
+      let was = (r.seats id v at).knows live in (
+        seen v false v.front,
+        keeps,
+        tt,
+        loaded t r id (v, []) (seen v false v.front) at free refl refl refl live
+            record {
+              lives = λ e. absurd (true≢false (sym e));
+              knows = λ _. record {
+                callers = was.callers;
+                shape = was.shape;
+                inside = was.inside;
+                since = was.since;
+                old_fronts = All-nil _;
+                at_node = λ e. absurd (true≢false (sym e));
+              };
+            },
+        record {
+          now = refl;
+          both = All-weaker (FitsOld r.history v) (λ (o : OldFront). Since o.first o.end o.front v.front)
+              (λ o p. between o.first o.end o.front v.front r.history v.first v.end p.shorter p.since was.since) v.old_fronts was.old_fronts;
+        },
+      )
+
+-- the same at a seat that is known by its parts
+pub locks_at : (n : ℕ) (s : Shape) (slots id : ℕ) (m : Sat) → m.1 ≡ [] → m.0.has_node ≡ false → m.0.first < m.0.end → m.0.old_fronts ≡ [] → Allows (Kept n s) slots id m 0 (λ x. bit_or x 1) (Locked (step slots 0 1 0 none) m)
+locks_at n s slots id m e free live clean =
+    subst (λ (l : List (ℕ × Option NodeState)). Allows (Kept n s) slots id (m.0, l) 0 (λ x. bit_or x 1) (Locked (step slots 0 1 0 none) (m.0, l))) (sym e) (locks n s slots id m.0 free live clean)
+
+pub counts_at : (n : ℕ) (s : Shape) (slots id : ℕ) (m : Sat) → m.1 ≡ [] → m.0.has_node ≡ false → m.0.first < m.0.end → Allows (Kept n s) slots id m 0 (λ x. x) (Counted (step slots 0 0 0 none) m)
+counts_at n s slots id m e free live =
+    subst (λ (l : List (ℕ × Option NodeState)). Allows (Kept n s) slots id (m.0, l) 0 (λ x. x) (Counted (step slots 0 0 0 none) (m.0, l))) (sym e) (counts n s slots id m.0 free live)
+
+pub looks_at : (n : ℕ) (s : Shape) (slots id : ℕ) (m : Sat) → m.1 ≡ [] → m.0.has_node ≡ false → m.0.first < m.0.end → Allows (Kept n s) slots id m 0 (λ x. x) (Looked (step slots 0 0 0 none) m)
+looks_at n s slots id m e free live =
+    subst (λ (l : List (ℕ × Option NodeState)). Allows (Kept n s) slots id (m.0, l) 0 (λ x. x) (Looked (step slots 0 0 0 none) (m.0, l))) (sym e) (looks n s slots id m.0 free live)

@@ -1,0 +1,29 @@
+-- One call of the node within a hold.
+use Rattle.std.proofs.Common.{refl, ap, ◌∙◌}
+use Rattle.thp_model.specs.declared.events.What.TheVariants.{MapWhole}
+use Rattle.thp_model.specs.Refusals.{refusal}
+use Rattle.thp_model.specs.Refusals as call
+use Rattle.thp_cell.specs.Says.{DidOne}
+use Rattle.thp_cell.proofs.Calling.{Holds, refused, called}
+use Rattle.thp_cell.proofs.cell.NodeCell.map_whole.Goals as goal
+use Rattle.thp_cell.proofs.cell.NodeCell.map_whole.Goals.{in-Ok, in-Err}
+
+pub returns-clause-recorded : goal.returns-clause-recorded
+returns-clause-recorded c =
+    let e = c.in-Some.ensures in
+    let held : Holds c.args.pass.now c.pass.inside.seat c.take_node.new.seat c.in-Some.node = record { pass = c.pass.view_is; cell = e.same_cell; now = e.now; shape = e.shape; since = e.since; legal = e.legal } in
+    elim c.match-answer.branch [
+      | in-Ok w ↦
+          let done = w.in-Ok.ensures in
+          rw w.result-is (called _ _ _ c.put_node.new.seat _ _ _ _ (λ s. DidOne s (call.map_whole c.args.page) c.args.caller (MapWhole c.args.page)) held c.requires.caller c.put_node.ensures.same_cell c.put_node.ensures.now done.recorded record { allowed = done.allowed; recorded = refl })
+      | in-Err w ↦ rw w.result-is tt
+    ]
+
+pub returns-clause-failed : goal.returns-clause-failed
+returns-clause-failed c =
+    let e = c.in-Some.ensures in
+    let held : Holds c.args.pass.now c.pass.inside.seat c.take_node.new.seat c.in-Some.node = record { pass = c.pass.view_is; cell = e.same_cell; now = e.now; shape = e.shape; since = e.since; legal = e.legal } in
+    elim c.match-answer.branch [
+      | in-Ok w ↦ rw w.result-is tt
+      | in-Err w ↦ rw w.result-is (refused _ _ _ c.put_node.new.seat _ _ (λ s h. refusal s h (call.map_whole c.args.page)) (λ s h. 1) _ held c.put_node.ensures.same_cell c.put_node.ensures.now w.in-Err.ensures.refused)
+    ]

@@ -1,0 +1,269 @@
+//! A node that threads share: how it is made, held, split among threads, and taken apart.
+ghost use Rattle.std.specs.Prelude.{◌≡◌, ◌≢◌, ℕ, ◌<◌, ◌≤◌, ◌⊎◌, ◌↔◌, [], ◌∷◌, length, true, false, None, Some, Err, All, IfOk, IfErr, IfSome, IfNone};
+ghost use Rattle.thp_model.specs.History.{events_of};
+ghost use Rattle.thp_model.specs.Legal.{IsLegal};
+ghost use Rattle.thp_model.specs.Places.{queue};
+ghost use Rattle.thp_cell.specs.Views.{HasCaller, HasAll, part};
+ghost use Rattle.thp_cell.specs.Rule.{OnlyOf};
+ghost use Rattle.thp_cell.specs.Calls.{Follows, PartsStay, IsBusy, IsJoined, below, from};
+
+mod batch_calls;
+mod list_calls;
+mod page_calls;
+
+use crate::fault::Busy;
+use crate::pass::{Hold, Pass};
+use crate::rule::{Both, CellRule, Count, Cut, Key, Knows, Lock, Look, SplitAt, Store};
+use atomic_table::{Refused, Seat, Table};
+use std::alloc::Global;
+use std::marker::{Brand, Model};
+use std::snapshot::Snapshot;
+use thp_node::{NewFault, Node};
+
+/// A node that threads share through one word and one slot.
+///
+/// The word is twice the length of the queue, and the lock bit. Contracts see which cell it is.
+#[derive(Drop)]
+pub struct NodeCell {
+    table: Table<Option<Node>, Knows, Key, CellRule, Global>,
+}
+
+impl Model for NodeCell {
+    ghost use Rattle.std.specs.Prelude.{◌≡◌};
+    ghost use Rattle.atomic_table.specs.Seated.{TableId};
+
+    ghost Value = { TableId };
+
+    ghost view = { λ c. c.table.shared.table_id };
+
+    ghost invariant = { λ c. (c.table.shared.table_id.words ≡ 1) × (c.table.shared.table_id.slots ≡ 1) };
+}
+
+impl NodeCell {
+    ghost use Rattle.thp_cell.specs.Rule.{Since, Adds};
+    ghost use Rattle.thp_cell.specs.Steps.{seen, IsWhole, left_of, right_of};
+    ghost use Rattle.thp_cell.specs.Seats.{IsFree, IsOut};
+
+    /// Makes a cell of a node, for a number of callers, and the pass that has them all. Their numbers are those below
+    /// `callers`: 1 to 64 of them, which is looked at first. A refusal drops the node.
+    pub fn new(alloc: Global, node: Node, callers: u32) -> Result<(NodeCell, Pass), NewFault>
+        requires { OnlyOf 0 callers node.journal }
+        ensures bad_size { (result ≡ Err NewFault.BadSize) ↔ ((callers ≡ 0) ⊎ (64 < callers)) }
+        ensures cell { IfOk result (λ r. r.1.cell ≡ r.0) }
+        ensures callers { IfOk result (λ r. r.1.callers ≡ callers) }
+        ensures all { IfOk result (λ r. HasAll r.1) }
+        ensures few { IfOk result (λ r. (0 < callers) × (callers ≤ 64)) }
+        ensures shape { IfOk result (λ r. r.1.shape ≡ node.shape) }
+        ensures front { IfOk result (λ r. r.1.front ≡ node.journal) }
+        ensures parts { IfOk result (λ r. (c : ℕ) → part r.1 c ≡ events_of c node.journal) }
+    {
+        if callers == 0 || callers > 64 {
+            return Err(NewFault::BadSize);
+        }
+        let word = 2 * u64::from(node.queue_len());
+        let key = Key {
+            callers,
+            node: Snapshot::of(&node),
+        };
+        // the journal's contract says that it is legal, which the rule of the cell asks
+        let _legal = node.journal();
+        let Ok(mut slots) = Vec::with_capacity(alloc, 1) else {
+            return Err(NewFault::OutOfMemory);
+        };
+        slots.push_reserved(Some(node));
+        match Table::new(alloc, &[word], slots, &key) {
+            Ok((table, seat)) => Ok((
+                NodeCell { table },
+                Pass {
+                    first: 0,
+                    end: callers,
+                    seat,
+                },
+            )),
+            Err(Refused { slots: _ }) => Err(NewFault::OutOfMemory),
+        }
+    }
+
+    /// Divides the callers of a pass: those below `at`, and those from it on.
+    pub fn split(&self, pass: Pass, at: u32) -> (Pass, Pass)
+        requires cell { pass.cell ≡ self.now }
+        requires after { pass.first < at }
+        requires before { at < pass.end }
+        ensures left { result.0 ≡ below pass at }
+        ensures right { result.1 ≡ from pass at }
+    {
+        let Pass {
+            first,
+            end,
+            mut seat,
+        } = pass;
+        let right = self.split_seat::<Brand>(&mut seat, at);
+        (
+            Pass {
+                first,
+                end: at,
+                seat,
+            },
+            Pass {
+                first: at,
+                end,
+                seat: right,
+            },
+        )
+    }
+
+    // Divides the callers of a seat.
+    fn split_seat<C: Cut>(
+        &self,
+        seat: &mut Seat<Option<Node>, Knows>,
+        at: u32,
+    ) -> Seat<Option<Node>, Knows>
+        requires cell { seat.old.table_id ≡ self.now }
+        requires free { IsFree seat.old }
+        requires cut { C.at ≡ at }
+        requires after { seat.old.me.0.first < at }
+        requires before { at < seat.old.me.0.end }
+        ensures same_cell { seat.new.table_id ≡ seat.old.table_id }
+        ensures left { seat.new.me ≡ (left_of at seat.old.me.0, []) }
+        ensures right_cell { result.table_id ≡ seat.old.table_id }
+        ensures right { result.me ≡ (right_of at seat.old.me.0, []) }
+    {
+        self.table.shared.split_seat::<SplitAt<C>>(seat)
+    }
+
+    /// Joins two passes whose callers adjoin. One front begins the other, and the new pass has the longer.
+    pub fn join(&self, left: Pass, right: Pass) -> Pass
+        requires left_cell { left.cell ≡ self.now }
+        requires right_cell { right.cell ≡ self.now }
+        requires adjacent { left.end ≡ right.first }
+        ensures fronts { IsJoined left right result }
+        ensures left_parts { PartsStay left result }
+        ensures right_parts { PartsStay right result }
+    {
+        let Pass {
+            first,
+            end: _,
+            mut seat,
+        } = left;
+        let Pass {
+            first: _,
+            end,
+            seat: other,
+        } = right;
+        self.table.shared.join_seat::<Both>(&mut seat, other);
+        self.table.shared.load::<Look>(&mut seat, 0);
+        Pass { first, end, seat }
+    }
+
+    /// Takes the node for a hold without events: no other pass reaches it before the release. Refused where another pass
+    /// has the node, which a pass of all callers never meets.
+    pub fn hold(&self, pass: Pass) -> Result<Hold, (Pass, Busy)>
+        requires { pass.cell ≡ self.now }
+        ensures follows { IfOk result (λ h. Follows pass h) }
+        ensures busy { IfErr result (λ e. IsBusy pass e.0) }
+    {
+        let Pass {
+            first,
+            end,
+            mut seat,
+        } = pass;
+        let found = self.table.shared.fetch_or::<Lock>(&mut seat, 0, 1);
+        if found % 2 == 0 {
+            Ok(Hold { first, end, seat })
+        } else {
+            Err((Pass { first, end, seat }, Busy))
+        }
+    }
+
+    /// Ends a hold without events.
+    pub fn release(&self, hold: Hold) -> Pass
+        requires { hold.cell ≡ self.now }
+        ensures { result ≡ hold }
+    {
+        let Hold {
+            first,
+            end,
+            mut seat,
+        } = hold;
+        let Some(node) = self.table.shared.exchange(&mut seat, 0, None) else {
+            unreachable!()
+        };
+        self.put_node(&mut seat, node);
+        Pass { first, end, seat }
+    }
+
+    /// How many pages are queued, by a single load without the lock, also while another pass has the node.
+    pub fn count(&self, pass: &mut Pass) -> u32
+        requires { pass.old.cell ≡ self.now }
+        ensures follows { Follows pass.old pass.new }
+        ensures count { result ≡ length (queue pass.new.front) }
+    {
+        let found = self.table.shared.load::<Count>(&mut pass.seat, 0);
+        (found / 2) as u32
+    }
+
+    /// Takes the cell apart, with the pass that has all its callers, and gives the node back.
+    ///
+    /// Its journal is the one legal history of all that the threads did: it is the pass's front, the part of each caller is
+    /// what that caller did in it, and no event has another caller.
+    pub fn finish(self, pass: Pass) -> Node
+        requires cell { pass.cell ≡ self }
+        requires all { HasAll pass }
+        ensures shape { result.shape ≡ pass.shape }
+        ensures journal { result.journal ≡ pass.front }
+        ensures legal { IsLegal result.shape result.journal }
+        ensures parts { (c : ℕ) → events_of c result.journal ≡ part pass c }
+        ensures callers { All (λ e. e.caller < pass.callers) result.journal }
+    {
+        let NodeCell { table } = self;
+        let Pass {
+            first: _,
+            end: _,
+            seat,
+        } = pass;
+        let mut closed = table.close_with(seat);
+        let slot = closed.take(0);
+        closed.free();
+        let Some(node) = slot else { unreachable!() };
+        node
+    }
+
+    // Takes the node out of its slot, where no other pass has it.
+    fn take_node(&self, seat: &mut Seat<Option<Node>, Knows>) -> Option<Node>
+        requires cell { seat.old.table_id ≡ self.now }
+        requires free { IsFree seat.old }
+        ensures same_cell { seat.new.table_id ≡ seat.old.table_id }
+        ensures same_seat { seat.new.id ≡ seat.old.id }
+        ensures now { IfSome result (λ node. seat.new.me ≡ (seen seat.old.me.0 true node.journal, (0, None) ∷ [])) }
+        ensures shape { IfSome result (λ node. node.shape ≡ seat.old.me.0.shape) }
+        ensures since { IfSome result (λ node. Since seat.old.me.0.first seat.old.me.0.end seat.old.me.0.front node.journal) }
+        ensures legal { IfSome result (λ node. IsLegal node.shape node.journal) }
+        ensures same { IfNone result (seat.new.me ≡ seat.old.me) }
+        ensures shared { IfNone result (IsWhole seat.old.me.0 → ⊥) }
+    {
+        let shared = &self.table.shared;
+        let found = shared.fetch_or::<Lock>(seat, 0, 1);
+        if found % 2 == 0 {
+            shared.exchange(seat, 0, None)
+        } else {
+            None
+        }
+    }
+
+    // Puts the node back into its slot, with the events of the hold, and lets the lock go.
+    fn put_node(&self, seat: &mut Seat<Option<Node>, Knows>, node: Node)
+        requires cell { seat.old.table_id ≡ self.now }
+        requires out { IsOut seat.old }
+        requires shape { node.shape ≡ seat.old.me.0.shape }
+        requires legal { IsLegal node.shape node.journal }
+        requires adds { Adds seat.old.me.0.first seat.old.me.0.end seat.old.me.0.front node.journal }
+        ensures same_cell { seat.new.table_id ≡ seat.old.table_id }
+        ensures same_seat { seat.new.id ≡ seat.old.id }
+        ensures now { seat.new.me ≡ (seen seat.old.me.0 false node.journal, []) }
+    {
+        let shared = &self.table.shared;
+        let word = 2 * u64::from(node.queue_len());
+        drop(shared.exchange(seat, 0, Some(node)));
+        shared.store::<Store>(seat, 0, word);
+    }
+}

@@ -1,0 +1,58 @@
+//! What threads reach a node with.
+ghost use Rattle.std.specs.Prelude.{◌≡◌};
+
+use crate::rule::Knows;
+use atomic_table::Seat;
+use std::marker::Model;
+use thp_node::Node;
+
+/// What a thread reaches the node of a cell with: some of the cell's callers.
+///
+/// Contracts see which cell it is of, its callers and its front: the history of the node that it knows of.
+#[derive(Drop)]
+pub struct Pass {
+    // the callers: from `first` on and below `end`
+    pub(crate) first: u32,
+    pub(crate) end: u32,
+    pub(crate) seat: Seat<Option<Node>, Knows>,
+}
+
+impl Model for Pass {
+    ghost use Rattle.thp_cell.specs.Views.{PassState};
+    ghost use Rattle.thp_cell.specs.Seats.{pass_state, IsNumbered, IsFree};
+
+    ghost Value = { PassState };
+
+    ghost view = { λ p. pass_state p.seat };
+
+    ghost invariant = { λ p. IsNumbered p.first p.end p.seat × IsFree p.seat };
+}
+
+impl Pass {
+    /// The callers of the pass: from the first of the two numbers on, and below the second.
+    pub fn callers(&self) -> (u32, u32)
+        ensures first { result.0 ≡ self.now.first }
+        ensures end { result.1 ≡ self.now.end }
+    {
+        (self.first, self.end)
+    }
+}
+
+/// A pass that has the node, which no other pass can reach meanwhile. It is spent by `NodeCell::release` alone.
+pub struct Hold {
+    // the callers: from `first` on and below `end`
+    pub(crate) first: u32,
+    pub(crate) end: u32,
+    pub(crate) seat: Seat<Option<Node>, Knows>,
+}
+
+impl Model for Hold {
+    ghost use Rattle.thp_cell.specs.Views.{PassState};
+    ghost use Rattle.thp_cell.specs.Seats.{pass_state, IsNumbered, IsHeld};
+
+    ghost Value = { PassState };
+
+    ghost view = { λ h. pass_state h.seat };
+
+    ghost invariant = { λ h. IsNumbered h.first h.end h.seat × IsHeld h.seat };
+}
