@@ -19,7 +19,7 @@ use Rattle.thp_cell.specs.Seats.{Place, pass_state}
 use Rattle.thp_cell.specs.Views.{PassState, HasCaller, part}
 use Rattle.thp_cell.specs.Calls.{at_front, Called, IsRefused}
 use Rattle.thp_cell.proofs.Fronts.{adds_none, adds_by}
-use Rattle.thp_cell.proofs.Passes.{events_of-append, events_of_all, events_of_none, part_stays, flights_last, batch_stays, seat_same, seat_follows}
+use Rattle.thp_cell.proofs.Passes.{events_of-append, events_of_all, events_of_none, part_stays, flights_last, batch_stays, seat_follows}
 
 -- what a call left of the node: a node that may be put back
 pub record Went (old new : NodeState) (first end : ℕ) : Type 0 where
@@ -79,6 +79,17 @@ still_in_front p s t old b held has front =
     let shape : old.shape ≡ p.shape = held.shape ∙ ap (λ (x : PassState). x.shape) held.pass in
     batch_stays p old.journal b others (subst (λ z. IsLegal z old.journal) shape held.legal) has front
 
+-- batches that stay in front through the call stay so through the hold
+pub batches_stay : (p : PassState) (s t u : Place) (old new : NodeState) (b : BatchState) → Holds p s t old → u.table_id ≡ t.table_id → u.me ≡ (seen t.me.0 false new.journal, []) → HasCaller p b.caller → IsInFront p.front b
+    → (IsInFront old.journal b → IsInFront new.journal b) → IsInFront u.me.0.front b
+batches_stay p s t u old new b held cell now has front stays =
+    let front_is : u.me.0.front ≡ new.journal = ap (λ (x : Knows). x.front) (ended p s t u old new held cell now) in
+    subst (λ h. IsInFront h b) (sym front_is) (stays (still_in_front p s t old b held has front))
+
+-- the front of the pass after the hold is the node's journal
+pub front_after : (p : PassState) (s t u : Place) (old new : NodeState) → Holds p s t old → u.table_id ≡ t.table_id → u.me ≡ (seen t.me.0 false new.journal, []) → u.me.0.front ≡ new.journal
+front_after p s t u old new held cell now = ap (λ (x : Knows). x.front) (ended p s t u old new held cell now)
+
 -- a call that was refused
 pub refused : (p : PassState) (s t u : Place) (old new : NodeState) (why : Shape → History → Option Refusal) (m : Shape → History → ℕ) (r : Refusal) → Holds p s t old → u.table_id ≡ t.table_id → u.me ≡ (seen t.me.0 false new.journal, [])
     → Refused old new (why old.shape old.journal) (m old.shape old.journal) r → IsRefused p (pass_state u) (why u.me.0.shape u.me.0.front) (m u.me.0.shape u.me.0.front) r
@@ -109,7 +120,6 @@ called p s t u old new c es Says held has cell now did says =
     let legal : IsLegal p.shape old.journal = subst (λ z. IsLegal z old.journal) shape held.legal in record {
       found = old.journal;
       own = es;
-      same = seat_same p s u new.journal false held.pass (cell ∙ held.cell) e;
       others = others;
       flights = flights_last p old.journal others legal;
       front = front;

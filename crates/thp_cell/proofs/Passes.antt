@@ -22,7 +22,7 @@ use Rattle.thp_cell.specs.Rule.{IsOther, NoneOf, Since}
 use Rattle.thp_cell.specs.Steps.{Sat, seen, IsWhole, longer, old_front, joined}
 use Rattle.thp_cell.specs.Seats.{Place, pass_state}
 use Rattle.thp_cell.specs.Views.{PassState, HasCaller, HasAll, part}
-use Rattle.thp_cell.specs.Calls.{at_front, PartsStay, FlightsLast, Follows, IsJoined}
+use Rattle.thp_cell.specs.Calls.{at_front, PartsStay, FlightsLast, BatchesStay, Follows, IsJoined}
 use Rattle.thp_cell.proofs.Fronts.{longer_is}
 
 pub events_of-append : (c : ℕ) (xs ys : History) → events_of c (xs ++ ys) ≡ events_of c xs ++ events_of c ys
@@ -104,7 +104,12 @@ follows p q same since legal = record {
   legal = legal;
   parts = parts_stay p q since;
   flights = flights_last p q.front since legal;
+  batches = λ b has front. batch_stays p q.front b since legal has front;
 }
+
+-- nothing changed
+pub batches_same : (p q : PassState) → q ≡ p → BatchesStay p q
+batches_same p q same b has front = subst (λ (x : PassState). IsInFront x.front b) (sym same) front
 
 -- what the load after a join tells of the pass
 pub joined_pass : (s t s' : Place) (m : Sat) (cs : List (ℕ × Option NodeState)) → m ≡ (joined s.me.0 t.me.0, cs) → s'.table_id ≡ s.table_id → s'.me ≡ (seen m.0 false m.0.front, m.1)

@@ -8,6 +8,7 @@ use Rattle.thp_model.specs.History.{History, events_of}
 use Rattle.thp_model.specs.Legal.{IsLegal}
 use Rattle.thp_model.specs.Counts.{is_live}
 use Rattle.thp_model.specs.Places.{flight}
+use Rattle.thp_node.specs.Batches.{BatchState, IsInFront}
 use Rattle.thp_cell.specs.Rule.{Since}
 use Rattle.thp_cell.specs.Views.{PassState, HasCaller, HasAll, part}
 use Rattle.thp_cell.specs.declared.fault.CellFault.{CellFault}
@@ -25,6 +26,14 @@ PartsStay p q = (c : ℕ) → HasCaller p c → part q c ≡ part p c
 abbrev pub FlightsLast : PassState → History → Type 0
 FlightsLast p h = (c : ℕ) → HasCaller p c → flight h c ≡ filter (is_live h) (flight p.front c)
 
+-- each batch of the pass's callers that was in front of its flight still is
+abbrev pub BatchesStay : PassState → PassState → Type 0
+BatchesStay p q = (b : BatchState) → HasCaller p b.caller → IsInFront p.front b → IsInFront q.front b
+
+-- each batch of another of the pass's callers than c
+abbrev pub OtherBatchesStay : ℕ → PassState → PassState → Type 0
+OtherBatchesStay c p q = (b : BatchState) → HasCaller p b.caller → b.caller ≢ c → IsInFront p.front b → IsInFront q.front b
+
 -- the front went on with events of callers that aren't the pass's alone, and is legal; no part changed
 pub record Follows (p q : PassState) : Type 0 where
   pub same : q ≡ at_front p q.front
@@ -32,6 +41,7 @@ pub record Follows (p q : PassState) : Type 0 where
   pub legal : IsLegal p.shape q.front
   pub parts : PartsStay p q
   pub flights : FlightsLast p q.front
+  pub batches : BatchesStay p q
 
 -- A call of caller c found the node with the journal `found`: the front of the pass, and then events of callers that
 -- aren't the pass's alone. It recorded its own events, all of them caller c's, and the front is now `found` and these.
@@ -39,7 +49,6 @@ pub record Follows (p q : PassState) : Type 0 where
 pub record Called (p q : PassState) (c : ℕ) (Says : History → List Event → Type 0) : Type 0 where
   pub found : History
   pub own : List Event
-  pub same : q ≡ at_front p q.front
   pub others : Since p.first p.end p.front found
   pub flights : FlightsLast p found
   pub front : q.front ≡ found ++ own

@@ -3,6 +3,7 @@ ghost use Rattle.std.specs.Prelude.{◌≡◌, ◌≢◌, ℕ, ◌<◌, ◌≤�
 ghost use Rattle.thp_model.specs.History.{events_of};
 ghost use Rattle.thp_model.specs.Legal.{IsLegal};
 ghost use Rattle.thp_model.specs.Places.{queue};
+ghost use Rattle.thp_node.specs.JournalLaws.{StandsOnce, TakesOldest, LeavesFreedAlone, NothingEnters, HasFramesOnce};
 ghost use Rattle.thp_cell.specs.Views.{HasCaller, HasAll, part};
 ghost use Rattle.thp_cell.specs.Rule.{OnlyOf};
 ghost use Rattle.thp_cell.specs.Calls.{Follows, PartsStay, IsBusy, IsJoined, below, from};
@@ -214,6 +215,12 @@ impl NodeCell {
         ensures legal { IsLegal result.shape result.journal }
         ensures parts { (c : ℕ) → events_of c result.journal ≡ part pass c }
         ensures callers { All (λ e. e.caller < pass.callers) result.journal }
+        // the laws of every legal history that the headline tells, at this one
+        ensures oldest { TakesOldest result.journal }
+        ensures once { StandsOnce result.journal }
+        ensures freed { LeavesFreedAlone result.journal }
+        ensures closed { NothingEnters result.journal }
+        ensures frames { HasFramesOnce result.shape result.journal }
     {
         let NodeCell { table } = self;
         let Pass {
@@ -225,6 +232,8 @@ impl NodeCell {
         let slot = closed.take(0);
         closed.free();
         let Some(node) = slot else { unreachable!() };
+        // the contract of a node's journal says the laws at it
+        let _laws = node.journal();
         node
     }
 

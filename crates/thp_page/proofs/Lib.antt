@@ -9,6 +9,7 @@ pub mod PageChanges
 pub mod PageUse
 pub mod MappedCounts
 pub mod Halves
+pub mod Buckets
 pub mod TableSlots
 pub mod TableSteps
 pub mod Recording

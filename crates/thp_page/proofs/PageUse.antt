@@ -13,7 +13,7 @@ use Rattle.thp_model.proofs.Below.{some_yes, some_no, some_below-ext}
 use Rattle.thp_page.proofs.RangeCounts.{some_below-count}
 use Rattle.thp_page.proofs.MappedCounts.{mapped_or_not}
 use Rattle.thp_page.proofs.SubSets.{set_of-ext}
-use Rattle.thp_page.proofs.PageSizes.{size_least, size_most, range_test, whole_test, same_size}
+use Rattle.thp_page.proofs.PageSizes.{size_least, size_most, range_test, same_size}
 
 -- a page that is mapped whole is in use
 pub has_use-mapped : (t : PageState) → 2 ≤ t.order → 0 < t.whole → has_use t ≡ true

@@ -1,15 +1,15 @@
 -- How many counts of a range pass a test.
-use Rattle.std.proofs.Common.{◌≡◌, ◌≢◌, ℕ, zero, suc, ◌+◌, ◌-◌, ◌*◌, ◌<◌, ◌≤◌, Bool, true, false, not, ◌&&◌, cond, nat_eq, nat_lt, List, length, take, drop, get_or, refl, ap, sym, ◌∙◌, arith, inl, inr}
+use Rattle.std.proofs.Common.{◌≡◌, ◌≢◌, ℕ, zero, suc, ◌+◌, ◌-◌, ◌*◌, ◌<◌, ◌≤◌, Bool, true, false, ◌&&◌, cond, nat_lt, List, length, take, drop, get_or, refl, ap, sym, ◌∙◌, arith, inl, inr}
 use Rattle.std.specs.Prelude.{count_by}
 use Rattle.std.proofs.lemmas.Bool.Decides.{nat_tests, eqb_tells}
 use Rattle.std.proofs.lemmas.List.{length-drop, get_or-drop}
 use Rattle.std.proofs.lemmas.List.Sums.{count_by_more_yes, count_by_more_no}
 use Rattle.thp_model.specs.Sets.{covers, some_below}
 use Rattle.thp_model.specs.Frames.{sum_below, count_below}
-use Rattle.thp_model.proofs.Below.{some_yes, some_no, some_none}
+use Rattle.thp_model.proofs.Below.{some_no, some_none}
 use Rattle.thp_model.proofs.SumsBelow.{sum_below-ext, sum_below-add, sum_below-one, sum_below-const, sum_below-stop}
 use Rattle.thp_page.specs.Ranges.{count_in_range}
-use Rattle.thp_page.proofs.SomeBelow.{same_if_false, false_if}
+use Rattle.thp_page.proofs.SomeBelow.{same_if_false}
 use Rattle.thp_page.proofs.RangeLemmas.{length_of}
 
 -- a test that nothing passes

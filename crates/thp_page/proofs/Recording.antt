@@ -1,17 +1,16 @@
 -- The laws of the bridge from a page to the history of its node.
-use Rattle.std.proofs.Common.{◌≡◌, ℕ, Bool, true, false, not, ◌&&◌, ◌||◌, nat_eq, List, [], ◌∷◌, ◌++◌, None, refl, ap, sym, ◌∙◌, subst, eqb-true, eq-eqb, arith}
+use Rattle.std.proofs.Common.{◌≡◌, ℕ, Bool, true, false, not, ◌&&◌, ◌||◌, nat_eq, [], ◌∷◌, ◌++◌, refl, sym, ◌∙◌, subst, eqb-true, eq-eqb, arith}
 use Rattle.thp_model.specs.declared.events.Event.{Event}
 use Rattle.thp_model.specs.declared.events.Outcome.{Outcome}
 use Rattle.thp_model.specs.declared.events.What.{What}
 use Rattle.thp_model.specs.declared.events.What.TheVariants.{Alloc, MapWhole, UnmapWhole, MapSub, UnmapSub, SplitPmd, Pin, Unpin, Taken, Split, Back, Dropped, Close}
 use Rattle.thp_model.specs.declared.events.What.TheVariants as kind
-use Rattle.thp_model.specs.declared.shape.Shape.{Shape}
 use Rattle.thp_model.specs.History.{History, by, some_event}
-use Rattle.thp_model.specs.Counts.{is_live, is_closed, is_freed, frees, allocates, allocations}
+use Rattle.thp_model.specs.Counts.{is_live, is_closed, frees, allocates, allocations}
 use Rattle.thp_model.specs.Places.{stands}
 use Rattle.thp_model.specs.Refusals.{Call, refusal, alloc_page, map_whole, unmap_whole, map_sub, unmap_sub, split_pmd, pin, unpin, close, take, scan}
 use Rattle.thp_model.specs.Refusals as call
-use Rattle.thp_model.specs.Pages.{PageState, page_refusal, gives_frames, WholeMapped, RangeMapped, PmdSplit, Pinned, PageSplit, Tallies}
+use Rattle.thp_model.specs.Pages.{page_refusal, gives_frames, Tallies}
 use Rattle.thp_model.specs.PageChanges.{page_outcome, page_released}
 use Rattle.thp_model.proofs.Alive.{legal_grown}
 use Rattle.thp_model.proofs.Numbers.{Fresh}
@@ -20,7 +19,7 @@ use Rattle.thp_model.proofs.PageRefusals.{refusal_map_whole, refusal_unmap_whole
 use Rattle.thp_model.proofs.Pushes.{some_event_push, live_stays}
 use Rattle.thp_model.proofs.Tallying.{tallies_alloc, tallies_map_whole, tallies_unmap_whole, tallies_map_sub, tallies_unmap_sub, tallies_split_pmd, tallies_pin, tallies_unpin, tallies_split, tallies_stay, pins_is}
 use Rattle.thp_model.proofs.Untouched.{Untouched, untouched, is_about}
-use Rattle.thp_page.specs.Bridge.{changes_page, OthersLeavePages, IsAt, Records, RefusalsAgree, FreshPageIsRecorded, MapWholeIsRecorded, UnmapWholeIsRecorded, MapSubIsRecorded, UnmapSubIsRecorded, SplitPmdIsRecorded, PinIsRecorded, UnpinIsRecorded, SplitIsRecorded}
+use Rattle.thp_page.specs.Bridge.{changes_page, OthersLeavePages, RefusalsAgree, FreshPageIsRecorded, MapWholeIsRecorded, UnmapWholeIsRecorded, MapSubIsRecorded, UnmapSubIsRecorded, SplitPmdIsRecorded, PinIsRecorded, UnpinIsRecorded, SplitIsRecorded}
 use Rattle.thp_page.proofs.PageRefusals.{map_whole_unsplit}
 
 -- the call of a page is about that page

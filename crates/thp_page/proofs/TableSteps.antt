@@ -1,6 +1,6 @@
 -- From the fields of a table to what contracts see: reads and writes of one block.
 use Rattle.std.proofs.Common.{◌≡◌, ◌≢◌, ◌∙◌, ◌<◌, ℕ, zero, suc, List, [], ◌∷◌, length, get_or, set, replicate, cond, Option, Some, None, ap, ap₂, sym, subst, refl, arith}
-use Rattle.std.specs.Option.{is_some, IfSome, IfNone}
+use Rattle.std.specs.Option.{is_some, IsSome, IfSome, IfNone}
 use Rattle.std.proofs.lemmas.List.{length-map, set-get_or}
 use Rattle.thp_links.specs.declared.link.Link.{Link}
 use Rattle.thp_model.specs.Pages.{PageState}
@@ -123,6 +123,16 @@ empty_read order ns ds n b t view same inside none =
     ap (λ (u : Table). slot_at u b) (sym view)
     ∙ get_or-slots_of ns ds b (blank_descriptor order) same (block_inside order ns ds n b t view inside)
     ∙ ap (λ (o : Option ℕ). slot_of o (get_or ds b (blank_descriptor order))) none
+
+-- an empty block has no number, and a taken one has
+pub no_number : (order : ℕ) (ns : List (Option ℕ)) (ds : List Descriptor) (n b : ℕ) (t : Table) → table_of order ns ds n ≡ t → length ns ≡ length ds → b < length t.links → slot_at t b ≡ None → get_or ns b None ≡ None
+no_number order ns ds n b t view same inside empty = sym (number_read order ns ds n b t view same inside) ∙ ap number_in empty
+
+pub some_number : (order : ℕ) (ns : List (Option ℕ)) (ds : List Descriptor) (n b : ℕ) (t : Table) → table_of order ns ds n ≡ t → length ns ≡ length ds → b < length t.links → IsSome (slot_at t b) → IsSome (get_or ns b None)
+some_number order ns ds n b t view same inside taken = ap is_some (sym (number_read order ns ds n b t view same inside)) ∙ as_slot (slot_at t b) ∙ taken where
+  as_slot : (o : Option Slot) → is_some (number_in o) ≡ is_some o
+  as_slot None = refl
+  as_slot (Some s) = refl
 
 -- the block of a number, and a number that no block has
 pub number_found : (order : ℕ) (ns : List (Option ℕ)) (ds : List Descriptor) (n id : ℕ) (t : Table) (r : Option ℕ) → table_of order ns ds n ≡ t → length ns ≡ length ds → IfSome r (λ b. get_or ns b None ≡ Some id) → IfSome r (λ b. IsHeld (slot_at t b) id)

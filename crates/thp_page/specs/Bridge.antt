@@ -1,6 +1,6 @@
 -- The bridge from a page to the history of its node: the call of a page leaves the page that the history with the call's
 -- event speaks of, and that event fits.
-use Rattle.std.specs.Prelude.{◌≡◌, ℕ, Bool, true, false, not, nat_eq, List, [], ◌∷◌, ◌++◌, None}
+use Rattle.std.specs.Prelude.{◌≡◌, ℕ, Bool, true, false, not, nat_eq, [], ◌∷◌, ◌++◌, None}
 use Rattle.thp_model.specs.declared.events.Event.{Event}
 use Rattle.thp_model.specs.declared.events.Outcome.{Outcome}
 use Rattle.thp_model.specs.declared.events.What.{What}
@@ -11,7 +11,7 @@ use Rattle.thp_model.specs.Counts.{is_live, is_closed, frees, allocations}
 use Rattle.thp_model.specs.Places.{flight, has_page, stands}
 use Rattle.thp_model.specs.Refusals.{Call, refusal}
 use Rattle.thp_model.specs.Refusals as call
-use Rattle.thp_model.specs.Legal.{Fits, FitsAlloc, IsLegal}
+use Rattle.thp_model.specs.Legal.{Fits, IsLegal}
 use Rattle.thp_model.specs.Pages.{PageState, page_refusal, gives_frames, WholeMapped, RangeMapped, PmdSplit, Pinned, PageSplit, IsFresh, Tallies}
 use Rattle.thp_model.specs.PageChanges.{page_outcome, page_released}
 

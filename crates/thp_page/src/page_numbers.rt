@@ -1,16 +1,16 @@
 //! The number of the page in each block, and the block of a number.
-ghost use Rattle.std.specs.Prelude.{◌≡◌, ◌≢◌, ◌<◌, ◌≤◌, ℕ, ◌^◌, List, length, nat_eq, replicate, slice_index_or, slice_set, IfOk, IfSome, IfNone, Option, Some, None};
+ghost use Rattle.std.specs.Prelude.{◌≡◌, ◌≢◌, ◌<◌, ◌≤◌, ℕ, ◌^◌, List, length, nat_eq, replicate, slice_index_or, slice_set, IsSome, IfOk, IfSome, IfNone, Option, Some, None};
 ghost use Rattle.std.specs.Bool.{OnTrue, OnFalse};
 ghost use Rattle.std.specs.List.{list_any};
-ghost use Rattle.thp_page.specs.Searching.{low_half};
+ghost use Rattle.thp_page.specs.Searching.{low_half, bucket_at, is_in_bucket};
 
 use std::alloc::{AllocError, Global};
 use std::marker::Model;
 use thp_model::PageId;
 
-// How many hints there are. A node has half as many blocks at most, so pages that are allocated one after the other have a
-// hint each.
-const HINTS: u64 = 8192;
+// How many buckets there are. A node has half as many blocks at most, so pages that are allocated one after the other have a
+// bucket each.
+const BUCKETS: u64 = 8192;
 
 // How many halves the search compares before it looks whether one was equal.
 const STRIDE: u32 = 64;
@@ -21,9 +21,11 @@ pub(crate) struct PageNumbers {
     numbers: Vec<Option<PageId>>,
     // The low half of each number, packed for the search. That of an empty block may be any.
     halves: Vec<u32>,
-    // By low bits of a number the block that was last given such a number. It may be wrong, so it counts only once the
-    // block's number was compared.
+    // By bucket the block that was last given a number of it. It may be wrong, so it counts only once the block's number was
+    // compared.
     hints: Vec<u32>,
+    // By bucket how many blocks have a number of it.
+    sizes: Vec<u32>,
 }
 
 impl Model for PageNumbers {
@@ -34,7 +36,7 @@ impl Model for PageNumbers {
 
     ghost view = { λ p. p.numbers.items };
 
-    ghost invariant = { λ p. IsSearchable p.numbers.items p.halves.items p.hints.items };
+    ghost invariant = { λ p. IsSearchable p.numbers.items p.halves.items p.hints.items p.sizes.items };
 }
 
 impl PageNumbers {
@@ -49,7 +51,8 @@ impl PageNumbers {
         Ok(PageNumbers {
             numbers,
             halves: vec![in alloc; u32::MAX; blocks as usize]?,
-            hints: vec![in alloc; 0; HINTS as usize]?,
+            hints: vec![in alloc; 0; BUCKETS as usize]?,
+            sizes: vec![in alloc; 0; BUCKETS as usize]?,
         })
     }
 
@@ -61,21 +64,29 @@ impl PageNumbers {
         self.numbers[block as usize]
     }
 
-    // Puts a number into a block.
+    // Puts a number into a block that has none.
     pub(crate) fn place(&mut self, block: u32, id: PageId)
-        requires { block < length self.old }
+        requires inside { block < length self.old }
+        requires empty { slice_index_or self.old block None ≡ None }
         ensures { self.new ≡ slice_set self.old block (Some id) }
     {
+        let bucket = bucket_of(id);
         self.numbers[block as usize] = Some(id);
         self.halves[block as usize] = half_of(id);
-        self.hints[hint_of(id)] = block;
+        self.hints[bucket] = block;
+        self.sizes[bucket] += 1;
     }
 
-    // Empties a block.
+    // Empties a block that has a number.
     pub(crate) fn clear(&mut self, block: u32)
-        requires { block < length self.old }
+        requires inside { block < length self.old }
+        requires taken { IsSome (slice_index_or self.old block None) }
         ensures { self.new ≡ slice_set self.old block None }
     {
+        let Some(id) = self.at(block) else {
+            unreachable!()
+        };
+        self.sizes[bucket_of(id)] -= 1;
         self.numbers[block as usize] = None;
     }
 
@@ -85,11 +96,15 @@ impl PageNumbers {
         ensures inside { IfSome result (λ b. b < length self.now) }
         ensures absent { IfNone result ((b : ℕ) → slice_index_or self.now b None ≢ Some id) }
     {
-        let hint = self.hints[hint_of(id)];
+        let bucket = bucket_of(id);
+        let hint = self.hints[bucket];
         if self.is_at(hint, id) {
-            return Some(hint);
+            Some(hint)
+        } else if self.has_others(hint, bucket) {
+            self.search(id)
+        } else {
+            None
         }
-        self.search(id)
     }
 
     // Whether a block has this number.
@@ -100,6 +115,24 @@ impl PageNumbers {
     {
         match self.numbers.get(block as usize) {
             Some(Some(number)) => *number == id,
+            _ => false,
+        }
+    }
+
+    // Whether a block besides this one has a number of this bucket. Where it says no, no search is needed.
+    fn has_others(&self, block: u32, bucket: usize) -> bool
+        requires { bucket < 8192 }
+        ensures { OnFalse result ((b n : ℕ) → slice_index_or self.now b None ≡ Some n → bucket_at n ≡ bucket → b ≡ block) }
+    {
+        self.sizes[bucket] != u32::from(self.is_in(block, bucket))
+    }
+
+    // Whether a block has a number of this bucket.
+    fn is_in(&self, block: u32, bucket: usize) -> bool
+        ensures { result ≡ is_in_bucket bucket (slice_index_or self.now block None) }
+    {
+        match self.numbers.get(block as usize) {
+            Some(Some(number)) => bucket_of(*number) == bucket,
             _ => false,
         }
     }
@@ -148,11 +181,12 @@ fn half_of(id: PageId) -> u32
     (id.0 % (1 << 32)) as u32
 }
 
-// Where the hint of a number is.
-fn hint_of(id: PageId) -> usize
-    ensures { result < 8192 }
+// The bucket of a number, by its low bits.
+fn bucket_of(id: PageId) -> usize
+    ensures value { result ≡ bucket_at id }
+    ensures below { result < 8192 }
 {
-    (id.0 % HINTS) as usize
+    (id.0 % BUCKETS) as usize
 }
 
 // Whether one of the halves is this one. It looks at all of them, since a loop that ends early isn't vectorised.

@@ -6,7 +6,7 @@ ghost use Rattle.thp_model.specs.Refusals as call;
 ghost use Rattle.thp_model.specs.Runs.{take_events, split_next_events, put_back_events};
 ghost use Rattle.thp_node.specs.Batches.{rest, IsInFront};
 ghost use Rattle.thp_cell.specs.Views.{HasCaller};
-ghost use Rattle.thp_cell.specs.Calls.{Called, Failed};
+ghost use Rattle.thp_cell.specs.Calls.{at_front, BatchesStay, OtherBatchesStay, Called, Failed};
 ghost use Rattle.thp_cell.specs.Says.{DidTake, DidTry, DidPutBack, DidScan};
 
 use crate::cell::NodeCell;
@@ -20,8 +20,11 @@ impl NodeCell {
         requires cell { pass.old.cell ≡ self.now }
         requires caller { HasCaller pass.old caller }
         requires count { n ≤ 128 }
+        ensures same { pass.new ≡ at_front pass.old pass.new.front }
         ensures recorded { IfOk result (λ b. Called pass.old pass.new caller (DidTake pass.old.shape caller n b)) }
         ensures failed { IfErr result (Failed pass.old pass.new (refusal pass.new.shape pass.new.front (call.take caller)) (length (take_events pass.new.front caller n))) }
+        ensures batches { OtherBatchesStay caller pass.old pass.new }
+        ensures front { IfOk result (IsInFront pass.new.front) }
     {
         let Some(mut node) = self.take_node(&mut pass.seat) else {
             return Err(CellFault::Busy);
@@ -40,8 +43,10 @@ impl NodeCell {
         requires cell { pass.old.cell ≡ self.now }
         requires caller { HasCaller pass.old caller }
         requires count { n ≤ 128 }
+        ensures same { pass.new ≡ at_front pass.old pass.new.front }
         ensures recorded { IfOk result (λ r. Called pass.old pass.new caller (DidScan pass.old.shape caller n r)) }
         ensures failed { IfErr result (Failed pass.old pass.new (refusal pass.new.shape pass.new.front (call.scan caller)) (3 * length (take_events pass.new.front caller n))) }
+        ensures batches { OtherBatchesStay caller pass.old pass.new }
     {
         let Some(mut node) = self.take_node(&mut pass.seat) else {
             return Err(CellFault::Busy);
@@ -62,10 +67,13 @@ impl NodeCell {
     pub fn split_next(&self, pass: &mut Pass, batch: &mut Batch) -> Result<Tried, CellFault>
         requires cell { pass.old.cell ≡ self.now }
         requires caller { HasCaller pass.old batch.old.caller }
+        ensures same { pass.new ≡ at_front pass.old pass.new.front }
         ensures recorded { IfOk result (λ t. Called pass.old pass.new batch.old.caller (DidTry pass.old.shape batch.old batch.new t)) }
         ensures same_caller { batch.new.caller ≡ batch.old.caller }
         ensures same_pages { batch.new.pages ≡ batch.old.pages }
         ensures failed { IfErr result (Failed pass.old pass.new None (length (split_next_events pass.new.shape pass.new.front batch.old.caller (rest batch.old)))) }
+        ensures batches { BatchesStay pass.old pass.new }
+        ensures front { IsInFront pass.old.front batch.old → IsInFront pass.new.front batch.new }
         ensures kept { OnErr result (batch.new ≡ batch.old) }
     {
         let Some(mut node) = self.take_node(&mut pass.seat) else {
@@ -88,8 +96,10 @@ impl NodeCell {
         requires cell { pass.old.cell ≡ self.now }
         requires caller { HasCaller pass.old batch.caller }
         requires front { IsInFront pass.old.front batch }
+        ensures same { pass.new ≡ at_front pass.old pass.new.front }
         ensures recorded { IfOk result (λ r. Called pass.old pass.new batch.caller (DidPutBack batch r)) }
         ensures failed { IfErr result (λ e. Failed pass.old pass.new None (length (put_back_events pass.new.front batch.caller batch.pages)) e.1) }
+        ensures batches { BatchesStay pass.old pass.new }
         ensures handed_back { IfErr result (λ e. e.0 ≡ batch) }
     {
         let Some(mut node) = self.take_node(&mut pass.seat) else {

@@ -3,7 +3,7 @@ ghost use Rattle.std.specs.Prelude.{◌≡◌, ℕ, [], ◌∷◌, IfOk, IfErr, 
 ghost use Rattle.thp_model.specs.Refusals.{refusal};
 ghost use Rattle.thp_model.specs.Refusals as call;
 ghost use Rattle.thp_cell.specs.Views.{HasCaller};
-ghost use Rattle.thp_cell.specs.Calls.{Called, Failed};
+ghost use Rattle.thp_cell.specs.Calls.{at_front, BatchesStay, Called, Failed};
 ghost use Rattle.thp_cell.specs.Says.{DidOne, DidAlloc};
 
 use crate::cell::NodeCell;
@@ -17,8 +17,10 @@ impl NodeCell {
     pub fn alloc_page(&self, pass: &mut Pass, caller: u32) -> Result<PageId, CellFault>
         requires cell { pass.old.cell ≡ self.now }
         requires caller { HasCaller pass.old caller }
+        ensures same { pass.new ≡ at_front pass.old pass.new.front }
         ensures recorded { IfOk result (λ p. Called pass.old pass.new caller (DidAlloc pass.old.shape caller p)) }
         ensures failed { IfErr result (Failed pass.old pass.new (refusal pass.new.shape pass.new.front call.alloc_page) 1) }
+        ensures batches { BatchesStay pass.old pass.new }
     {
         let Some(mut node) = self.take_node(&mut pass.seat) else {
             return Err(CellFault::Busy);
@@ -35,8 +37,10 @@ impl NodeCell {
     pub fn close(&self, pass: &mut Pass, caller: u32) -> Result<(), CellFault>
         requires cell { pass.old.cell ≡ self.now }
         requires caller { HasCaller pass.old caller }
+        ensures same { pass.new ≡ at_front pass.old pass.new.front }
         ensures recorded { OnOk result (Called pass.old pass.new caller (DidOne pass.old.shape call.close caller What.Close)) }
         ensures failed { IfErr result (Failed pass.old pass.new (refusal pass.new.shape pass.new.front call.close) 1) }
+        ensures batches { BatchesStay pass.old pass.new }
     {
         let Some(mut node) = self.take_node(&mut pass.seat) else {
             return Err(CellFault::Busy);

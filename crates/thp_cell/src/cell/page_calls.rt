@@ -3,7 +3,7 @@ ghost use Rattle.std.specs.Prelude.{◌≡◌, ℕ, [], ◌∷◌, IfOk, IfErr, 
 ghost use Rattle.thp_model.specs.Refusals.{refusal};
 ghost use Rattle.thp_model.specs.Refusals as call;
 ghost use Rattle.thp_cell.specs.Views.{HasCaller};
-ghost use Rattle.thp_cell.specs.Calls.{Called, Failed};
+ghost use Rattle.thp_cell.specs.Calls.{at_front, BatchesStay, Called, Failed};
 ghost use Rattle.thp_cell.specs.Says.{DidOne, DidLose};
 
 use crate::cell::NodeCell;
@@ -17,8 +17,10 @@ impl NodeCell {
     pub fn map_whole(&self, pass: &mut Pass, caller: u32, page: PageId) -> Result<(), CellFault>
         requires cell { pass.old.cell ≡ self.now }
         requires caller { HasCaller pass.old caller }
+        ensures same { pass.new ≡ at_front pass.old pass.new.front }
         ensures recorded { OnOk result (Called pass.old pass.new caller (DidOne pass.old.shape (call.map_whole page) caller (What.MapWhole page))) }
         ensures failed { IfErr result (Failed pass.old pass.new (refusal pass.new.shape pass.new.front (call.map_whole page)) 1) }
+        ensures batches { BatchesStay pass.old pass.new }
     {
         let Some(mut node) = self.take_node(&mut pass.seat) else {
             return Err(CellFault::Busy);
@@ -35,8 +37,10 @@ impl NodeCell {
     pub fn unmap_whole(&self, pass: &mut Pass, caller: u32, page: PageId) -> Result<Done, CellFault>
         requires cell { pass.old.cell ≡ self.now }
         requires caller { HasCaller pass.old caller }
+        ensures same { pass.new ≡ at_front pass.old pass.new.front }
         ensures recorded { IfOk result (λ d. Called pass.old pass.new caller (DidLose pass.old.shape (call.unmap_whole page) caller page (What.UnmapWhole page) d)) }
         ensures failed { IfErr result (Failed pass.old pass.new (refusal pass.new.shape pass.new.front (call.unmap_whole page)) 1) }
+        ensures batches { BatchesStay pass.old pass.new }
     {
         let Some(mut node) = self.take_node(&mut pass.seat) else {
             return Err(CellFault::Busy);
@@ -61,8 +65,10 @@ impl NodeCell {
     ) -> Result<(), CellFault>
         requires cell { pass.old.cell ≡ self.now }
         requires caller { HasCaller pass.old caller }
+        ensures same { pass.new ≡ at_front pass.old pass.new.front }
         ensures recorded { OnOk result (Called pass.old pass.new caller (DidOne pass.old.shape (call.map_sub page first count) caller (What.MapSub page first count))) }
         ensures failed { IfErr result (Failed pass.old pass.new (refusal pass.new.shape pass.new.front (call.map_sub page first count)) 1) }
+        ensures batches { BatchesStay pass.old pass.new }
     {
         let Some(mut node) = self.take_node(&mut pass.seat) else {
             return Err(CellFault::Busy);
@@ -87,8 +93,10 @@ impl NodeCell {
     ) -> Result<Done, CellFault>
         requires cell { pass.old.cell ≡ self.now }
         requires caller { HasCaller pass.old caller }
+        ensures same { pass.new ≡ at_front pass.old pass.new.front }
         ensures recorded { IfOk result (λ d. Called pass.old pass.new caller (DidLose pass.old.shape (call.unmap_sub page first count) caller page (What.UnmapSub page first count) d)) }
         ensures failed { IfErr result (Failed pass.old pass.new (refusal pass.new.shape pass.new.front (call.unmap_sub page first count)) 1) }
+        ensures batches { BatchesStay pass.old pass.new }
     {
         let Some(mut node) = self.take_node(&mut pass.seat) else {
             return Err(CellFault::Busy);
@@ -105,8 +113,10 @@ impl NodeCell {
     pub fn split_pmd(&self, pass: &mut Pass, caller: u32, page: PageId) -> Result<(), CellFault>
         requires cell { pass.old.cell ≡ self.now }
         requires caller { HasCaller pass.old caller }
+        ensures same { pass.new ≡ at_front pass.old pass.new.front }
         ensures recorded { OnOk result (Called pass.old pass.new caller (DidOne pass.old.shape (call.split_pmd page) caller (What.SplitPmd page))) }
         ensures failed { IfErr result (Failed pass.old pass.new (refusal pass.new.shape pass.new.front (call.split_pmd page)) 1) }
+        ensures batches { BatchesStay pass.old pass.new }
     {
         let Some(mut node) = self.take_node(&mut pass.seat) else {
             return Err(CellFault::Busy);
@@ -123,8 +133,10 @@ impl NodeCell {
     pub fn pin(&self, pass: &mut Pass, caller: u32, page: PageId) -> Result<(), CellFault>
         requires cell { pass.old.cell ≡ self.now }
         requires caller { HasCaller pass.old caller }
+        ensures same { pass.new ≡ at_front pass.old pass.new.front }
         ensures recorded { OnOk result (Called pass.old pass.new caller (DidOne pass.old.shape (call.pin page) caller (What.Pin page))) }
         ensures failed { IfErr result (Failed pass.old pass.new (refusal pass.new.shape pass.new.front (call.pin page)) 1) }
+        ensures batches { BatchesStay pass.old pass.new }
     {
         let Some(mut node) = self.take_node(&mut pass.seat) else {
             return Err(CellFault::Busy);
@@ -141,8 +153,10 @@ impl NodeCell {
     pub fn unpin(&self, pass: &mut Pass, caller: u32, page: PageId) -> Result<Done, CellFault>
         requires cell { pass.old.cell ≡ self.now }
         requires caller { HasCaller pass.old caller }
+        ensures same { pass.new ≡ at_front pass.old pass.new.front }
         ensures recorded { IfOk result (λ d. Called pass.old pass.new caller (DidLose pass.old.shape (call.unpin page) caller page (What.Unpin page) d)) }
         ensures failed { IfErr result (Failed pass.old pass.new (refusal pass.new.shape pass.new.front (call.unpin page)) 1) }
+        ensures batches { BatchesStay pass.old pass.new }
     {
         let Some(mut node) = self.take_node(&mut pass.seat) else {
             return Err(CellFault::Busy);

@@ -3,7 +3,6 @@ use Rattle.std.proofs.Common.{◌≡◌, ℕ, ◌+◌, ◌<◌, List, [], ◌∷
 use Rattle.std.proofs.lemmas.Bool.{cases_eq}
 use Rattle.std.proofs.lemmas.List.Elements.{Contains-append_left, Contains-push, Contains-push_cases}
 use Rattle.thp_links.specs.declared.link.Link.{Link}
-use Rattle.thp_links.specs.Standing.{Stands}
 use Rattle.thp_page.specs.declared.table_tests.CountingTable.{CountingTable}
 use Rattle.thp_page.proofs.table_tests.filled.Goals as goal
 

@@ -1,5 +1,5 @@
 -- The queue stands in the table, and holds the indices below `i`.
-use Rattle.std.proofs.Common.{◌≡◌, ℕ, ◌<◌, List, length, Contains}
+use Rattle.std.proofs.Common.{◌≡◌, ℕ, ◌<◌, length, Contains}
 use Rattle.thp_links.specs.Standing.{Stands}
 use Rattle.thp_page.proofs.table_tests.filled.Given as goal
 

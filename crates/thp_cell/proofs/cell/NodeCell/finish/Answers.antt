@@ -48,4 +48,9 @@ returns c =
       legal = t.legal;
       parts = λ k. ap (events_of k) e.journal;
       callers = e.callers;
+      oldest = c.journal-laws.ensures.oldest;
+      once = c.journal-laws.ensures.once;
+      freed = c.journal-laws.ensures.freed;
+      closed = c.journal-laws.ensures.closed;
+      frames = c.journal-laws.ensures.frames;
     }

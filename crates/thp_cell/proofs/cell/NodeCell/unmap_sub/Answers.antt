@@ -5,7 +5,7 @@ use Rattle.thp_model.specs.Refusals.{refusal}
 use Rattle.thp_model.specs.Refusals as call
 use Rattle.thp_model.specs.Frames.{outcome, released}
 use Rattle.thp_cell.specs.Says.{DidLose}
-use Rattle.thp_cell.proofs.Calling.{Holds, refused, called}
+use Rattle.thp_cell.proofs.Calling.{Holds, batches_stay, refused, called}
 use Rattle.thp_cell.proofs.cell.NodeCell.unmap_sub.Goals as goal
 use Rattle.thp_cell.proofs.cell.NodeCell.unmap_sub.Goals.{in-Ok, in-Err}
 
@@ -29,3 +29,9 @@ returns-clause-failed c =
       | in-Ok w ↦ rw w.result-is tt
       | in-Err w ↦ rw w.result-is (refused _ _ _ c.put_node.new.seat _ _ (λ s h. refusal s h (call.unmap_sub c.args.page c.args.first c.args.count)) (λ s h. 1) _ held c.put_node.ensures.same_cell c.put_node.ensures.now w.in-Err.ensures.refused)
     ]
+
+pub returns-clause-batches : goal.returns-clause-batches
+returns-clause-batches c =
+    let e = c.in-Some.ensures in
+    let held : Holds c.args.pass.now c.pass.inside.seat c.take_node.new.seat c.in-Some.node = record { pass = c.pass.view_is; cell = e.same_cell; now = e.now; shape = e.shape; since = e.since; legal = e.legal } in
+    λ b has front. batches_stay c.args.pass.now c.pass.inside.seat c.take_node.new.seat c.put_node.new.seat c.in-Some.node c.unmap_sub-answer.new.self b held c.put_node.ensures.same_cell c.put_node.ensures.now has front (c.unmap_sub-answer.ensures.fronts b)

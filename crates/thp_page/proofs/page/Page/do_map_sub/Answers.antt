@@ -1,7 +1,7 @@
-use Rattle.std.proofs.Common.{◌≡◌, ◌+◌, ◌<◌, ◌≤◌, ℕ, List, cond, get_or, refl, ap, sym, ◌∙◌, arith}
+use Rattle.std.proofs.Common.{◌≡◌, ◌+◌, ℕ, List, cond, get_or, refl, ap, sym, ◌∙◌, arith}
 use Rattle.thp_model.specs.Sets.{covers}
 use Rattle.thp_model.specs.Refusals as call
-use Rattle.thp_model.specs.Pages.{PageState, size, own_at, RangeMapped}
+use Rattle.thp_model.specs.Pages.{PageState, own_at, RangeMapped}
 use Rattle.thp_page.specs.PageView.{state_of, mapped_count}
 use Rattle.thp_page.proofs.PageSizes.{size_most}
 use Rattle.thp_page.proofs.PageRefusals.{allowed_as, map_sub_allowed}

@@ -1,4 +1,4 @@
-use Rattle.std.proofs.Common.{◌≡◌, ◌+◌, ◌-◌, ◌<◌, ◌≤◌, ◌&&◌, ℕ, List, cond, get_or, nat_eq, nat_lt, None, refl, ap, sym, ◌∙◌, arith, subst, ne_eqb}
+use Rattle.std.proofs.Common.{◌≡◌, ◌+◌, ◌≤◌, ℕ, List, cond, get_or, nat_eq, nat_lt, None, refl, ap, sym, ◌∙◌, arith, subst, ne_eqb}
 use Rattle.thp_model.specs.Sets.{covers}
 use Rattle.thp_model.specs.Refusals as call
 use Rattle.thp_model.specs.Pages.{PageState, size, own_at, page_refusal, RangeMapped, IsPage}

@@ -1,4 +1,4 @@
-use Rattle.std.proofs.Common.{◌≡◌, ◌≢◌, ◌-◌, ◌<◌, ◌≤◌, ℕ, nat_lt, refl, ap, ap₂, sym, ◌∙◌, arith, subst, ne_eqb}
+use Rattle.std.proofs.Common.{◌≢◌, ◌-◌, ◌<◌, ◌≤◌, ℕ, nat_lt, refl, ap, ap₂, sym, ◌∙◌, arith, subst, ne_eqb}
 use Rattle.thp_model.specs.Refusals as call
 use Rattle.thp_model.specs.Pages.{PageState, size, WholeMapped}
 use Rattle.thp_page.specs.PageView.{state_of}

@@ -1,6 +1,6 @@
 use Rattle.std.proofs.Common.{◌≡◌, ◌+◌, ◌<◌, ℕ, true, List, cond, get_or, refl, ap, sym, ◌∙◌, arith}
 use Rattle.thp_model.specs.Sets.{covers}
-use Rattle.thp_model.specs.Pages.{PageState, size, own_at, total_at, gives_frames, PageSplit}
+use Rattle.thp_model.specs.Pages.{PageState, size, own_at, gives_frames, PageSplit}
 use Rattle.thp_page.specs.PageView.{state_of, mapped_count}
 use Rattle.thp_page.proofs.RangeLemmas.{covers_inside}
 use Rattle.thp_page.proofs.PageSizes.{same_size}

@@ -1,6 +1,9 @@
-use Rattle.std.proofs.Common.{◌≡◌, ◌∙◌, ℕ, List, length, get_or, replicate, Option, None, ap, arith}
+use Rattle.std.proofs.Common.{◌≡◌, ◌∙◌, ℕ, List, length, get_or, replicate, Option, None, ap, sym, arith}
 use Rattle.std.proofs.lemmas.List.{length-replicate}
+use Rattle.std.specs.List.{count_by}
+use Rattle.thp_page.specs.Searching.{is_in_bucket}
 use Rattle.thp_page.proofs.Halves.{get_or-no_numbers}
+use Rattle.thp_page.proofs.Buckets.{get_or-zeros, count-no_numbers}
 use Rattle.thp_page.proofs.page_numbers.PageNumbers.new.Goals as goal
 
 pub invariant_of-result : goal.invariant_of-result
@@ -11,6 +14,10 @@ invariant_of-result c =
       small = omega (arith, size);
       each_half = omega (arith, size, end, c.in_ok-vec.ensures.len);
       hinted = omega (arith, c.in_ok-vec-2.ensures.len);
+      sized = omega (arith, c.in_ok-vec-3.ensures.len);
+      counted = λ k few.
+          ap (λ (ks : List ℕ). get_or ks k 0) (c.in_ok-vec-3.ensures.items_if_clones_equal (λ y h. h)) ∙ get_or-zeros 8192 k
+          ∙ sym (ap (λ (ns : List (Option ℕ)). count_by (is_in_bucket k) ns) c.loop-block.invariant ∙ count-no_numbers k c.loop-block._block);
       same = λ b n is. (let none : ◌≡◌ {A = Option ℕ} (get_or c.loop-block.numbers.items b None) None = ap (λ (ns : List (Option ℕ)). get_or ns b None) c.loop-block.invariant ∙ get_or-no_numbers c.loop-block._block b in absurd (cc (is, none)));
     }
 

@@ -9,7 +9,7 @@ loop-start-preserved c = λ b below found.
     elim (cases_lt b c.loop-start.start) [
       | inl before ↦ c.loop-start.invariant b before found
       | inr from ↦
-          no_half_no_number c.self.inside.numbers.items c.self.inside.halves.items c.self.inside.hints.items c.deref.result.now c.loop-start.start c.min.result c.half_of-half.result c.args.id
+          no_half_no_number c.self.inside.numbers.items c.self.inside.halves.items c.self.inside.hints.items c.self.inside.sizes.items c.deref.result.now c.loop-start.start c.min.result c.half_of-half.result c.args.id
           c.self.invariant c.deref.ensures.value c.half_of-half.ensures inside (sym c.has_half.ensures ∙ c.if-has_half.false) b from below
           (ap (λ (ns : List (Option ℕ)). get_or ns b None) c.self.view_is ∙ found)
     ]

@@ -4,8 +4,11 @@ use Rattle.thp_page.specs.declared.standing.Standing.TheVariants.{Nowhere}
 use Rattle.thp_page.specs.Fresh.{fresh_page}
 use Rattle.thp_page.specs.Table.{Table}
 use Rattle.thp_page.specs.Slots.{with_slot}
-use Rattle.thp_page.proofs.TableSteps.{both_written}
+use Rattle.thp_page.proofs.TableSteps.{both_written, no_number}
 use Rattle.thp_page.proofs.page_table.PageTable.place.Goals as goal
+
+pub place-requires-clause-empty : goal.place-requires-clause-empty
+place-requires-clause-empty c = no_number c.self.inside.order c.self.inside.numbers c.self.inside.descriptors.items c.self.inside.accesses c.args.block _ c.self.view_is c.self.invariant.numbered c.requires.inside c.requires.empty
 
 pub returns : goal.returns
 returns c =

@@ -1,0 +1,60 @@
+-- A replay with no event yet, and after each event.
+use Rattle.std.proofs.Common.{◌≡◌, ℕ, ◌≤◌, Bool, true, false, List, [], ◌∷◌, ◌++◌, Option, None, length, take, refl, sym, ◌∙◌, arith}
+use Rattle.std.proofs.lemmas.List.{length-take}
+use Rattle.thp_model.specs.declared.events.Event.{Event}
+use Rattle.thp_model.specs.declared.shape.Shape.{Shape}
+use Rattle.thp_model.specs.History.{History, count_of, some_event}
+use Rattle.thp_model.specs.Counts.{allocations, is_alloc, is_closed}
+use Rattle.thp_model.specs.Places.{flights, is_taking, takes_by}
+use Rattle.thp_model.proofs.Pushes.{is_taking_push}
+use Rattle.thp_page.specs.Slots.{slot_at}
+use Rattle.thp_node.proofs.JournalLemmas.{few_events}
+use Rattle.thp_node.proofs.Starting.{node_none}
+use Rattle.thp_check.specs.declared.replay.Replay.{Replay}
+use Rattle.thp_check.specs.Meanings.{Keeps, Means, is_taker}
+
+no_flights : flights [] ≡ []
+unfolding flights
+no_flights = refl
+
+no_allocations : allocations [] ≡ 0
+unfolding count_of
+no_allocations = refl
+
+not_closed : is_closed [] ≡ false
+unfolding some_event
+not_closed = refl
+
+not_taking : (c : ℕ) → is_taking [] c ≡ false
+unfolding is_taking
+not_taking c = refl
+
+-- an empty replay means the empty history
+pub means_none : (s : Shape) (r : Replay) → length r.pages.table.slots ≡ s.blocks → r.pages.table.order ≡ s.order → ((b : ℕ) → slot_at r.pages.table b ≡ None) → r.pages.queue ≡ [] →
+    r.flights ≡ [] → r.next ≡ 0 → r.closed ≡ false → r.taker ≡ None → Means s [] r
+means_none s r size order empty none fs next closed taker = record {
+  kept = record {
+    node = node_none s r.pages.table r.pages.queue size order empty none;
+    flying = fs ∙ sym no_flights;
+    next_is = next ∙ sym no_allocations;
+    closed_is = closed ∙ sym not_closed;
+  };
+  taking = λ c. rw taker (not_taking c);
+}
+
+-- a replay that notes whether the event was a take
+pub means_after : (s : Shape) (h : History) (e : Event) (r t : Replay) → Keeps s (h ++ e ∷ []) r → t.pages ≡ r.pages → t.flights ≡ r.flights → t.next ≡ r.next → t.closed ≡ r.closed →
+    ((c : ℕ) → takes_by c e.caller e.what ≡ is_taker t.taker c) → Means s (h ++ e ∷ []) t
+means_after s h e r t k pages fs next closed taker = record {
+  kept = record {
+    node = rw pages k.node;
+    flying = fs ∙ k.flying;
+    next_is = next ∙ k.next_is;
+    closed_is = closed ∙ k.closed_is;
+  };
+  taking = λ c. is_taking_push h c e ∙ taker c;
+}
+
+-- a replay of the first k events has allocated k pages at most
+pub few_pages : (s : Shape) (es : History) (k : ℕ) (r : Replay) → Means s (take k es) r → r.next ≤ k
+few_pages s es k r m = omega (arith, m.kept.next_is, few_events is_alloc (take k es), length-take k es)

@@ -1,0 +1,9 @@
+pub mod PageUses
+pub mod Relinking
+pub mod Moving
+pub mod Entries
+pub mod PageEvents
+pub mod Steps
+pub mod TakeSteps
+pub mod Beginning
+pub mod Deciding

@@ -1,0 +1,200 @@
+-- What a replay means after each step: that of the history with the event, where the event fits; and else that it doesn't.
+use Rattle.std.proofs.Common.{◌≡◌, ◌≢◌, ℕ, ◌+◌, ◌<◌, Bool, true, false, cond, not, ◌&&◌, ◌||◌, List, [], ◌∷◌, ◌++◌, Option, Some, None, length, map, refl, ap, ap₂, sym, ◌∙◌, subst, arith, inl, inr, ◌⊎◌}
+use Rattle.std.specs.Prelude.{slice_get, IsSome, Result, Ok, Err}
+use Rattle.thp_model.specs.declared.events.Event.{Event}
+use Rattle.thp_model.specs.declared.events.Outcome.{Outcome}
+use Rattle.thp_model.specs.declared.events.What.{What}
+use Rattle.thp_model.specs.declared.events.What.TheVariants as what
+use Rattle.thp_model.specs.declared.refusal.Refusal.{Refusal}
+use Rattle.thp_model.specs.declared.refusal.Refusal.TheVariants as reason
+use Rattle.thp_model.specs.declared.shape.Shape.{Shape}
+use Rattle.thp_model.specs.History.{History, by, some_event}
+use Rattle.thp_model.specs.Counts.{is_alloc, closes, is_closed, is_live, allocations, pins}
+use Rattle.thp_model.specs.Frames.{block_in_use}
+use Rattle.thp_model.specs.Legal.{Fits, FitsAlloc, FitsTaken, FitsSplit}
+use Rattle.thp_model.specs.Pages.{PageState, IsFresh, PageSplit, Tallies, gives_frames, page_refusal}
+use Rattle.thp_model.specs.Places.{queue, flights, flight, has_page, no_pages, is_taking}
+use Rattle.thp_model.specs.Refusals.{refusal}
+use Rattle.thp_model.specs.Refusals as call
+use Rattle.thp_model.proofs.Allowed.{allowed_alloc as closed_alloc, allowed_close as closed_close}
+use Rattle.thp_model.proofs.PageOutcomes.{released_alive}
+use Rattle.thp_model.proofs.Pushes.{count_same, count_more, some_same, some_event_push, flights_push, live_stays}
+use Rattle.thp_model.proofs.Tallying.{tallies_split, pins_is}
+use Rattle.thp_page.specs.declared.standing.Standing.TheVariants.{Nowhere, Queued, Batch}
+use Rattle.thp_page.specs.Slots.{slot_at, IsHeld}
+use Rattle.thp_page.specs.Table.{Slot, Table}
+use Rattle.thp_node.specs.declared.answers.Done.{Done}
+use Rattle.thp_node.specs.BlocksState.{BlocksState, AtSlot, Edits, HasFree, TakesFirst}
+use Rattle.thp_node.specs.Flying.{IsFlyingAt}
+use Rattle.thp_node.specs.Holding.{IsNode, IsSlot}
+use Rattle.thp_node.specs.Homes.{block_of}
+use Rattle.thp_node.proofs.Admitting.{Found, found, not_live}
+use Rattle.thp_node.proofs.BatchRuns.{flies_not_there, flies_nowhere}
+use Rattle.thp_node.proofs.Closing.{allowed_alloc, allowed_close, next_is_new}
+use Rattle.thp_node.proofs.Homing.{Homed, legal_homed, block_taken}
+use Rattle.thp_node.proofs.ListEvents.{placed_fits, placed_node, first_is, taken_fits, taken_node, in_flight, flying_live, flying_whole, split_fits, split_node, pinned_fits, pinned_node, back_node, dropped_node, closed_node}
+use Rattle.thp_node.proofs.PageEvents.{slot_is}
+use Rattle.thp_check.specs.declared.page_call.Gain.{Gain}
+use Rattle.thp_check.specs.declared.page_call.Gain.TheVariants as gain
+use Rattle.thp_check.specs.declared.page_call.Loss.{Loss}
+use Rattle.thp_check.specs.declared.page_call.Loss.TheVariants as loss
+use Rattle.thp_check.specs.declared.replay.Replay.{Replay}
+use Rattle.thp_check.specs.Blocks.{Gained, Lost}
+use Rattle.thp_check.specs.Flights.{pages_of, flights_left}
+use Rattle.thp_check.specs.Meanings.{Keeps, Means, is_taker}
+use Rattle.thp_check.specs.PageCalls.{gain_call, loss_call, gain_what, loss_what}
+use Rattle.thp_check.proofs.PageEvents.{gain_refusal, loss_refusal, gain_gone, loss_gone, gain_allowed, loss_allowed, gain_flights, gained, loss_fits, loss_told, loss_flights, lost_node}
+
+no_both : (z : Bool) → z ≡ false → z ≡ true → ⊥
+no_both z e f = cc
+
+some_none : (r : Refusal) (o : Option Refusal) → o ≡ Some r → o ≡ None → ⊥
+some_none r o e f = cc
+
+-- the numbers of a replay are the same after an event that neither allocates a page nor closes the node
+pub goes_on : (s : Shape) (h : History) (e : Event) (old new : Replay) → Means s h old → IsNode s (h ++ e ∷ []) new.pages.table new.pages.queue →
+    new.flights ≡ flights (h ++ e ∷ []) → is_alloc e.what ≡ false → closes e.what ≡ false → new.next ≡ old.next → new.closed ≡ old.closed → Keeps s (h ++ e ∷ []) new
+goes_on s h e old new m node fs a k next closed = record {
+  node = node;
+  flying = fs;
+  next_is = next ∙ m.kept.next_is ∙ sym (count_same is_alloc h e a);
+  closed_is = closed ∙ m.kept.closed_is ∙ sym (some_same closes h e k);
+}
+
+plain_gain : (g : Gain) (p : ℕ) → (is_alloc (gain_what g p) ≡ false) × (closes (gain_what g p) ≡ false)
+plain_gain gain.MapWhole p = (refl, refl)
+plain_gain (gain.MapSub f n) p = (refl, refl)
+plain_gain gain.SplitPmd p = (refl, refl)
+plain_gain gain.Pin p = (refl, refl)
+
+plain_loss : (l : Loss) (p : ℕ) (o : Outcome) (r : List Bool) → (is_alloc (loss_what l p o r) ≡ false) × (closes (loss_what l p o r) ≡ false)
+plain_loss loss.UnmapWhole p o r = (refl, refl)
+plain_loss (loss.UnmapSub f n) p o r = (refl, refl)
+plain_loss loss.Unpin p o r = (refl, refl)
+
+-- an event about a page that lies nowhere
+pub gain_absent : (s : Shape) (h : History) (c p : ℕ) (g : Gain) (old : Replay) → Means s h old → ((b : ℕ) → IsHeld (slot_at old.pages.table b) p → ⊥) →
+    Fits s h (by c (gain_what g p)) → ⊥
+gain_absent s h c p g old m none f =
+    some_none _ _ (gain_gone s h p g (not_live s h old.pages.table old.pages.queue p m.kept.node none)) (gain_allowed s h c p g f)
+
+pub loss_absent : (s : Shape) (h : History) (c p : ℕ) (l : Loss) (o : Outcome) (r : List Bool) (old : Replay) → Means s h old → ((b : ℕ) → IsHeld (slot_at old.pages.table b) p → ⊥) →
+    Fits s h (by c (loss_what l p o r)) → ⊥
+loss_absent s h c p l o r old m none f =
+    some_none _ _ (loss_gone s h p l (not_live s h old.pages.table old.pages.queue p m.kept.node none)) (loss_allowed s h c p l o r f)
+
+module _ (s : Shape) (h : History) (c p b : ℕ) (old : Replay) (m : Means s h old) (held : IsHeld (slot_at old.pages.table b) p) where
+  there : Found s h old.pages.table p b
+  there = found s h old.pages.table old.pages.queue p b m.kept.node held
+
+  homed : Homed s h
+  homed = legal_homed s h m.kept.node.legal
+
+  tallied : Tallies s h p there.slot.page
+  tallied = let P : ℕ → Type 0 = λ q. Tallies s h q there.slot.page in subst P there.id_is there.is.tallies
+
+  -- a page that refuses what the event says
+  pub gain_refused : (g : Gain) (new : BlocksState) (r : Refusal) → AtSlot old.pages.table b (λ x. Gained g x old.pages new b (Err r)) → Fits s h (by c (gain_what g p)) → ⊥
+  gain_refused g new r did f =
+      some_none r _ (gain_refusal s h p there.slot.page g tallied there.live ∙ sym ((did there.slot there.at).refusal p)) (gain_allowed s h c p g f)
+
+  pub loss_refused : (l : Loss) (o : Outcome) (set : List Bool) (r : Refusal) → ((x : Slot) → slot_at old.pages.table b ≡ Some x → (q : ℕ) → Some r ≡ page_refusal x.page (loss_call l q)) → Fits s h (by c (loss_what l p o set)) → ⊥
+  loss_refused l o set r did f =
+      some_none r _ (loss_refusal s h p there.slot.page l tallied there.live ∙ sym (did there.slot there.at p)) (loss_allowed s h c p l o set f)
+
+  -- a page that gained
+  pub gain_goes : (g : Gain) (new : Replay) (u : Unit {0}) → AtSlot old.pages.table b (λ x. Gained g x old.pages new.pages b (Ok u)) →
+      new.flights ≡ old.flights → new.next ≡ old.next → new.closed ≡ old.closed → Fits s h (by c (gain_what g p)) × Keeps s (h ++ by c (gain_what g p) ∷ []) new
+  gain_goes g new u did fs next closed =
+      let x : Slot = there.slot in
+      let gives : Gained g x old.pages new.pages b (Ok u) = did x there.at in
+      let allowed : refusal s h (gain_call g x.id) ≡ None = ap (λ q. refusal s h (gain_call g q)) there.id_is ∙ gain_refusal s h p x.page g tallied there.live ∙ sym (gives.refusal p) in
+      let w = gained s h c b x gives.page g old.pages new.pages m.kept.node there.at allowed gives.how gives.edits in
+      let P : ℕ → Type 0 = λ q. Fits s h (by c (gain_what g q)) × Keeps s (h ++ by c (gain_what g q) ∷ []) new in
+      subst P there.id_is
+      (w.0, goes_on s h (by c (gain_what g x.id)) old new m w.1 (fs ∙ m.kept.flying ∙ sym (gain_flights h c x.id g)) (plain_gain g x.id).0 (plain_gain g x.id).1 next closed)
+
+  -- a page that lost, where the event tells what came of it
+  pub loss_goes : (l : Loss) (o : Outcome) (set : List Bool) (new : Replay) (done : Done) (left : Option ℕ) → ((x : Slot) → slot_at old.pages.table b ≡ Some x → (q : ℕ) → None ≡ page_refusal x.page (loss_call l q)) →
+      AtSlot old.pages.table b (λ x. Lost l old.closed x old.pages new.pages b done left) → new.flights ≡ flights_left left p old.flights → new.next ≡ old.next → new.closed ≡ old.closed →
+      done.outcome ≡ o → done.released ≡ set → Fits s h (by c (loss_what l p o set)) × Keeps s (h ++ by c (loss_what l p o set) ∷ []) new
+  loss_goes l o set new done left refuses did fs next closed same given =
+      let x : Slot = there.slot in
+      let lost : Lost l old.closed x old.pages new.pages b done left = did x there.at in
+      let allowed : refusal s h (loss_call l x.id) ≡ None = ap (λ q. refusal s h (loss_call l q)) there.id_is ∙ loss_refusal s h p x.page l tallied there.live ∙ sym (refuses x there.at p) in
+      let fits : Fits s h (by c (loss_what l x.id done.outcome done.released)) = loss_fits s h c b x l old.closed old.pages new.pages done left homed there.is m.kept.closed_is allowed lost in
+      let node = lost_node s h c b x l old.closed old.pages new.pages done left homed m.kept.node there.at lost fits in
+      let flown : new.flights ≡ flights (h ++ by c (loss_what l x.id done.outcome done.released) ∷ []) =
+      fs ∙ ap (λ q. flights_left left q old.flights) (sym there.id_is) ∙ ap (flights_left left x.id) m.kept.flying ∙ sym (loss_flights s h c b x l old.closed old.pages new.pages done left done.released homed there.is lost) in
+      let P : ℕ → Outcome → List Bool → Type 0 = λ q u t. Fits s h (by c (loss_what l q u t)) × Keeps s (h ++ by c (loss_what l q u t) ∷ []) new in
+      let here : P x.id done.outcome done.released =
+      (fits, goes_on s h (by c (loss_what l x.id done.outcome done.released)) old new m node flown (plain_loss l x.id done.outcome done.released).0 (plain_loss l x.id done.outcome done.released).1 next closed) in
+      subst (λ t. P p o t) given (subst (λ u. P p u done.released) same (subst (λ q. P q done.outcome done.released) there.id_is here))
+
+  -- where the event fits, it tells what came of the page
+  pub loss_tells : (l : Loss) (o : Outcome) (set : List Bool) (new : BlocksState) (done : Done) (left : Option ℕ) →
+      AtSlot old.pages.table b (λ x. Lost l old.closed x old.pages new b done left) → Fits s h (by c (loss_what l p o set)) → (done.outcome ≡ o) × (done.released ≡ set)
+  loss_tells l o set new done left did f =
+      let x : Slot = there.slot in
+      let P : ℕ → Type 0 = λ q. Fits s h (by c (loss_what l q o set)) in
+      let w = loss_told s h c b x l old.closed old.pages new done left o set homed there.is m.kept.closed_is (did x there.at) (subst P (sym there.id_is) f) in
+      (sym w.0, sym w.1)
+
+-- a new page
+pub alloc_new : (s : Shape) (h : History) (p : ℕ) (old : Replay) → Means s h old → p ≡ old.next → (b : ℕ) → IsHeld (slot_at old.pages.table b) p → ⊥
+alloc_new s h p old m e = next_is_new s h old.pages.table old.pages.queue p m.kept.node (e ∙ m.kept.next_is)
+
+pub alloc_goes : (s : Shape) (h : History) (c p b : ℕ) (old new : Replay) → Means s h old → old.closed ≡ false → p ≡ old.next → b < length old.pages.table.slots →
+    slot_at old.pages.table b ≡ None → (page : PageState) → IsFresh old.pages.table.order page →
+    Edits old.pages new.pages b (Some (record { id = p; page = page; standing = Nowhere })) old.pages.queue 2 → new.flights ≡ old.flights → new.next ≡ old.next + 1 → new.closed ≡ old.closed →
+    Fits s h (by c (what.Alloc p b)) × Keeps s (h ++ by c (what.Alloc p b) ∷ []) new
+alloc_goes s h c p b old new m unclosed number inside empty page fresh did fs next closed =
+    let t = old.pages.table in
+    let q = old.pages.queue in
+    let e : Event = by c (what.Alloc p b) in
+    let homed : Homed s h = legal_homed s h m.kept.node.legal in
+    let allowed = allowed_alloc s h t q m.kept.node (sym m.kept.closed_is ∙ unclosed) (record { block = b; inside = inside; empty = empty }) in
+    let fits : Fits s h e = placed_fits s h c p b t q homed m.kept.node allowed (number ∙ m.kept.next_is) inside empty in (
+      fits,
+      record {
+        node = placed_node s h c p b page old.pages new.pages homed m.kept.node fits inside fresh did;
+        flying = fs ∙ m.kept.flying ∙ sym (flights_push h e);
+        next_is = next ∙ ap (λ n. n + 1) m.kept.next_is ∙ sym (count_more is_alloc h e refl);
+        closed_is = closed ∙ m.kept.closed_is ∙ sym (some_same closes h e refl);
+      },
+    )
+
+pub alloc_closed : (s : Shape) (h : History) (p b : ℕ) (old : Replay) → Means s h old → old.closed ≡ true → FitsAlloc s h p b → ⊥
+alloc_closed s h p b old m shut f = no_both (is_closed h) (closed_alloc s h f.allowed).0 (sym m.kept.closed_is ∙ shut)
+
+pub alloc_other : (s : Shape) (h : History) (p b : ℕ) (old : Replay) → Means s h old → p ≢ old.next → FitsAlloc s h p b → ⊥
+alloc_other s h p b old m other f = other (f.number ∙ sym m.kept.next_is)
+
+pub alloc_taken : (s : Shape) (h : History) (p b : ℕ) (old : Replay) → Means s h old → (b < length old.pages.table.slots → IsSome (slot_at old.pages.table b)) → FitsAlloc s h p b → ⊥
+alloc_taken s h p b old m taken f = go (slot_at old.pages.table b) refl (taken (omega (arith, f.inside, m.kept.node.size))) where
+  go : (o : Option Slot) → slot_at old.pages.table b ≡ o → IsSome o → ⊥
+  go None e y = absurd (cc)
+  go (Some x) e y =
+      no_both (block_in_use h b) f.free (block_taken s h x.id b (legal_homed s h m.kept.node.legal) (slot_is s h old.pages.table old.pages.queue b x m.kept.node e).home)
+
+-- a close
+pub close_goes : (s : Shape) (h : History) (c : ℕ) (old new : Replay) → Means s h old → old.closed ≡ false → new.pages ≡ old.pages → new.flights ≡ old.flights → new.next ≡ old.next →
+    new.closed ≡ true → Fits s h (by c what.Close) × Keeps s (h ++ by c what.Close ∷ []) new
+close_goes s h c old new m unclosed pages fs next closed =
+    let e : Event = by c what.Close in
+    let fits : Fits s h e = allowed_close s h (sym m.kept.closed_is ∙ unclosed) in
+    let P : BlocksState → Type 0 = λ k. IsNode s (h ++ e ∷ []) k.table k.queue in (
+      fits,
+      record {
+        node = subst P (sym pages) (closed_node s h c old.pages.table old.pages.queue m.kept.node fits);
+        flying = fs ∙ m.kept.flying ∙ sym (flights_push h e);
+        next_is = next ∙ m.kept.next_is ∙ sym (count_same is_alloc h e refl);
+        closed_is = closed ∙ sym (some_event_push closes h e ∙ last (some_event closes h));
+      },
+    ) where
+      last : (x : Bool) → (x || true) ≡ true
+      last true = refl
+      last false = refl
+
+pub close_closed : (s : Shape) (h : History) (old : Replay) → Means s h old → old.closed ≡ true → refusal s h call.close ≡ None → ⊥
+close_closed s h old m shut f = no_both (is_closed h) (closed_close s h f) (sym m.kept.closed_is ∙ shut)

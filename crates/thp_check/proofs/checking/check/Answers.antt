@@ -1,0 +1,24 @@
+use Rattle.std.proofs.Common.{◌≡◌, ◌≤◌, ◌+◌, List, [], ◌∷◌, ◌++◌, take, length, sym, subst, arith}
+use Rattle.thp_model.specs.declared.events.Event.{Event}
+use Rattle.thp_model.proofs.LegalSteps.{first_misfit}
+use Rattle.thp_model.proofs.ListPlaces.{step_of}
+use Rattle.thp_check.specs.Meanings.{Means}
+use Rattle.thp_check.proofs.Beginning.{few_pages}
+use Rattle.thp_check.proofs.Deciding.{passed, failed}
+use Rattle.thp_check.proofs.checking.check.Goals as goal
+
+pub admit-requires-clause-small : goal.admit-requires-clause-small
+admit-requires-clause-small c = omega (arith, few_pages c.args.shape c.args.events.now c.loop-place.place c.loop-place.replay c.loop-place.invariant)
+
+pub returns-in-Ok-false-clause-illegal : goal.returns-in-Ok-false-clause-illegal
+returns-in-Ok-false-clause-illegal c =
+    first_misfit c.args.shape c.args.events.now c.loop-place.place c.index-events-place.result c.loop-place-test.true c.index-events-place.is c.loop-place.invariant.kept.node.legal
+    (failed c.in-Ok-false.field-0 _ _ c.in-Ok-false.field-0-test (c.in-Ok-false.ensures c.args.shape (take c.loop-place.place c.args.events.now) c.loop-place.invariant))
+
+pub loop-place-preserved : goal.loop-place-preserved
+loop-place-preserved c =
+    let before : List Event = take c.loop-place.place c.args.events.now in
+    let e : Event = c.index-events-place.result in
+    let P : List Event → Type 0 = λ h. Means c.args.shape h c.admit.new.self in
+    subst P (sym (step_of c.args.events.now c.loop-place.place e c.loop-place-test.true c.index-events-place.is))
+    (passed c.in-Ok-true.field-0 _ _ c.in-Ok-true.field-0-test (c.in-Ok-true.ensures c.args.shape before c.loop-place.invariant)).1

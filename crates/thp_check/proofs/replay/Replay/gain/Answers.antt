@@ -1,0 +1,12 @@
+use Rattle.std.proofs.Common.{refl}
+use Rattle.thp_check.proofs.Steps.{gain_goes, gain_refused, gain_absent}
+use Rattle.thp_check.proofs.replay.Replay.gain.Goals as goal
+
+pub returns-in-Ok : goal.returns-in-Ok
+returns-in-Ok c = λ n s h m. gain_goes s h n c.args.page c.in-Some.block c.args.self.now m c.in-Some.ensures c.args.gain _ c.in-Ok.field-0 c.in-Ok.ensures refl refl refl
+
+pub returns-in-Err : goal.returns-in-Err
+returns-in-Err c = λ n s h m f. gain_refused s h n c.args.page c.in-Some.block c.args.self.now m c.in-Some.ensures c.args.gain c.gain.new.self c.in-Err.field-0 c.in-Err.ensures f
+
+pub returns-in-None : goal.returns-in-None
+returns-in-None c = λ n s h m f. gain_absent s h n c.args.page c.args.gain c.args.self.now m c.in-None.ensures f

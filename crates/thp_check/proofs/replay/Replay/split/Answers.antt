@@ -1,0 +1,27 @@
+use Rattle.std.proofs.Common.{◌≡◌, refl, sym, ◌∙◌}
+use Rattle.thp_model.proofs.WordLemmas.{same_set-Decides}
+use Rattle.thp_check.proofs.Deciding.{tested}
+use Rattle.thp_check.proofs.TakeSteps.{split_absent, split_goes, split_tells, flies_whole, same_slot}
+use Rattle.thp_check.proofs.replay.Replay.split.Goals as goal
+
+pub returns-in-None : goal.returns-in-None
+returns-in-None c = λ s h m f. split_absent s h _ c.args.caller c.args.page c.args.released c.args.self.now m c.in-None.ensures.none f
+
+pub split-given-requires-clause-allowed : goal.split-given-requires-clause-allowed
+split-given-requires-clause-allowed c = λ x e.
+    let k = c.requires in
+    let at = c.in-Some.ensures.there in (
+      flies_whole k.shape k.history c.args.caller c.args.page c.in-Some.block c.args.self.now k.means at x e,
+      sym (c.pins.ensures x e) ∙ c.if-pins-ne0.false,
+      λ q. let same : x ≡ at.slot = same_slot x at.slot (sym e ∙ at.at) in let stands = at.stands in cc,
+    )
+
+pub returns : goal.returns
+returns c = λ s h m.
+    let at = c.in-Some.ensures.there in
+    let did = c.split-given.ensures at.slot at.at in
+    tested c.eq.result (c.split-given.result ≡ c.args.released) _ _
+    (λ e. (same_set-Decides c.split-given.result c.args.released).0 (sym c.eq.ensures ∙ e))
+    (λ e. c.eq.ensures ∙ (same_set-Decides c.split-given.result c.args.released).1 e)
+    (λ e. split_goes s h c.args.caller c.args.page c.in-Some.block c.args.self.now m at c.args.released _ did.0 did.1 (sym (c.pins.ensures at.slot at.at) ∙ c.if-pins-ne0.false) (sym e ∙ did.2) did.3 c.leave.ensures refl refl)
+    (λ f. did.2 ∙ split_tells s h c.args.caller c.args.page c.in-Some.block c.args.self.now m at c.args.released did.0 did.1 f)

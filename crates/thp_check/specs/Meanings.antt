@@ -1,0 +1,43 @@
+-- What the state of a replay means: it is that of the history replayed so far. No public clause cites this module.
+use Rattle.std.specs.Prelude.{◌≡◌, ℕ, Bool, false, nat_eq, [], ◌∷◌, ◌++◌, Option, Some, None, MatchBool}
+use Rattle.thp_model.specs.declared.events.Event.{Event}
+use Rattle.thp_model.specs.declared.events.What.{What}
+use Rattle.thp_model.specs.declared.shape.Shape.{Shape}
+use Rattle.thp_model.specs.History.{History, by}
+use Rattle.thp_model.specs.Counts.{allocations, is_closed}
+use Rattle.thp_model.specs.Places.{flights, is_taking}
+use Rattle.thp_model.specs.Legal.{Fits}
+use Rattle.thp_node.specs.Holding.{IsNode}
+use Rattle.thp_check.specs.declared.replay.Replay.{Replay}
+
+-- the pages, the queue, the flights and the numbers of a replay are those of the history, which is legal
+pub record Keeps (s : Shape) (h : History) (r : Replay) : Type 0 where
+  pub node : IsNode s h r.pages.table r.pages.queue
+  pub flying : r.flights ≡ flights h
+  pub next_is : r.next ≡ allocations h
+  pub closed_is : r.closed ≡ is_closed h
+
+-- the last event was a take by caller c, if a take by this one
+abbrev pub is_taker : Option ℕ → ℕ → Bool
+is_taker None c = false
+is_taker (Some d) c = nat_eq d c
+
+-- and the replay knows whether the last event was a take, and by whom
+pub record Means (s : Shape) (h : History) (r : Replay) : Type 0 where
+  pub kept : Keeps s h r
+  pub taking : (c : ℕ) → is_taking h c ≡ is_taker r.taker c
+
+-- whether what c does fits each history that the replay may mean; where it does, the replay goes on with it
+abbrev pub Follows : Replay → Replay → ℕ → What → Bool → Type 0
+Follows old new c w fits =
+    (s : Shape) (h : History) → Means s h old → MatchBool fits (Fits s h (by c w) × Keeps s (h ++ by c w ∷ []) new) (Fits s h (by c w) → ⊥)
+
+-- the same of a whole event
+abbrev pub Admits : Replay → Replay → Event → Bool → Type 0
+Admits old new e fits = (s : Shape) (h : History) → Means s h old → MatchBool fits (Fits s h e × Means s (h ++ e ∷ []) new) (Fits s h e → ⊥)
+
+-- the replay means some history
+pub record IsKnown (r : Replay) : Type 0 where
+  pub shape : Shape
+  pub history : History
+  pub means : Means shape history r

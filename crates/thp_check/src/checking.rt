@@ -1,0 +1,41 @@
+//! The check of a whole history.
+ghost use Rattle.std.specs.Prelude.{OnOk, IfErr};
+ghost use Rattle.thp_model.specs.Legal.{IsLegal};
+ghost use Rattle.thp_model.specs.Shapes.{IsShape};
+ghost use Rattle.thp_check.specs.Answers.{Tells};
+
+use crate::replay::Replay;
+use std::alloc::Global;
+use thp_model::{Event, Shape};
+
+/// Why a history wasn't found legal.
+#[derive(Clone, Copy, PartialEq, Eq, Debug)]
+pub enum CheckFault {
+    /// The event at this place, counted from 0, is the first that doesn't fit the events before it.
+    Illegal { place: usize },
+    /// The memory for the replay wasn't there.
+    OutOfMemory,
+}
+
+/// Whether a history is legal on a node of this shape.
+///
+/// It takes one pass. What it does for an event is bounded by the node's size, however long the history is, and so is the
+/// memory that it takes.
+pub fn check(alloc: Global, shape: Shape, events: &[Event]) -> Result<(), CheckFault>
+    requires { IsShape shape }
+    ensures legal { OnOk result (IsLegal shape events.now) }
+    ensures illegal { IfErr result (Tells shape events.now) }
+{
+    let mut replay = match Replay::new(alloc, shape) {
+        Ok(replay) => replay,
+        Err(_) => return Err(CheckFault::OutOfMemory),
+    };
+    for (place, event) in events.iter().enumerate() {
+        match replay.admit(event) {
+            Ok(true) => {}
+            Ok(false) => return Err(CheckFault::Illegal { place }),
+            Err(_) => return Err(CheckFault::OutOfMemory),
+        }
+    }
+    Ok(())
+}

@@ -1,0 +1,15 @@
+//! Whether a history of a node's events is legal.
+//!
+//! [`check`] replays the events one after the other on what a node of that shape would hold, and stops at the first that
+//! doesn't fit those before it. What fits is said by the definitions of `thp_model` alone (`IsLegal`, `IsFirstMisfit`).
+#![tactic(auto)]
+
+mod checking;
+mod flights;
+mod page_call;
+mod pages;
+mod replay;
+#[cfg(test)]
+mod tests;
+
+pub use checking::{CheckFault, check};

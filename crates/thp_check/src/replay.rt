@@ -1,0 +1,272 @@
+//! A replay of a history: what a node would hold after the events so far.
+ghost use Rattle.std.specs.Prelude.{◌≡◌, ◌<◌, ◌+◌, ◌^◌, ℕ, [], ◌||◌, IfOk, IsTrue, ◌↔◌};
+ghost use Rattle.thp_model.specs.Shapes.{IsShape};
+ghost use Rattle.thp_model.specs.Places.{no_pages, takes_by};
+ghost use Rattle.thp_check.specs.Flights.{pages_of};
+ghost use Rattle.thp_check.specs.Meanings.{is_taker};
+ghost use Rattle.thp_check.specs.PageCalls.{gain_what, loss_what};
+
+use crate::flights::Flights;
+use crate::page_call::{Gain, Loss};
+use crate::pages::Pages;
+use std::alloc::{AllocError, Global};
+use thp_model::{Event, Outcome, PageId, Shape, SubSet, What};
+use thp_node::Done;
+
+// The state after the events so far. Once an event didn't fit it may be any.
+#[derive(Drop)]
+pub(crate) struct Replay {
+    pages: Pages,
+    flights: Flights,
+    // how many pages were allocated: the next page's number
+    next: u64,
+    closed: bool,
+    // the caller of the last event, if that was a take
+    taker: Option<u32>,
+}
+
+impl Replay {
+    ghost use Rattle.thp_check.specs.Meanings.{Means, IsKnown, Follows, Admits};
+
+    // The state before any event.
+    pub(crate) fn new(alloc: Global, shape: Shape) -> Result<Replay, AllocError>
+        requires { IsShape shape }
+        ensures { IfOk result (Means shape []) }
+    {
+        match Pages::new(alloc, shape) {
+            Ok(pages) => Ok(Replay {
+                pages,
+                flights: Flights::new(alloc),
+                next: 0,
+                closed: false,
+                taker: None,
+            }),
+            Err(fault) => Err(fault),
+        }
+    }
+
+    // Whether an event fits, and the state after it where it does.
+    pub(crate) fn admit(&mut self, event: &Event) -> Result<bool, AllocError>
+        requires known { IsKnown self.old }
+        requires small { self.old.next + 1 < 2 ^ 64 }
+        ensures { IfOk result (Admits self.old self.new event.now) }
+    {
+        match self.apply(event.caller, &event.what) {
+            Ok(fits) => {
+                self.taker = taker_of(event);
+                Ok(fits)
+            }
+            Err(fault) => Err(fault),
+        }
+    }
+
+    // `admit`, but for the note whether the event is a take.
+    fn apply(&mut self, caller: u32, what: &What) -> Result<bool, AllocError>
+        requires known { IsKnown self.old }
+        requires small { self.old.next + 1 < 2 ^ 64 }
+        ensures { IfOk result (Follows self.old self.new caller what.now) }
+    {
+        match *what {
+            What::Alloc { page, block } => Ok(self.alloc(page, block)),
+            What::MapWhole { page } => Ok(self.gain(page, Gain::MapWhole)),
+            What::UnmapWhole {
+                page,
+                outcome,
+                released,
+            } => Ok(self.lose(page, Loss::UnmapWhole, outcome, released)),
+            What::MapSub { page, first, count } => {
+                Ok(self.gain(page, Gain::MapSub { first, count }))
+            }
+            What::UnmapSub {
+                page,
+                first,
+                count,
+                outcome,
+                released,
+            } => Ok(self.lose(page, Loss::UnmapSub { first, count }, outcome, released)),
+            What::SplitPmd { page } => Ok(self.gain(page, Gain::SplitPmd)),
+            What::Pin { page } => Ok(self.gain(page, Gain::Pin)),
+            What::Unpin {
+                page,
+                outcome,
+                released,
+            } => Ok(self.lose(page, Loss::Unpin, outcome, released)),
+            What::Taken { page } => self.take(caller, page),
+            What::Split { page, released } => Ok(self.split(caller, page, released)),
+            What::Pinned { page } => Ok(self.is_pinned(caller, page)),
+            What::Back { page } => Ok(self.put_back(caller, page)),
+            What::Dropped { page } => Ok(self.drop_page(caller, page)),
+            What::Close => Ok(self.close()),
+        }
+    }
+
+    // A new page.
+    fn alloc(&mut self, page: PageId, block: u32) -> bool
+        requires known { IsKnown self.old }
+        requires small { self.old.next + 1 < 2 ^ 64 }
+        ensures { (c : ℕ) → Follows self.old self.new c (What.Alloc page block) result }
+    {
+        if self.closed || page.0 != self.next {
+            return false;
+        }
+        if !self.pages.is_free(block) {
+            return false;
+        }
+        self.pages.place(block, page);
+        self.next += 1;
+        true
+    }
+
+    // A page that gets mappings or a pin.
+    fn gain(&mut self, page: PageId, gain: Gain) -> bool
+        ensures { (c : ℕ) → Follows self.old self.new c (gain_what gain page) result }
+    {
+        match self.pages.find(page) {
+            Some(block) => match self.pages.gain(block, gain) {
+                Ok(()) => true,
+                Err(_) => false,
+            },
+            None => false,
+        }
+    }
+
+    // A page that loses mappings or a pin, with the outcome and the frames that the event tells.
+    fn lose(&mut self, page: PageId, loss: Loss, outcome: Outcome, released: SubSet) -> bool
+        ensures { (c : ℕ) → Follows self.old self.new c (loss_what loss page outcome released) result }
+    {
+        let block = match self.pages.find(page) {
+            Some(block) => block,
+            None => return false,
+        };
+        match self.pages.lose(block, loss, self.closed) {
+            Ok((done, left)) => {
+                self.flights.leave(left, page);
+                is_told(&done, outcome, released)
+            }
+            Err(_) => false,
+        }
+    }
+
+    // A take of the oldest page.
+    fn take(&mut self, caller: u32, page: PageId) -> Result<bool, AllocError>
+        ensures { IfOk result (Follows self.old self.new caller (What.Taken page)) }
+    {
+        if !self.may_take(caller) {
+            return Ok(false);
+        }
+        match self.pages.take_first(caller) {
+            Some(first) => {
+                if first != page {
+                    return Ok(false);
+                }
+                match self.flights.join(caller, page) {
+                    Ok(()) => Ok(true),
+                    Err(fault) => Err(fault),
+                }
+            }
+            None => Ok(false),
+        }
+    }
+
+    // Whether a caller has no page in flight, or goes on taking.
+    fn may_take(&self, caller: u32) -> bool
+        ensures { result ≡ (no_pages (pages_of self.now.flights caller) || is_taker self.now.taker caller) }
+    {
+        if let None = self.flights.first_of(caller) {
+            return true;
+        }
+        match self.taker {
+            Some(taker) => taker == caller,
+            None => false,
+        }
+    }
+
+    // A try that splits a page of the caller's flight, with the frames that the event tells.
+    fn split(&mut self, caller: u32, page: PageId, released: SubSet) -> bool
+        requires { IsKnown self.old }
+        ensures { Follows self.old self.new caller (What.Split page released) result }
+    {
+        let block = match self.pages.find_in_batch(page, caller) {
+            Some(block) => block,
+            None => return false,
+        };
+        if self.pages.pins(block) != 0 {
+            return false;
+        }
+        let given = self.pages.split(block);
+        self.flights.leave(Some(caller), page);
+        given == released
+    }
+
+    // A try that finds a page of the caller's flight pinned.
+    fn is_pinned(&self, caller: u32, page: PageId) -> bool
+        ensures { Follows self.now self.now caller (What.Pinned page) result }
+    {
+        match self.pages.find_in_batch(page, caller) {
+            Some(block) => self.pages.pins(block) != 0,
+            None => false,
+        }
+    }
+
+    // A put-back of the first page of the caller's flight.
+    fn put_back(&mut self, caller: u32, page: PageId) -> bool
+        ensures { Follows self.old self.new caller (What.Back page) result }
+    {
+        if self.closed || !self.flights.is_first(caller, page) {
+            return false;
+        }
+        match self.pages.find_in_batch(page, caller) {
+            Some(block) => {
+                self.pages.enqueue(block);
+                self.flights.leave(Some(caller), page);
+                true
+            }
+            None => false,
+        }
+    }
+
+    // The first page of the caller's flight, which goes nowhere.
+    fn drop_page(&mut self, caller: u32, page: PageId) -> bool
+        ensures { Follows self.old self.new caller (What.Dropped page) result }
+    {
+        if !self.closed || !self.flights.is_first(caller, page) {
+            return false;
+        }
+        match self.pages.find_in_batch(page, caller) {
+            Some(block) => {
+                self.pages.drop_out(block);
+                self.flights.leave(Some(caller), page);
+                true
+            }
+            None => false,
+        }
+    }
+
+    // The close of the node.
+    fn close(&mut self) -> bool
+        ensures { (c : ℕ) → Follows self.old self.new c What.Close result }
+    {
+        if self.closed {
+            return false;
+        }
+        self.closed = true;
+        true
+    }
+}
+
+// The caller of an event that is a take.
+fn taker_of(event: &Event) -> Option<u32>
+    ensures { (c : ℕ) → takes_by c event.now.caller event.now.what ≡ is_taker result c }
+{
+    match event.what {
+        What::Taken { .. } => Some(event.caller),
+        _ => None,
+    }
+}
+
+// Whether an event tells the outcome and the frames that there were.
+fn is_told(done: &Done, outcome: Outcome, released: SubSet) -> bool
+    ensures { IsTrue result ↔ ((done.now.outcome ≡ outcome) × (done.now.released ≡ released)) }
+{
+    done.outcome == outcome && done.released == released
+}
