@@ -5,7 +5,6 @@ ghost use Rattle.thp_model.specs.Legal.{IsLegal};
 ghost use Rattle.thp_model.specs.Places.{queue};
 ghost use Rattle.thp_node.specs.JournalLaws.{StandsOnce, TakesOldest, LeavesFreedAlone, NothingEnters, HasFramesOnce};
 ghost use Rattle.thp_cell.specs.Views.{HasCaller, HasAll, part};
-ghost use Rattle.thp_cell.specs.Rule.{OnlyOf};
 ghost use Rattle.thp_cell.specs.Calls.{Follows, PartsStay, IsBusy, IsJoined, below, from};
 
 mod batch_calls;
@@ -48,7 +47,7 @@ impl NodeCell {
     /// Makes a cell of a node, for a number of callers, and the pass that has them all. Their numbers are those below
     /// `callers`: 1 to 64 of them, which is looked at first. A refusal drops the node.
     pub fn new(alloc: Global, node: Node, callers: u32) -> Result<(NodeCell, Pass), NewFault>
-        requires { OnlyOf 0 callers node.journal }
+        requires { All (λ e. e.caller < callers) node.journal }
         ensures bad_size { (result ≡ Err NewFault.BadSize) ↔ ((callers ≡ 0) ⊎ (64 < callers)) }
         ensures cell { IfOk result (λ r. r.1.cell ≡ r.0) }
         ensures callers { IfOk result (λ r. r.1.callers ≡ callers) }

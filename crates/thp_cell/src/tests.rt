@@ -10,6 +10,7 @@ use std::thread;
 use thp_model::{Event, Outcome, PageId, Refusal, Shape, SubSet, What};
 use thp_node::{BackReply, Done, NewFault, Node, ScanReply, Tried};
 
+mod memory;
 mod stress;
 
 // A cell over a node of order 9 with these blocks, and the pass that has all its callers.

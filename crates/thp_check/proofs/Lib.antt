@@ -1,7 +1,7 @@
 pub mod PageUses
 pub mod Relinking
 pub mod Moving
-pub mod Entries
+pub mod PairLists
 pub mod PageEvents
 pub mod Steps
 pub mod TakeSteps

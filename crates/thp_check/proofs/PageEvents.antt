@@ -12,13 +12,17 @@ use Rattle.thp_model.specs.Counts.{is_live, is_closed, is_freed, frees, allocate
 use Rattle.thp_model.specs.Legal.{Fits, Gives}
 use Rattle.thp_model.specs.Pages.{PageState, Tallies, page_refusal}
 use Rattle.thp_model.specs.PageChanges.{page_outcome, page_released}
-use Rattle.thp_model.specs.Places.{queue, queue_after, queue_by, flights, flights_after, flights_by, has_page, stands, without}
+use Rattle.thp_model.specs.Places.{queue, queue_after, queue_by, flights, flight, flights_after, flights_by, has_page, stands, without}
 use Rattle.thp_model.specs.Refusals.{refusal}
 use Rattle.thp_model.proofs.Allowed.{allowed_map_whole, refused_gone}
 use Rattle.thp_model.proofs.Bools.{by_bool}
 use Rattle.thp_model.proofs.PageOutcomes.{gives_is, lives_by, outcome_is, released_is}
 use Rattle.thp_model.proofs.PageRefusals.{refusal_map_whole, refusal_unmap_whole, refusal_map_sub, refusal_unmap_sub, refusal_split_pmd, refusal_pin, refusal_unpin}
-use Rattle.thp_model.proofs.Pushes.{queue_push, flights_push}
+use Rattle.thp_model.proofs.Flights.{flight_push}
+use Rattle.thp_model.proofs.OnePlace.{without_none, times_hasnt}
+use Rattle.thp_model.proofs.Pushes.{queue_push}
+use Rattle.thp_model.proofs.Standing.{Sound}
+use Rattle.thp_model.specs.FlightSteps.{flight_by}
 use Rattle.thp_model.proofs.Tallying.{tallies_map_whole, tallies_unmap_whole, tallies_map_sub, tallies_unmap_sub, tallies_split_pmd, tallies_pin, tallies_unpin}
 use Rattle.thp_page.specs.declared.standing.Standing.TheVariants.{Queued}
 use Rattle.thp_page.specs.Table.{Slot}
@@ -28,19 +32,17 @@ use Rattle.thp_check.specs.declared.page_call.Gain.{Gain}
 use Rattle.thp_check.specs.declared.page_call.Gain.TheVariants as gain
 use Rattle.thp_check.specs.declared.page_call.Loss.{Loss}
 use Rattle.thp_check.specs.declared.page_call.Loss.TheVariants as loss
-use Rattle.thp_node.specs.BlocksState.{BlocksState, Edits, slot_after, left_by, is_nowhere}
+use Rattle.thp_node.specs.BlocksState.{BlocksState, Edits, slot_after, batch_of, left_by, is_nowhere}
 use Rattle.thp_node.specs.BlocksState as blocks
 use Rattle.thp_node.specs.Holding.{IsSlot, IsNode}
-use Rattle.thp_node.specs.Homes.{block_of, block_after, block_by, standing_of, flier}
+use Rattle.thp_node.specs.Homes.{block_of, block_after, block_by, standing_of}
 use Rattle.thp_check.specs.PageCalls.{gain_call, loss_call, gain_what, loss_what, Gains, Loses}
 use Rattle.thp_node.proofs.Homing.{Homed, block_push}
 use Rattle.thp_node.proofs.Keeping.{node_moved, blocks_same, blocks_pushed, blocks_without}
 use Rattle.thp_node.proofs.PageEvents.{slot_inside, slot_is, only_in}
-use Rattle.thp_node.proofs.Standings.{names, standing_same, standing_queued, has_pushed, has_not, batch_is, stands_is}
-use Rattle.std.specs.List.{filter}
+use Rattle.thp_node.proofs.Standings.{names, standing_same, standing_queued, standing_flying, has_pushed, has_not, stands_is}
 use Rattle.thp_check.specs.Blocks.{Lost}
-use Rattle.thp_check.specs.Flights.{flights_left}
-use Rattle.thp_check.proofs.Entries.{kept_flying, leaves_all}
+use Rattle.thp_check.specs.Flights.{flight_left}
 
 -- the refusal of a call about a live page, by the page's state
 pub gain_refusal : (s : Shape) (h : History) (p : ℕ) (t : PageState) (g : Gain) → Tallies s h p t → is_live h p ≡ true → refusal s h (gain_call g p) ≡ page_refusal t (gain_call g p)
@@ -92,9 +94,12 @@ gain_allowed s h c p (gain.MapSub first n) f = f
 gain_allowed s h c p gain.SplitPmd f = f
 gain_allowed s h c p gain.Pin f = f
 
--- a gain leaves the flights
-pub gain_flights : (h : History) (c p : ℕ) (g : Gain) → flights (h ++ by c (gain_what g p) ∷ []) ≡ flights h
-gain_flights h c p g = flights_push h (by c (gain_what g p)) ∙ (plain_gain g p).in_flights (flights h) c
+-- a gain leaves each flight
+pub gain_flight : (h : History) (c p : ℕ) (g : Gain) (d : ℕ) → flight (h ++ by c (gain_what g p) ∷ []) d ≡ flight h d
+gain_flight h c p gain.MapWhole d = flight_push h d c (gain_what gain.MapWhole p)
+gain_flight h c p (gain.MapSub f n) d = flight_push h d c (gain_what (gain.MapSub f n) p)
+gain_flight h c p gain.SplitPmd d = flight_push h d c (gain_what gain.SplitPmd p)
+gain_flight h c p gain.Pin d = flight_push h d c (gain_what gain.Pin p)
 
 tallies_gain : (s : Shape) (h : History) (c p : ℕ) (g : Gain) (old new : PageState) → refusal s h (gain_call g p) ≡ None → Tallies s h p old → Gains g old new →
     Tallies s (h ++ by c (gain_what g p) ∷ []) p new
@@ -201,18 +206,31 @@ loss_told s h c b x l closed old new done left o set homed was shut lost f =
           ∙ ap (page_released x.page lost.page) same ∙ sym lost.released_is,
     )
 
--- the flights after a loss
-pub loss_flights : (s : Shape) (h : History) (c b : ℕ) (x : Slot) (l : Loss) (closed : Bool) (old new : BlocksState) (done : Done) (left : Option ℕ) (r : List Bool) → Homed s h → IsSlot s h b x →
-    Lost l closed x old new b done left → flights (h ++ by c (loss_what l x.id done.outcome r) ∷ []) ≡ flights_left left x.id (flights h)
-loss_flights s h c b x l closed old new done left r homed was lost =
-    flights_push h (by c (loss_what l x.id done.outcome r)) ∙ (by_outcome l x.id done.outcome r).in_flights (flights h) c
-    ∙ go done.outcome ∙ ap (λ o. flights_left o x.id (flights h)) (sym (lost.left_is ∙ ap (left_by done.outcome) was.stands)) where
-      freed : (o : Option ℕ) → flier x.id (flights h) ≡ o → filter (λ (f : ℕ × ℕ). not (nat_eq f.1 x.id)) (flights h) ≡ flights_left o x.id (flights h)
-      freed None e = kept_flying x.id (flights h) e
-      freed (Some d) e = leaves_all d x.id (flights h) (omega (arith, homed.grown.sound.once x.id)) e
+loss_flight_by : (h : History) (c p : ℕ) (l : Loss) (o : Outcome) (r : List Bool) (d : ℕ) → flight (h ++ by c (loss_what l p o r) ∷ []) d ≡ flight_by (flight h d) p o
+loss_flight_by h c p loss.UnmapWhole o r d = flight_push h d c (loss_what loss.UnmapWhole p o r)
+loss_flight_by h c p (loss.UnmapSub f n) o r d = flight_push h d c (loss_what (loss.UnmapSub f n) p o r)
+loss_flight_by h c p loss.Unpin o r d = flight_push h d c (loss_what loss.Unpin p o r)
 
-      go : (o : Outcome) → flights_by (flights h) x.id o ≡ flights_left (left_by o (standing_of h x.id)) x.id (flights h)
-      go outcome.Freed = freed (flier x.id (flights h)) refl ∙ ap (λ d. flights_left d x.id (flights h)) (sym (batch_is h x.id homed.grown.sound))
+-- a freed page leaves the flight in which it stands, and no other
+freed_leaves : (h : History) (p d : ℕ) → Sound h → without p (flight h d) ≡ flight_left (batch_of (standing_of h p)) p d (flight h d)
+freed_leaves h p d sound =
+    by_bool (has_page p (flight h d)) _
+    (λ y. sym (ap (λ w. flight_left (batch_of w) p d (flight h d)) (standing_flying h p d sound y) ∙ ap (λ b. cond b (without p (flight h d)) (flight h d)) (eq-eqb d d refl)))
+    (λ y. let same : without p (flight h d) ≡ flight h d = without_none p (flight h d) (times_hasnt p (flight h d) y) in go (batch_of (standing_of h p)) same) where
+      go : (o : Option ℕ) → without p (flight h d) ≡ flight h d → without p (flight h d) ≡ flight_left o p d (flight h d)
+      go None e = e
+      go (Some c) e = both (nat_eq c d) where
+        both : (b : Bool) → without p (flight h d) ≡ cond b (without p (flight h d)) (flight h d)
+        both true = refl
+        both false = e
+
+-- the flights after a loss
+pub loss_flight : (s : Shape) (h : History) (c b : ℕ) (x : Slot) (l : Loss) (closed : Bool) (old new : BlocksState) (done : Done) (left : Option ℕ) (r : List Bool) (d : ℕ) → Homed s h → IsSlot s h b x →
+    Lost l closed x old new b done left → flight (h ++ by c (loss_what l x.id done.outcome r) ∷ []) d ≡ flight_left left x.id d (flight h d)
+loss_flight s h c b x l closed old new done left r d homed was lost =
+    loss_flight_by h c x.id l done.outcome r d ∙ go done.outcome ∙ ap (λ o. flight_left o x.id d (flight h d)) (sym (lost.left_is ∙ ap (left_by done.outcome) was.stands)) where
+      go : (o : Outcome) → flight_by (flight h d) x.id o ≡ flight_left (left_by o (standing_of h x.id)) x.id d (flight h d)
+      go outcome.Freed = freed_leaves h x.id d homed.grown.sound
       go outcome.Queued = refl
       go outcome.Stays = refl
 

@@ -1,38 +1,32 @@
 -- What a replay means after each step: that of the history with the event, where the event fits; and else that it doesn't.
-use Rattle.std.proofs.Common.{◌≡◌, ◌≢◌, ℕ, ◌+◌, ◌<◌, Bool, true, false, cond, not, ◌&&◌, ◌||◌, List, [], ◌∷◌, ◌++◌, Option, Some, None, length, map, refl, ap, ap₂, sym, ◌∙◌, subst, arith, inl, inr, ◌⊎◌}
-use Rattle.std.specs.Prelude.{slice_get, IsSome, Result, Ok, Err}
+use Rattle.std.proofs.Common.{◌≡◌, ◌≢◌, ℕ, ◌+◌, ◌<◌, Bool, true, false, ◌||◌, List, [], ◌∷◌, ◌++◌, Option, Some, None, length, refl, ap, sym, ◌∙◌, subst, arith}
+use Rattle.std.specs.Prelude.{IsSome, Ok, Err}
 use Rattle.thp_model.specs.declared.events.Event.{Event}
 use Rattle.thp_model.specs.declared.events.Outcome.{Outcome}
-use Rattle.thp_model.specs.declared.events.What.{What}
 use Rattle.thp_model.specs.declared.events.What.TheVariants as what
 use Rattle.thp_model.specs.declared.refusal.Refusal.{Refusal}
-use Rattle.thp_model.specs.declared.refusal.Refusal.TheVariants as reason
 use Rattle.thp_model.specs.declared.shape.Shape.{Shape}
 use Rattle.thp_model.specs.History.{History, by, some_event}
-use Rattle.thp_model.specs.Counts.{is_alloc, closes, is_closed, is_live, allocations, pins}
+use Rattle.thp_model.specs.Counts.{is_alloc, closes, is_closed}
 use Rattle.thp_model.specs.Frames.{block_in_use}
-use Rattle.thp_model.specs.Legal.{Fits, FitsAlloc, FitsTaken, FitsSplit}
-use Rattle.thp_model.specs.Pages.{PageState, IsFresh, PageSplit, Tallies, gives_frames, page_refusal}
-use Rattle.thp_model.specs.Places.{queue, flights, flight, has_page, no_pages, is_taking}
+use Rattle.thp_model.specs.Legal.{Fits, FitsAlloc}
+use Rattle.thp_model.specs.Pages.{PageState, IsFresh, Tallies, page_refusal}
+use Rattle.thp_model.specs.Places.{flight}
 use Rattle.thp_model.specs.Refusals.{refusal}
 use Rattle.thp_model.specs.Refusals as call
 use Rattle.thp_model.proofs.Allowed.{allowed_alloc as closed_alloc, allowed_close as closed_close}
-use Rattle.thp_model.proofs.PageOutcomes.{released_alive}
-use Rattle.thp_model.proofs.Pushes.{count_same, count_more, some_same, some_event_push, flights_push, live_stays}
-use Rattle.thp_model.proofs.Tallying.{tallies_split, pins_is}
-use Rattle.thp_page.specs.declared.standing.Standing.TheVariants.{Nowhere, Queued, Batch}
+use Rattle.thp_model.proofs.Flights.{flight_push}
+use Rattle.thp_model.proofs.Pushes.{count_same, count_more, some_same, some_event_push}
+use Rattle.thp_page.specs.declared.standing.Standing.TheVariants.{Nowhere}
 use Rattle.thp_page.specs.Slots.{slot_at, IsHeld}
-use Rattle.thp_page.specs.Table.{Slot, Table}
+use Rattle.thp_page.specs.Table.{Slot}
 use Rattle.thp_node.specs.declared.answers.Done.{Done}
-use Rattle.thp_node.specs.BlocksState.{BlocksState, AtSlot, Edits, HasFree, TakesFirst}
-use Rattle.thp_node.specs.Flying.{IsFlyingAt}
-use Rattle.thp_node.specs.Holding.{IsNode, IsSlot}
-use Rattle.thp_node.specs.Homes.{block_of}
+use Rattle.thp_node.specs.BlocksState.{BlocksState, AtSlot, Edits}
+use Rattle.thp_node.specs.Holding.{IsNode}
 use Rattle.thp_node.proofs.Admitting.{Found, found, not_live}
-use Rattle.thp_node.proofs.BatchRuns.{flies_not_there, flies_nowhere}
 use Rattle.thp_node.proofs.Closing.{allowed_alloc, allowed_close, next_is_new}
 use Rattle.thp_node.proofs.Homing.{Homed, legal_homed, block_taken}
-use Rattle.thp_node.proofs.ListEvents.{placed_fits, placed_node, first_is, taken_fits, taken_node, in_flight, flying_live, flying_whole, split_fits, split_node, pinned_fits, pinned_node, back_node, dropped_node, closed_node}
+use Rattle.thp_node.proofs.ListEvents.{placed_fits, placed_node, closed_node}
 use Rattle.thp_node.proofs.PageEvents.{slot_is}
 use Rattle.thp_check.specs.declared.page_call.Gain.{Gain}
 use Rattle.thp_check.specs.declared.page_call.Gain.TheVariants as gain
@@ -40,10 +34,10 @@ use Rattle.thp_check.specs.declared.page_call.Loss.{Loss}
 use Rattle.thp_check.specs.declared.page_call.Loss.TheVariants as loss
 use Rattle.thp_check.specs.declared.replay.Replay.{Replay}
 use Rattle.thp_check.specs.Blocks.{Gained, Lost}
-use Rattle.thp_check.specs.Flights.{pages_of, flights_left}
-use Rattle.thp_check.specs.Meanings.{Keeps, Means, is_taker}
+use Rattle.thp_check.specs.Flights.{pages_in, flight_left}
+use Rattle.thp_check.specs.Meanings.{Keeps, Means}
 use Rattle.thp_check.specs.PageCalls.{gain_call, loss_call, gain_what, loss_what}
-use Rattle.thp_check.proofs.PageEvents.{gain_refusal, loss_refusal, gain_gone, loss_gone, gain_allowed, loss_allowed, gain_flights, gained, loss_fits, loss_told, loss_flights, lost_node}
+use Rattle.thp_check.proofs.PageEvents.{gain_refusal, loss_refusal, gain_gone, loss_gone, gain_allowed, loss_allowed, gain_flight, gained, loss_fits, loss_told, loss_flight, lost_node}
 
 no_both : (z : Bool) → z ≡ false → z ≡ true → ⊥
 no_both z e f = cc
@@ -53,7 +47,7 @@ some_none r o e f = cc
 
 -- the numbers of a replay are the same after an event that neither allocates a page nor closes the node
 pub goes_on : (s : Shape) (h : History) (e : Event) (old new : Replay) → Means s h old → IsNode s (h ++ e ∷ []) new.pages.table new.pages.queue →
-    new.flights ≡ flights (h ++ e ∷ []) → is_alloc e.what ≡ false → closes e.what ≡ false → new.next ≡ old.next → new.closed ≡ old.closed → Keeps s (h ++ e ∷ []) new
+    ((d : ℕ) → pages_in new.flights d ≡ flight (h ++ e ∷ []) d) → is_alloc e.what ≡ false → closes e.what ≡ false → new.next ≡ old.next → new.closed ≡ old.closed → Keeps s (h ++ e ∷ []) new
 goes_on s h e old new m node fs a k next closed = record {
   node = node;
   flying = fs;
@@ -112,11 +106,11 @@ module _ (s : Shape) (h : History) (c p b : ℕ) (old : Replay) (m : Means s h o
       let w = gained s h c b x gives.page g old.pages new.pages m.kept.node there.at allowed gives.how gives.edits in
       let P : ℕ → Type 0 = λ q. Fits s h (by c (gain_what g q)) × Keeps s (h ++ by c (gain_what g q) ∷ []) new in
       subst P there.id_is
-      (w.0, goes_on s h (by c (gain_what g x.id)) old new m w.1 (fs ∙ m.kept.flying ∙ sym (gain_flights h c x.id g)) (plain_gain g x.id).0 (plain_gain g x.id).1 next closed)
+      (w.0, goes_on s h (by c (gain_what g x.id)) old new m w.1 (λ d. ap (λ ls. pages_in ls d) fs ∙ m.kept.flying d ∙ sym (gain_flight h c x.id g d)) (plain_gain g x.id).0 (plain_gain g x.id).1 next closed)
 
   -- a page that lost, where the event tells what came of it
   pub loss_goes : (l : Loss) (o : Outcome) (set : List Bool) (new : Replay) (done : Done) (left : Option ℕ) → ((x : Slot) → slot_at old.pages.table b ≡ Some x → (q : ℕ) → None ≡ page_refusal x.page (loss_call l q)) →
-      AtSlot old.pages.table b (λ x. Lost l old.closed x old.pages new.pages b done left) → new.flights ≡ flights_left left p old.flights → new.next ≡ old.next → new.closed ≡ old.closed →
+      AtSlot old.pages.table b (λ x. Lost l old.closed x old.pages new.pages b done left) → ((d : ℕ) → pages_in new.flights d ≡ flight_left left p d (pages_in old.flights d)) → new.next ≡ old.next → new.closed ≡ old.closed →
       done.outcome ≡ o → done.released ≡ set → Fits s h (by c (loss_what l p o set)) × Keeps s (h ++ by c (loss_what l p o set) ∷ []) new
   loss_goes l o set new done left refuses did fs next closed same given =
       let x : Slot = there.slot in
@@ -124,8 +118,9 @@ module _ (s : Shape) (h : History) (c p b : ℕ) (old : Replay) (m : Means s h o
       let allowed : refusal s h (loss_call l x.id) ≡ None = ap (λ q. refusal s h (loss_call l q)) there.id_is ∙ loss_refusal s h p x.page l tallied there.live ∙ sym (refuses x there.at p) in
       let fits : Fits s h (by c (loss_what l x.id done.outcome done.released)) = loss_fits s h c b x l old.closed old.pages new.pages done left homed there.is m.kept.closed_is allowed lost in
       let node = lost_node s h c b x l old.closed old.pages new.pages done left homed m.kept.node there.at lost fits in
-      let flown : new.flights ≡ flights (h ++ by c (loss_what l x.id done.outcome done.released) ∷ []) =
-      fs ∙ ap (λ q. flights_left left q old.flights) (sym there.id_is) ∙ ap (flights_left left x.id) m.kept.flying ∙ sym (loss_flights s h c b x l old.closed old.pages new.pages done left done.released homed there.is lost) in
+      let flown : (d : ℕ) → pages_in new.flights d ≡ flight (h ++ by c (loss_what l x.id done.outcome done.released) ∷ []) d =
+      λ d. fs d ∙ ap (λ q. flight_left left q d (pages_in old.flights d)) (sym there.id_is) ∙ ap (flight_left left x.id d) (m.kept.flying d)
+      ∙ sym (loss_flight s h c b x l old.closed old.pages new.pages done left done.released d homed there.is lost) in
       let P : ℕ → Outcome → List Bool → Type 0 = λ q u t. Fits s h (by c (loss_what l q u t)) × Keeps s (h ++ by c (loss_what l q u t) ∷ []) new in
       let here : P x.id done.outcome done.released =
       (fits, goes_on s h (by c (loss_what l x.id done.outcome done.released)) old new m node flown (plain_loss l x.id done.outcome done.released).0 (plain_loss l x.id done.outcome done.released).1 next closed) in
@@ -158,7 +153,7 @@ alloc_goes s h c p b old new m unclosed number inside empty page fresh did fs ne
       fits,
       record {
         node = placed_node s h c p b page old.pages new.pages homed m.kept.node fits inside fresh did;
-        flying = fs ∙ m.kept.flying ∙ sym (flights_push h e);
+        flying = λ d. ap (λ ls. pages_in ls d) fs ∙ m.kept.flying d ∙ sym (flight_push h d c e.what);
         next_is = next ∙ ap (λ n. n + 1) m.kept.next_is ∙ sym (count_more is_alloc h e refl);
         closed_is = closed ∙ m.kept.closed_is ∙ sym (some_same closes h e refl);
       },
@@ -187,7 +182,7 @@ close_goes s h c old new m unclosed pages fs next closed =
       fits,
       record {
         node = subst P (sym pages) (closed_node s h c old.pages.table old.pages.queue m.kept.node fits);
-        flying = fs ∙ m.kept.flying ∙ sym (flights_push h e);
+        flying = λ d. ap (λ ls. pages_in ls d) fs ∙ m.kept.flying d ∙ sym (flight_push h d c e.what);
         next_is = next ∙ m.kept.next_is ∙ sym (count_same is_alloc h e refl);
         closed_is = closed ∙ sym (some_event_push closes h e ∙ last (some_event closes h));
       },

@@ -1,34 +1,35 @@
 -- What a replay means after a take, a try, a put-back and a drop.
-use Rattle.std.proofs.Common.{◌≡◌, ◌≢◌, ℕ, ◌<◌, Bool, true, false, ◌||◌, List, [], ◌∷◌, ◌++◌, Option, Some, None, map, refl, ap, ap₂, sym, ◌∙◌, subst, arith, inl, inr, ◌⊎◌}
+use Rattle.std.proofs.Common.{◌≡◌, ◌≢◌, ℕ, ◌<◌, Bool, true, false, cond, nat_eq, ◌||◌, List, [], ◌∷◌, ◌++◌, Option, Some, map, refl, ap, ap₂, sym, ◌∙◌, subst, arith, inl, inr}
 use Rattle.std.specs.Prelude.{slice_get}
 use Rattle.thp_model.specs.declared.events.Event.{Event}
 use Rattle.thp_model.specs.declared.events.What.{What}
 use Rattle.thp_model.specs.declared.events.What.TheVariants as what
 use Rattle.thp_model.specs.declared.shape.Shape.{Shape}
 use Rattle.thp_model.specs.History.{History, by}
-use Rattle.thp_model.specs.Counts.{is_alloc, closes, is_closed, is_live, pins}
+use Rattle.thp_model.specs.Counts.{is_live, pins}
 use Rattle.thp_model.specs.Legal.{Fits, FitsTaken, FitsSplit}
-use Rattle.thp_model.specs.Pages.{PageState, PageSplit, Tallies, gives_frames}
-use Rattle.thp_model.specs.Places.{queue, flights, flight, has_page, no_pages, is_taking}
+use Rattle.thp_model.specs.Pages.{PageState, PageSplit, gives_frames}
+use Rattle.thp_model.specs.Places.{queue, flight, has_page, no_pages, is_taking}
+use Rattle.thp_model.proofs.Flights.{flight_push}
 use Rattle.thp_model.proofs.PageOutcomes.{released_alive}
-use Rattle.thp_model.proofs.Pushes.{flights_push, live_stays}
+use Rattle.thp_model.proofs.Pushes.{live_stays}
 use Rattle.thp_model.proofs.Standing.{first_has}
 use Rattle.thp_model.proofs.Tallying.{tallies_split, pins_is}
-use Rattle.thp_page.specs.declared.standing.Standing.TheVariants.{Nowhere, Queued, Batch}
+use Rattle.thp_page.specs.declared.standing.Standing.TheVariants.{Nowhere, Queued}
 use Rattle.thp_page.specs.Slots.{slot_at, IsHeld}
-use Rattle.thp_page.specs.Table.{Slot, Table}
-use Rattle.thp_node.specs.BlocksState.{BlocksState, AtSlot, Edits, TakesFirst}
+use Rattle.thp_page.specs.Table.{Slot}
+use Rattle.thp_node.specs.BlocksState.{BlocksState, Edits, TakesFirst}
 use Rattle.thp_node.specs.Flying.{IsFlyingAt}
-use Rattle.thp_node.specs.Holding.{IsNode, IsSlot}
+use Rattle.thp_node.specs.Holding.{IsSlot}
 use Rattle.thp_node.specs.Homes.{block_of}
 use Rattle.thp_node.proofs.Admitting.{Found, found}
 use Rattle.thp_node.proofs.BatchRuns.{flies_not_there, flies_nowhere}
 use Rattle.thp_node.proofs.Homing.{Homed, legal_homed}
-use Rattle.thp_node.proofs.ListEvents.{first_is, taken_fits, taken_node, in_flight, flying_live, flying_whole, split_fits, split_node, pinned_fits, pinned_node, back_node, dropped_node}
+use Rattle.thp_node.proofs.ListEvents.{first_is, taken_fits, taken_node, flying_live, flying_whole, split_fits, split_node, pinned_fits, pinned_node, back_node, dropped_node}
 use Rattle.thp_node.proofs.PageEvents.{slot_is}
 use Rattle.thp_check.specs.declared.replay.Replay.{Replay}
 use Rattle.thp_check.specs.Blocks.{IsElsewhere}
-use Rattle.thp_check.specs.Flights.{pages_of, flights_left}
+use Rattle.thp_check.specs.Flights.{pages_in, flight_left}
 use Rattle.thp_check.specs.Meanings.{Keeps, Means, is_taker}
 use Rattle.thp_check.proofs.Steps.{goes_on}
 
@@ -36,21 +37,21 @@ no_both : (z : Bool) → z ≡ false → z ≡ true → ⊥
 no_both z e f = cc
 
 -- whether a caller may take
-may_is : (s : Shape) (h : History) (c : ℕ) (old : Replay) → Means s h old → (no_pages (pages_of old.flights c) || is_taker old.taker c) ≡ (no_pages (flight h c) || is_taking h c)
-may_is s h c old m = ap₂ (λ fs t. no_pages (pages_of fs c) || t) m.kept.flying (sym (m.taking c))
+may_is : (s : Shape) (h : History) (c : ℕ) (old : Replay) → Means s h old → (no_pages (pages_in old.flights c) || is_taker old.taker c) ≡ (no_pages (flight h c) || is_taking h c)
+may_is s h c old m = ap₂ (λ ps t. no_pages ps || t) (m.kept.flying c) (sym (m.taking c))
 
-pub take_goes : (s : Shape) (h : History) (c p : ℕ) (old new : Replay) → Means s h old → (no_pages (pages_of old.flights c) || is_taker old.taker c) ≡ true →
-    TakesFirst old.pages new.pages c p → new.flights ≡ old.flights ++ (c, p) ∷ [] → new.next ≡ old.next → new.closed ≡ old.closed →
+pub take_goes : (s : Shape) (h : History) (c p : ℕ) (old new : Replay) → Means s h old → (no_pages (pages_in old.flights c) || is_taker old.taker c) ≡ true →
+    TakesFirst old.pages new.pages c p → ((d : ℕ) → pages_in new.flights d ≡ cond (nat_eq c d) (pages_in old.flights d ++ p ∷ []) (pages_in old.flights d)) → new.next ≡ old.next → new.closed ≡ old.closed →
     FitsTaken h c p × Keeps s (h ++ by c (what.Taken p) ∷ []) new
 take_goes s h c p old new m may took fs next closed =
     let e : Event = by c (what.Taken p) in
     let homed : Homed s h = legal_homed s h m.kept.node.legal in
     let fits : Fits s h e = taken_fits s h c old.pages new.pages p homed m.kept.node took (sym (may_is s h c old m) ∙ may) in (
       fits,
-      goes_on s h e old new m (taken_node s h c old.pages new.pages p homed m.kept.node took fits) (fs ∙ ap (λ gs. gs ++ (c, p) ∷ []) m.kept.flying ∙ sym (flights_push h e)) refl refl next closed,
+      goes_on s h e old new m (taken_node s h c old.pages new.pages p homed m.kept.node took fits) (λ d. fs d ∙ ap (λ ps. cond (nat_eq c d) (ps ++ p ∷ []) ps) (m.kept.flying d) ∙ sym (flight_push h d c (what.Taken p))) refl refl next closed,
     )
 
-pub take_busy : (s : Shape) (h : History) (c p : ℕ) (old : Replay) → Means s h old → (no_pages (pages_of old.flights c) || is_taker old.taker c) ≡ false → FitsTaken h c p → ⊥
+pub take_busy : (s : Shape) (h : History) (c p : ℕ) (old : Replay) → Means s h old → (no_pages (pages_in old.flights c) || is_taker old.taker c) ≡ false → FitsTaken h c p → ⊥
 take_busy s h c p old m may f = no_both _ (sym (may_is s h c old m) ∙ may) f.may_take
 
 pub same_slot : (x y : Slot) → Some x ≡ Some y → x ≡ y
@@ -92,8 +93,8 @@ pinned_absent s h c p old m e f = no_both _ (elsewhere s h c p old m e) f.0
 pub first_absent : (s : Shape) (h : History) (c p : ℕ) (old : Replay) → Means s h old → IsElsewhere old.pages.table c p → slice_get (flight h c) 0 ≡ Some p → ⊥
 first_absent s h c p old m e f = no_both _ (elsewhere s h c p old m e) (first_has p (flight h c) f)
 
-pub first_is_first : (s : Shape) (h : History) (c p : ℕ) (old : Replay) → Means s h old → slice_get (pages_of old.flights c) 0 ≡ slice_get (flight h c) 0
-first_is_first s h c p old m = ap (λ (fs : List (ℕ × ℕ)). slice_get (pages_of fs c) 0) m.kept.flying
+pub first_is_first : (s : Shape) (h : History) (c p : ℕ) (old : Replay) → Means s h old → slice_get (pages_in old.flights c) 0 ≡ slice_get (flight h c) 0
+first_is_first s h c p old m = ap (λ ps. slice_get ps 0) (m.kept.flying c)
 
 module _ (s : Shape) (h : History) (c p b : ℕ) (old : Replay) (m : Means s h old) (at : IsFlyingAt old.pages.table c p b) where
   homed : Homed s h
@@ -110,18 +111,19 @@ module _ (s : Shape) (h : History) (c p b : ℕ) (old : Replay) (m : Means s h o
   flies_whole y e = ap (λ (z : Slot). z.page.split) (same_slot y at.slot (sym e ∙ at.at)) ∙ flying_whole s h c b at.slot old.pages old.pages homed m.kept.node at.at at.stands
 
   -- the flights once the page has left its batch
-  left : (w : What) (new : Replay) → new.flights ≡ flights_left (Some c) p old.flights → flights (h ++ by c w ∷ []) ≡ flights_left (Some c) at.slot.id (flights h) → new.flights ≡ flights (h ++ by c w ∷ [])
-  left w new fs is = fs ∙ ap₂ (λ q gs. flights_left (Some c) q gs) (sym at.id_is) m.kept.flying ∙ sym is
+  left : (w : What) (new : Replay) → ((d : ℕ) → pages_in new.flights d ≡ flight_left (Some c) p d (pages_in old.flights d)) →
+      ((d : ℕ) → flight (h ++ by c w ∷ []) d ≡ flight_left (Some c) at.slot.id d (flight h d)) → (d : ℕ) → pages_in new.flights d ≡ flight (h ++ by c w ∷ []) d
+  left w new fs is d = fs d ∙ ap₂ (λ q ps. flight_left (Some c) q d ps) (sym at.id_is) (m.kept.flying d) ∙ sym (is d)
 
   pub split_goes : (set : List Bool) (new : Replay) (page : PageState) → PageSplit at.slot.page page → at.slot.page.pins ≡ 0 → set ≡ gives_frames at.slot.page page →
-      Edits old.pages new.pages b (Some (record at.slot { page = page; standing = Nowhere })) old.pages.queue 0 → new.flights ≡ flights_left (Some c) p old.flights →
+      Edits old.pages new.pages b (Some (record at.slot { page = page; standing = Nowhere })) old.pages.queue 0 → ((d : ℕ) → pages_in new.flights d ≡ flight_left (Some c) p d (pages_in old.flights d)) →
       new.next ≡ old.next → new.closed ≡ old.closed → Fits s h (by c (what.Split p set)) × Keeps s (h ++ by c (what.Split p set) ∷ []) new
   split_goes set new page how none is did fs next closed =
       let e : Event = by c (what.Split at.slot.id set) in
       let fits : Fits s h e = (split_fits s h c b at.slot old.pages new.pages homed m.kept.node at.at at.stands page set how none is).1 in
       let node = split_node s h c b at.slot old.pages new.pages homed m.kept.node at.at at.stands page set how fits did in
       let P : ℕ → Type 0 = λ q. Fits s h (by c (what.Split q set)) × Keeps s (h ++ by c (what.Split q set) ∷ []) new in
-      subst P at.id_is (fits, goes_on s h e old new m node (left (what.Split at.slot.id set) new fs (flights_push h e)) refl refl next closed)
+      subst P at.id_is (fits, goes_on s h e old new m node (left (what.Split at.slot.id set) new fs (λ d. flight_push h d c (what.Split at.slot.id set))) refl refl next closed)
 
   -- where the event fits, it tells the frames that the split gives back
   pub split_tells : (set : List Bool) (page : PageState) → PageSplit at.slot.page page → Fits s h (by c (what.Split p set)) → gives_frames at.slot.page page ≡ set
@@ -143,27 +145,27 @@ module _ (s : Shape) (h : History) (c p b : ℕ) (old : Replay) (m : Means s h o
       let fits : Fits s h e = (pinned_fits s h c b at.slot old.pages old.pages homed m.kept.node at.at at.stands at.slot.page.pins refl (omega (arith, some))).1 in
       let P : ℕ → Type 0 = λ q. Fits s h (by c (what.Pinned q)) × Keeps s (h ++ by c (what.Pinned q) ∷ []) old in
       subst P at.id_is
-      (fits, goes_on s h e old old m (pinned_node s h c at.slot.id old.pages.table old.pages.queue m.kept.node fits) (m.kept.flying ∙ sym (flights_push h e)) refl refl refl refl)
+      (fits, goes_on s h e old old m (pinned_node s h c at.slot.id old.pages.table old.pages.queue m.kept.node fits) (λ d. m.kept.flying d ∙ sym (flight_push h d c e.what)) refl refl refl refl)
 
   pub pinned_not : at.slot.page.pins ≡ 0 → has_page p (flight h c) ≡ true × (0 < pins h p) → ⊥
   pinned_not none f = omega (arith, f.1, pinned_as, none)
 
-  pub back_goes : (new : Replay) → old.closed ≡ false → slice_get (pages_of old.flights c) 0 ≡ Some p →
-      Edits old.pages new.pages b (Some (record at.slot { standing = Queued })) (old.pages.queue ++ b ∷ []) 4 → new.flights ≡ flights_left (Some c) p old.flights → new.next ≡ old.next → new.closed ≡ old.closed →
+  pub back_goes : (new : Replay) → old.closed ≡ false → slice_get (pages_in old.flights c) 0 ≡ Some p →
+      Edits old.pages new.pages b (Some (record at.slot { standing = Queued })) (old.pages.queue ++ b ∷ []) 4 → ((d : ℕ) → pages_in new.flights d ≡ flight_left (Some c) p d (pages_in old.flights d)) → new.next ≡ old.next → new.closed ≡ old.closed →
       Fits s h (by c (what.Back p)) × Keeps s (h ++ by c (what.Back p) ∷ []) new
   back_goes new unclosed first did fs next closed =
       let e : Event = by c (what.Back at.slot.id) in
       let fits : Fits s h e = (sym (first_is_first s h c p old m) ∙ first ∙ ap (λ (n : ℕ). Some n) (sym at.id_is), sym m.kept.closed_is ∙ unclosed) in
       let P : ℕ → Type 0 = λ q. Fits s h (by c (what.Back q)) × Keeps s (h ++ by c (what.Back q) ∷ []) new in
       subst P at.id_is
-      (fits, goes_on s h e old new m (back_node s h c b at.slot old.pages new.pages homed m.kept.node at.at at.stands fits did) (left (what.Back at.slot.id) new fs (flights_push h e)) refl refl next closed)
+      (fits, goes_on s h e old new m (back_node s h c b at.slot old.pages new.pages homed m.kept.node at.at at.stands fits did) (left (what.Back at.slot.id) new fs (λ d. flight_push h d c (what.Back at.slot.id))) refl refl next closed)
 
-  pub dropped_goes : (new : Replay) → old.closed ≡ true → slice_get (pages_of old.flights c) 0 ≡ Some p →
-      Edits old.pages new.pages b (Some (record at.slot { standing = Nowhere })) old.pages.queue 0 → new.flights ≡ flights_left (Some c) p old.flights → new.next ≡ old.next → new.closed ≡ old.closed →
+  pub dropped_goes : (new : Replay) → old.closed ≡ true → slice_get (pages_in old.flights c) 0 ≡ Some p →
+      Edits old.pages new.pages b (Some (record at.slot { standing = Nowhere })) old.pages.queue 0 → ((d : ℕ) → pages_in new.flights d ≡ flight_left (Some c) p d (pages_in old.flights d)) → new.next ≡ old.next → new.closed ≡ old.closed →
       Fits s h (by c (what.Dropped p)) × Keeps s (h ++ by c (what.Dropped p) ∷ []) new
   dropped_goes new shut first did fs next closed =
       let e : Event = by c (what.Dropped at.slot.id) in
       let fits : Fits s h e = (sym (first_is_first s h c p old m) ∙ first ∙ ap (λ (n : ℕ). Some n) (sym at.id_is), sym m.kept.closed_is ∙ shut) in
       let P : ℕ → Type 0 = λ q. Fits s h (by c (what.Dropped q)) × Keeps s (h ++ by c (what.Dropped q) ∷ []) new in
       subst P at.id_is
-      (fits, goes_on s h e old new m (dropped_node s h c b at.slot old.pages new.pages homed m.kept.node at.at at.stands fits did) (left (what.Dropped at.slot.id) new fs (flights_push h e)) refl refl next closed)
+      (fits, goes_on s h e old new m (dropped_node s h c b at.slot old.pages new.pages homed m.kept.node at.at at.stands fits did) (left (what.Dropped at.slot.id) new fs (λ d. flight_push h d c (what.Dropped at.slot.id))) refl refl next closed)

@@ -5,15 +5,16 @@ use Rattle.thp_model.specs.declared.events.What.{What}
 use Rattle.thp_model.specs.declared.shape.Shape.{Shape}
 use Rattle.thp_model.specs.History.{History, by}
 use Rattle.thp_model.specs.Counts.{allocations, is_closed}
-use Rattle.thp_model.specs.Places.{flights, is_taking}
+use Rattle.thp_model.specs.Places.{flight, is_taking}
 use Rattle.thp_model.specs.Legal.{Fits}
 use Rattle.thp_node.specs.Holding.{IsNode}
+use Rattle.thp_check.specs.Flights.{pages_in}
 use Rattle.thp_check.specs.declared.replay.Replay.{Replay}
 
 -- the pages, the queue, the flights and the numbers of a replay are those of the history, which is legal
 pub record Keeps (s : Shape) (h : History) (r : Replay) : Type 0 where
   pub node : IsNode s h r.pages.table r.pages.queue
-  pub flying : r.flights ≡ flights h
+  pub flying : (c : ℕ) → pages_in r.flights c ≡ flight h c
   pub next_is : r.next ≡ allocations h
   pub closed_is : r.closed ≡ is_closed h
 

@@ -5,6 +5,7 @@
 #![tactic(auto)]
 
 mod checking;
+mod entries;
 mod flights;
 mod page_call;
 mod pages;

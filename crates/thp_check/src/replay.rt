@@ -2,7 +2,7 @@
 ghost use Rattle.std.specs.Prelude.{◌≡◌, ◌<◌, ◌+◌, ◌^◌, ℕ, [], ◌||◌, IfOk, IsTrue, ◌↔◌};
 ghost use Rattle.thp_model.specs.Shapes.{IsShape};
 ghost use Rattle.thp_model.specs.Places.{no_pages, takes_by};
-ghost use Rattle.thp_check.specs.Flights.{pages_of};
+ghost use Rattle.thp_check.specs.Flights.{pages_in};
 ghost use Rattle.thp_check.specs.Meanings.{is_taker};
 ghost use Rattle.thp_check.specs.PageCalls.{gain_what, loss_what};
 
@@ -33,16 +33,15 @@ impl Replay {
         requires { IsShape shape }
         ensures { IfOk result (Means shape []) }
     {
-        match Pages::new(alloc, shape) {
-            Ok(pages) => Ok(Replay {
-                pages,
-                flights: Flights::new(alloc),
-                next: 0,
-                closed: false,
-                taker: None,
-            }),
-            Err(fault) => Err(fault),
-        }
+        let pages = Pages::new(alloc, shape)?;
+        let flights = Flights::new(alloc)?;
+        Ok(Replay {
+            pages,
+            flights,
+            next: 0,
+            closed: false,
+            taker: None,
+        })
     }
 
     // Whether an event fits, and the state after it where it does.
@@ -170,7 +169,7 @@ impl Replay {
 
     // Whether a caller has no page in flight, or goes on taking.
     fn may_take(&self, caller: u32) -> bool
-        ensures { result ≡ (no_pages (pages_of self.now.flights caller) || is_taker self.now.taker caller) }
+        ensures { result ≡ (no_pages (pages_in self.now.flights caller) || is_taker self.now.taker caller) }
     {
         if let None = self.flights.first_of(caller) {
             return true;

@@ -22,42 +22,55 @@ legal_before s h before after l e = let P : History → Type 0 = λ k. IsLegal s
 
 module _ (s : Shape) (h : History) (legal : IsLegal s h) where
   pub stands_once : StandsOnce h
+  unfolding StandsOnce
   stands_once = once_of_legal s h legal
 
   pub all_stand_whole : StandsWhole h
+  unfolding StandsWhole
   all_stand_whole = stands_whole s h legal
 
   pub takes_oldest : TakesOldest h
+  unfolding TakesOldest
   takes_oldest = λ before after c ps e. oldest s before c ps (legal_before s h (before ++ takes_of c ps) after legal e)
 
   pub leaves_freed_alone : LeavesFreedAlone h
+  unfolding LeavesFreedAlone
   leaves_freed_alone = left_alone s h legal
 
   pub allocates_once : AllocatesOnce h
+  unfolding AllocatesOnce
   allocates_once = new_once s h legal
 
   pub nothing_enters : NothingEnters h
+  unfolding NothingEnters
   nothing_enters = none_enters s h legal
 
   pub has_frames_once : IsShape s → HasFramesOnce s h
+  unfolding HasFramesOnce
   has_frames_once = λ is. each_frame_once s h is.most_order legal
 
   pub keeps_frames : IsShape s → KeepsFrames s h
+  unfolding KeepsFrames
   keeps_frames = λ is. frames_kept s h is.most_order legal
 
   pub holds_while_live : HoldsWhileLive s h
+  unfolding HoldsWhileLive
   holds_while_live = λ p. live_holds s h p legal
 
   pub lives_apart : LivesApart h
+  unfolding LivesApart
   lives_apart = pages_apart s h legal
 
   pub others_free : OthersFree h
+  unfolding OthersFree
   others_free = λ before es after c e o.
       let P : History → Type 0 = λ k. IsLegal s k in
       others_only_free s before es c (legal_front s before es (legal_before s h (before ++ es) after legal e)) o
 
   pub flights_go_on : FlightsGoOn h
+  unfolding FlightsGoOn
   flights_go_on = λ before after e c is. flight_push before c e.caller e.what
 
   pub queue_goes_on : QueueGoesOn h
+  unfolding QueueGoesOn
   queue_goes_on = λ before after e is. queue_push before e

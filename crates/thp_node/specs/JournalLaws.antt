@@ -14,60 +14,60 @@ use Rattle.thp_model.specs.PlaceLaws.{takes_of, acts_on, enters, is_others}
 use Rattle.thp_model.specs.FrameLaws.{gives_frame}
 
 -- the queue and all flights joined repeat no page
-abbrev pub StandsOnce : History → Type 0
+unfoldable pub StandsOnce : History → Type 0
 StandsOnce h = (p : ℕ) → count_by (λ q. nat_eq q p) (standing h) ≤ 1
 
 -- each page there is live and not split
-abbrev pub StandsWhole : History → Type 0
+unfoldable pub StandsWhole : History → Type 0
 StandsWhole h = (p : ℕ) → stands h p ≡ true → (is_live h p ≡ true) × (is_split h p ≡ false)
 
 -- each run of takes by one caller took the first pages of the queue, in order
-abbrev pub TakesOldest : History → Type 0
+unfoldable pub TakesOldest : History → Type 0
 TakesOldest h = (before after : History) (c : ℕ) (ps : List ℕ) → h ≡ before ++ takes_of c ps ++ after → ps ≡ take (length ps) (queue before)
 
 -- at each event about a page but its allocation the page was live: no freed page was taken, split, put back or dropped
-abbrev pub LeavesFreedAlone : History → Type 0
+unfoldable pub LeavesFreedAlone : History → Type 0
 LeavesFreedAlone h = (k : ℕ) (e : Event) (p : ℕ) → slice_get h k ≡ Some e → acts_on p e.what ≡ true → is_live (take k h) p ≡ true
 
 -- no page was allocated twice
-abbrev pub AllocatesOnce : History → Type 0
+unfoldable pub AllocatesOnce : History → Type 0
 AllocatesOnce h =
     (k : ℕ) (e : Event) (p : ℕ) → slice_get h k ≡ Some e → allocates p e.what ≡ true → some_event (allocates p) (take k h) ≡ false
 
 -- after a close nothing entered the queue, and no page was allocated
-abbrev pub NothingEnters : History → Type 0
+unfoldable pub NothingEnters : History → Type 0
 NothingEnters h = (k : ℕ) (e : Event) → slice_get h k ≡ Some e → is_closed (take k h) ≡ true → enters e.what ≡ false
 
 -- each frame of each allocated page is held and was never given back, or isn't held and was given back once
-abbrev pub HasFramesOnce : Shape → History → Type 0
+unfoldable pub HasFramesOnce : Shape → History → Type 0
 HasFramesOnce s h =
     (p i : ℕ) → i < subpages s → cond (is_held s h p i) 1 0 + count_of (gives_frame p i) h ≡ cond (nat_lt p (allocations h)) 1 0
 
 -- the frames of all pages allocated are those held and those given back
-abbrev pub KeepsFrames : Shape → History → Type 0
+unfoldable pub KeepsFrames : Shape → History → Type 0
 KeepsFrames s h = subpages s * allocations h ≡ frames_held s h + frames_given h
 
 -- a page holds a frame exactly while it lives
-abbrev pub HoldsWhileLive : Shape → History → Type 0
+unfoldable pub HoldsWhileLive : Shape → History → Type 0
 HoldsWhileLive s h = (p : ℕ) → some_below (subpages s) (is_held s h p) ≡ is_live h p
 
 -- two live pages have different blocks
-abbrev pub LivesApart : History → Type 0
+unfoldable pub LivesApart : History → Type 0
 LivesApart h =
     (p q b : ℕ) → is_live h p ≡ true → is_live h q ≡ true → some_event (places p b) h ≡ true → some_event (places q b) h ≡ true → p ≡ q
 
 -- events of others took out of a caller's flight only the pages that they freed, and kept its order
-abbrev pub OthersFree : History → Type 0
+unfoldable pub OthersFree : History → Type 0
 OthersFree h =
     (before es after : History) (c : ℕ) → h ≡ before ++ es ++ after → is_others c es ≡ true →
     flight (before ++ es) c ≡ filter (is_live (before ++ es)) (flight before c)
 
 -- each flight went on from event to event by what was done
-abbrev pub FlightsGoOn : History → Type 0
+unfoldable pub FlightsGoOn : History → Type 0
 FlightsGoOn h =
     (before after : History) (e : Event) (c : ℕ) → h ≡ before ++ e ∷ after →
     flight (before ++ e ∷ []) c ≡ flight_after c (flight before c) e.caller e.what
 
 -- and so did the queue
-abbrev pub QueueGoesOn : History → Type 0
+unfoldable pub QueueGoesOn : History → Type 0
 QueueGoesOn h = (before after : History) (e : Event) → h ≡ before ++ e ∷ after → queue (before ++ e ∷ []) ≡ queue_after (queue before) e.what

@@ -7,6 +7,7 @@ pub mod Commands
 pub mod Operands
 pub mod Statements
 pub mod Scripts
+pub mod TextKinds
 pub mod RunFaults
 pub mod Reports
 pub mod CommandLine

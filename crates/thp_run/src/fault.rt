@@ -1,5 +1,6 @@
 //! What can go wrong with a text, a device or memory.
-ghost use Rattle.std.specs.Prelude.{◌≡◌};
+ghost use Rattle.std.specs.Prelude.{◌≡◌, Some};
+ghost use Rattle.thp_run.specs.TextKinds.{kind_word};
 ghost use Rattle.thp_run.specs.declared.fault.ReadFault.TheVariants.{OutOfMemory as ReadOutOfMemory};
 ghost use Rattle.thp_run.specs.declared.fault.RunFault.TheVariants.{OutOfMemory as RunOutOfMemory};
 
@@ -26,9 +27,12 @@ pub enum TextKind {
     BadOrder,
 }
 
-impl fmt::Display for TextKind {
-    fn fmt<W: fmt::Write>(&self, f: &mut fmt::Formatter<W>) -> fmt::Result {
-        f.write_str(match self {
+impl TextKind {
+    /// The word that tells the kind on standard error.
+    fn word(self) -> &'static str
+        ensures { result.now ≡ kind_word self }
+    {
+        match self {
             TextKind::TooLong => "too-long",
             TextKind::BadByte => "bad-byte",
             TextKind::Cut => "cut",
@@ -36,7 +40,15 @@ impl fmt::Display for TextKind {
             TextKind::BadCount => "bad-count",
             TextKind::BadNumber => "bad-number",
             TextKind::BadOrder => "bad-order",
-        })
+        }
+    }
+}
+
+impl fmt::Display for TextKind {
+    ghost output = { λ kind. Some (kind_word kind) };
+
+    fn fmt<W: fmt::Write>(&self, f: &mut fmt::Formatter<W>) -> fmt::Result {
+        f.write_str(self.word())
     }
 }
 

@@ -50,26 +50,6 @@ impl Steps for OneNode {
     }
 }
 
-/// The answer of a call that tells nothing once it is done.
-fn unit(called: Result<(), Refusal>) -> Result<Reply, Refusal>
-    ensures { result ≡ unit_answer called }
-{
-    match called {
-        Ok(()) => Ok(Reply::Unit),
-        Err(refusal) => Err(refusal),
-    }
-}
-
-/// The answer of a call that takes mappings or a pin away.
-fn change(called: Result<Done, Refusal>) -> Result<Reply, Refusal>
-    ensures { result ≡ change_answer called }
-{
-    match called {
-        Ok(done) => Ok(Reply::Done(done)),
-        Err(refusal) => Err(refusal),
-    }
-}
-
 impl Nodes for OneNode {
     fn new(alloc: Global, settings: &Settings) -> Result<OneNode, AllocError> {
         let shape = Shape {
@@ -96,6 +76,26 @@ impl Nodes for OneNode {
             deferred_split_page: counters.deferred_split_page,
             split_pmd: counters.split_pmd,
         }
+    }
+}
+
+/// The answer of a call that tells nothing once it is done.
+fn unit(called: Result<(), Refusal>) -> Result<Reply, Refusal>
+    ensures { result ≡ unit_answer called }
+{
+    match called {
+        Ok(()) => Ok(Reply::Unit),
+        Err(refusal) => Err(refusal),
+    }
+}
+
+/// The answer of a call that takes mappings or a pin away.
+fn change(called: Result<Done, Refusal>) -> Result<Reply, Refusal>
+    ensures { result ≡ change_answer called }
+{
+    match called {
+        Ok(done) => Ok(Reply::Done(done)),
+        Err(refusal) => Err(refusal),
     }
 }
 
