@@ -5,6 +5,8 @@ usage: generate.py KIND BLOCKS BYTES
 
 KIND   churn   pages are allocated, partly unmapped (so queued), scanned eight at a time and freed, oldest first
        middle  the queue is kept as long as the node has blocks, and pages are freed from its middle
+       maps    ranges of subpages and whole pages are mapped and unmapped on four pages, beside as many pages as the
+               node has blocks
 BLOCKS how many blocks the node has, so how long the queue grows
 BYTES  about how long the script is; below 16,777,216
 """
@@ -36,9 +38,23 @@ def middle(blocks):
         yield f"unmap 0 {live.pop(len(live) // 2)} 1 511\n"
 
 
+def maps(blocks):
+    """Maps and unmaps of ranges of 1 to 8 subpages and of whole pages, on four of the node's pages."""
+    for _ in range(blocks):
+        yield "alloc 0\n"
+    while True:
+        for page in range(4):
+            for first in range(0, 512, 32):
+                span = f"0 {page} {first} {1 + first // 32 % 8}\n"
+                yield f"map {span}"
+                yield f"unmap {span}"
+            yield f"mapwhole 0 {page}\n"
+            yield f"unmapwhole 0 {page}\n"
+
+
 def main():
     kind, blocks, limit = sys.argv[1], int(sys.argv[2]), int(sys.argv[3])
-    lines = {"churn": churn, "middle": middle}[kind](blocks)
+    lines = {"churn": churn, "middle": middle, "maps": maps}[kind](blocks)
     written = sys.stdout.write("setup\n")
     for line in lines:
         if written + len(line) > limit:
