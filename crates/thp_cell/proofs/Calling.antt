@@ -1,7 +1,6 @@
 -- One call of the node within a hold.
-use Rattle.std.proofs.Common.{◌≡◌, ◌≢◌, ◌⊎◌, inl, inr, ⊎_elim, arith, ℕ, ◌<◌, ◌≤◌, Bool, true, false, List, [], ◌∷◌, ◌++◌, refl, sym, ap, ◌∙◌, subst, Option, Some, None, Result, Ok, Err}
+use Rattle.std.proofs.Common.{◌≡◌, ◌⊎◌, inl, inr, ⊎_elim, arith, ℕ, ◌<◌, ◌≤◌, true, false, List, [], ◌∷◌, ◌++◌, refl, sym, ap, ◌∙◌, subst, Option, Some, None, Result, Ok, Err}
 use Rattle.std.specs.Prelude.{IfOk, IfErr}
-use Rattle.std.specs.List.{All}
 use Rattle.std.proofs.lemmas.List.{append-nil}
 use Rattle.thp_model.specs.declared.events.Event.{Event}
 use Rattle.thp_model.specs.declared.refusal.Refusal.{Refusal}
@@ -17,7 +16,7 @@ use Rattle.thp_cell.specs.Rule.{Since, Adds}
 use Rattle.thp_cell.specs.Steps.{Sat, seen}
 use Rattle.thp_cell.specs.Seats.{Place, pass_state}
 use Rattle.thp_cell.specs.Views.{PassState, HasCaller, part}
-use Rattle.thp_cell.specs.Calls.{at_front, Called, IsRefused}
+use Rattle.thp_cell.specs.Calls.{Called, IsRefused}
 use Rattle.thp_cell.proofs.Fronts.{adds_none, adds_by}
 use Rattle.thp_cell.proofs.Passes.{events_of-append, events_of_all, events_of_none, part_stays, flights_last, batch_stays, seat_follows}
 

@@ -1,5 +1,5 @@
 -- Beginnings of a history: fronts, and what goes on from them.
-use Rattle.std.proofs.Common.{◌≡◌, ℕ, ◌+◌, ◌<◌, ◌≤◌, Bool, true, false, List, [], ◌∷◌, ◌++◌, length, refl, sym, ap, ◌∙◌, subst, arith, append_assoc, ◌⊎◌, inl, inr, ⊎_elim, le_refl}
+use Rattle.std.proofs.Common.{◌≡◌, ℕ, ◌<◌, ◌≤◌, Bool, true, false, List, [], ◌∷◌, ◌++◌, length, refl, sym, ap, ◌∙◌, subst, arith, append_assoc, ◌⊎◌, inl, inr, ⊎_elim, le_refl}
 use Rattle.std.specs.Prelude.{nat_le, cond}
 use Rattle.std.specs.List.{All}
 use Rattle.std.proofs.lemmas.List.{append-nil}
@@ -7,7 +7,7 @@ use Rattle.std.proofs.lemmas.List.Elements.{All-nil, All-cons, All-head, All-tai
 use Rattle.std.proofs.lemmas.Bool.Decides.{nat_tests}
 use Rattle.thp_model.specs.declared.events.Event.{Event}
 use Rattle.thp_model.specs.History.{History}
-use Rattle.thp_cell.specs.Rule.{IsOwn, IsOther, OnlyOf, NoneOf, Since, Adds}
+use Rattle.thp_cell.specs.Rule.{IsOwn, IsOther, NoneOf, Since, Adds}
 use Rattle.thp_cell.specs.Steps.{longer}
 
 module _ {A : Type 0} where

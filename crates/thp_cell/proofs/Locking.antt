@@ -1,7 +1,6 @@
 -- The steps that end no hold keep the rule: the lock step, and the two loads.
-use Rattle.std.proofs.Common.{◌≡◌, ◌≢◌, inl, ℕ, ◌+◌, ◌*◌, ◌/◌, ◌%◌, ◌^◌, ◌<◌, ◌≤◌, Bool, true, false, List, [], ◌∷◌, set, get_or, length, refl, sym, ap, ◌∙◌, subst, arith, Option, Some, true≢false}
+use Rattle.std.proofs.Common.{◌≡◌, inl, ℕ, ◌+◌, ◌*◌, ◌/◌, ◌<◌, Bool, true, false, List, [], ◌∷◌, set, get_or, length, refl, sym, ap, ◌∙◌, subst, arith, Option, Some, true≢false}
 use Rattle.std.specs.Prelude.{bit_or, cond, sum_by}
-use Rattle.std.specs.List.{All}
 use Rattle.std.proofs.lemmas.List.Elements.{All-nil, All-weaker}
 use mathlib.Core.Logic.{dite}
 use mathlib.Core.Option.{some, none}
@@ -15,8 +14,8 @@ use Rattle.thp_model.specs.Places.{queue}
 use Rattle.thp_node.specs.NodeState.{NodeState}
 use Rattle.thp_cell.specs.declared.rule.OldFront.{OldFront}
 use Rattle.thp_cell.specs.declared.rule.Knows.{Knows}
-use Rattle.thp_cell.specs.Rule.{Since, holding, word_of, FitsOld, Fits, FitsSeat, HasNode, Home, Kept}
-use Rattle.thp_cell.specs.Steps.{Sat, seen, Took, WasBusy, Locked, Counted, Looked}
+use Rattle.thp_cell.specs.Rule.{Since, holding, FitsOld, Fits, FitsSeat, Home, Kept}
+use Rattle.thp_cell.specs.Steps.{Sat, seen, Took, Locked, Counted, Looked}
 use Rattle.thp_cell.proofs.Fronts.{since_same, between}
 use Rattle.thp_cell.proofs.Sums.{sum_set, bit_set}
 use Rattle.thp_cell.proofs.Seating.{Cell, reseated, stays, nobody}

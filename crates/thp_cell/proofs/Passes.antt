@@ -1,12 +1,11 @@
 -- Passes: what the steps of their seats mean for their fronts and parts.
-use Rattle.std.proofs.Common.{◌≡◌, ◌≢◌, ℕ, ◌<◌, ◌≤◌, Bool, true, false, List, [], ◌∷◌, ◌++◌, length, refl, sym, ap, ◌∙◌, subst, arith, ◌⊎◌, inl, inr, ⊎_elim, Option, Some, None}
+use Rattle.std.proofs.Common.{◌≡◌, ◌≢◌, ℕ, ◌<◌, ◌≤◌, Bool, true, false, List, [], ◌∷◌, ◌++◌, length, refl, sym, ap, ◌∙◌, subst, arith, inl, inr, ⊎_elim, Option}
 use Rattle.std.specs.Prelude.{cond, nat_eq, not, ◌&&◌}
 use Rattle.std.specs.List.{All, filter, list_all}
 use Rattle.std.proofs.lemmas.List.{append-nil}
 use Rattle.std.proofs.lemmas.List.Elements.{All-head, All-tail, All-weaker, filter-append}
 use Rattle.std.proofs.lemmas.Bool.Decides.{nat_tests}
 use Rattle.thp_model.specs.declared.events.Event.{Event}
-use Rattle.thp_model.specs.declared.shape.Shape.{Shape}
 use Rattle.thp_model.specs.History.{History, events_of}
 use Rattle.thp_model.specs.Counts.{is_live}
 use Rattle.thp_model.specs.Legal.{IsLegal}
@@ -19,9 +18,9 @@ use Rattle.thp_node.specs.NodeState.{NodeState}
 use Rattle.thp_cell.specs.declared.rule.OldFront.{OldFront}
 use Rattle.thp_cell.specs.declared.rule.Knows.{Knows}
 use Rattle.thp_cell.specs.Rule.{IsOther, NoneOf, Since}
-use Rattle.thp_cell.specs.Steps.{Sat, seen, IsWhole, longer, old_front, joined}
+use Rattle.thp_cell.specs.Steps.{Sat, seen, longer, old_front, joined}
 use Rattle.thp_cell.specs.Seats.{Place, pass_state}
-use Rattle.thp_cell.specs.Views.{PassState, HasCaller, HasAll, part}
+use Rattle.thp_cell.specs.Views.{PassState, HasCaller}
 use Rattle.thp_cell.specs.Calls.{at_front, PartsStay, FlightsLast, BatchesStay, Follows, IsJoined}
 use Rattle.thp_cell.proofs.Fronts.{longer_is}
 

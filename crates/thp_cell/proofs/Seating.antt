@@ -1,13 +1,12 @@
 -- A step of one seat: what the others know stays true, and the rule is kept.
-use Rattle.std.proofs.Common.{◌≡◌, ◌≢◌, ◌⊎◌, inl, inr, ⊎_elim, ℕ, ◌+◌, ◌*◌, ◌^◌, ◌<◌, ◌≤◌, Bool, true, false, List, [], ◌∷◌, ◌++◌, set, get_or, length, refl, sym, ap, ◌∙◌, subst, arith, Option, Some, true≢false}
+use Rattle.std.proofs.Common.{◌≡◌, ◌≢◌, ◌⊎◌, inl, inr, ⊎_elim, ℕ, ◌^◌, ◌<◌, ◌≤◌, true, false, List, [], ◌∷◌, set, get_or, length, sym, ap, ◌∙◌, subst, arith, Option, true≢false}
 use Rattle.std.specs.Prelude.{cond, nat_le, nat_lt, ◌&&◌, sum_by}
-use Rattle.std.specs.List.{All}
-use Rattle.std.proofs.lemmas.List.Elements.{All-nil, All-append, All-weaker}
+use Rattle.std.proofs.lemmas.List.Elements.{All-append, All-weaker}
 use mathlib.Core.Logic.{dite}
 use mathlib.Core.Option.{Option as Maybe, some, some-injective}
 use native.Mathlib.Decide.{dec_le, ℕ_discrete}
 use lib.ListN.{get_elem?}
-use Rattle.atomic_table.specs.Table.{State, Me, keeps, stepped}
+use Rattle.atomic_table.specs.Table.{State, keeps, stepped}
 use Rattle.atomic_table.proofs.Lists.{at_set, set_again}
 use Rattle.thp_model.specs.declared.events.Event.{Event}
 use Rattle.thp_model.specs.declared.shape.Shape.{Shape}
@@ -15,9 +14,8 @@ use Rattle.thp_model.specs.History.{History}
 use Rattle.thp_model.specs.Legal.{IsLegal}
 use Rattle.thp_model.specs.Places.{queue}
 use Rattle.thp_node.specs.NodeState.{NodeState}
-use Rattle.thp_cell.specs.declared.rule.OldFront.{OldFront}
 use Rattle.thp_cell.specs.declared.rule.Knows.{Knows}
-use Rattle.thp_cell.specs.Rule.{IsOwn, IsOther, OnlyOf, NoneOf, Since, Adds, holding, serving, word_of, FitsOld, Fits, FitsSeat, Home, Kept}
+use Rattle.thp_cell.specs.Rule.{IsOwn, IsOther, OnlyOf, NoneOf, Since, Adds, holding, serving, word_of, FitsOld, FitsSeat, Home, Kept}
 use Rattle.thp_cell.specs.Steps.{Sat, IsWhole}
 use Rattle.thp_cell.proofs.Fronts.{since_more, narrower}
 use Rattle.thp_cell.proofs.Sums.{sum_set, share_of_two, some_share, serves, has_node}

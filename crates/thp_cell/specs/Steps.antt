@@ -1,7 +1,7 @@
 -- What each kind of atomic step tells the seat that makes it. There are eight kinds: the making of the table and its first
 -- seat (`root`), the split of a seat, the join of two, the lock step that finds the bit clear or set, the store that ends a
 -- hold, the load after a join, and the load of a count.
-use Rattle.std.specs.Prelude.{◌≡◌, ◌≢◌, ℕ, ◌/◌, ◌%◌, ◌^◌, ◌<◌, Bool, true, false, nat_le, cond, List, [], ◌∷◌, length, All, Option, Some}
+use Rattle.std.specs.Prelude.{◌≡◌, ◌≢◌, ℕ, ◌/◌, ◌%◌, ◌^◌, ◌<◌, Bool, true, false, nat_le, cond, [], ◌∷◌, length, All, Option, Some}
 use Rattle.atomic_table.specs.Table.{Me, Step}
 use Rattle.thp_model.specs.History.{History}
 use Rattle.thp_model.specs.Legal.{IsLegal}

@@ -1,10 +1,10 @@
 //! A node that threads share: how it is made, held, split among threads, and taken apart.
-ghost use Rattle.std.specs.Prelude.{◌≡◌, ◌≢◌, ℕ, ◌<◌, ◌≤◌, ◌⊎◌, ◌↔◌, [], ◌∷◌, length, true, false, None, Some, Err, All, IfOk, IfErr, IfSome, IfNone};
+ghost use Rattle.std.specs.Prelude.{◌≡◌, ℕ, ◌<◌, ◌≤◌, ◌⊎◌, ◌↔◌, [], ◌∷◌, length, true, false, None, Some, Err, All, IfOk, IfErr, IfSome, IfNone};
 ghost use Rattle.thp_model.specs.History.{events_of};
 ghost use Rattle.thp_model.specs.Legal.{IsLegal};
 ghost use Rattle.thp_model.specs.Places.{queue};
 ghost use Rattle.thp_node.specs.JournalLaws.{StandsOnce, TakesOldest, LeavesFreedAlone, NothingEnters, HasFramesOnce};
-ghost use Rattle.thp_cell.specs.Views.{HasCaller, HasAll, part};
+ghost use Rattle.thp_cell.specs.Views.{HasAll, part};
 ghost use Rattle.thp_cell.specs.Calls.{Follows, PartsStay, IsBusy, IsJoined, below, from};
 
 mod batch_calls;

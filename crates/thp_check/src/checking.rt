@@ -17,7 +17,9 @@ pub enum CheckFault {
     OutOfMemory,
 }
 
-/// Whether a history is legal on a node of this shape.
+/// Whether a history is legal on a node of this shape: whether each of its events fits those before it, by the rules of
+/// this project's profile (`thp_model`, `IsLegal`). Fails with `Illegal` at the first that doesn't, and with `OutOfMemory`
+/// where the memory for the pages and flights of the replay is refused.
 ///
 /// It takes one pass. What it does for an event is bounded by the node's size, however long the history is, and so is the
 /// memory that it takes.

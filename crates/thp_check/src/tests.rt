@@ -355,7 +355,7 @@ fn misfits_of_batches(rt: HostRuntime) {
     last_misfits(&rt, rt.alloc(), "dropped out of order", 2, &out_of_order);
 }
 
-// Want of memory is told as such. The first event needs none, the take does.
+// Want of memory is told as such: for the table of pages, for the lists of flights, and for a flight that grows.
 #[test]
 fn each_growth_refused(rt: HostRuntime) {
     let events = [

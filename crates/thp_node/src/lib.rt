@@ -8,6 +8,10 @@
 //! `split_pmd`, `pin`, `unpin`, `close`; `take`, `split_next`, `put_back`, `scan`; the readers `shape`, `journal`, `table`,
 //! `queue`, `queue_len`, `frames_given`, `frames_held`, `counters`; `Batch` with `caller`, `pages`, `abandon`; and the
 //! answers `NewFault`, `Done`, `Tried`, `BackReply`, `ScanReply`, `Counters`.
+//!
+//! For callers' proofs: `journal` ensures the laws of `specs/JournalLaws.antt`, which `proofs/JournalFacts` has for every legal
+//! history. What `put_back` requires of its batch is ensured by `take` and handed on by every call, clauses `front` and
+//! `fronts`; `proofs/Fronts` says the same of histories that grow.
 #![tactic(auto)]
 
 mod answers;

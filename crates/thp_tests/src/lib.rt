@@ -1,5 +1,5 @@
-//! Worked rows on the calls of a node, with answers known beforehand, and each growth refused in turn. Tests alone: they
-//! stand above the node so that its own check stays short.
+//! Worked rows on the calls of a node, with answers known beforehand, each growth refused in turn, and threads on a shared
+//! node whose journal is checked. Tests alone: they stand above the crates that they call, so that their checks stay short.
 #![tactic(auto)]
 
 #[cfg(test)]
@@ -10,3 +10,5 @@ mod growth;
 mod page_rows;
 #[cfg(test)]
 mod steps;
+#[cfg(test)]
+mod stress;

@@ -1,6 +1,6 @@
 //! The shrinker's calls. A take, each try and a put-back are holds of their own, so other passes reach the node between them;
 //! a scan is one hold.
-ghost use Rattle.std.specs.Prelude.{◌≡◌, ℕ, ◌*◌, ◌≤◌, length, None, IfOk, IfErr, OnErr};
+ghost use Rattle.std.specs.Prelude.{◌≡◌, ◌*◌, ◌≤◌, length, None, IfOk, IfErr, OnErr};
 ghost use Rattle.thp_model.specs.Refusals.{refusal};
 ghost use Rattle.thp_model.specs.Refusals as call;
 ghost use Rattle.thp_model.specs.Runs.{take_events, split_next_events, put_back_events};

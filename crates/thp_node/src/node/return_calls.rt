@@ -21,6 +21,7 @@ impl Node {
     /// the queue, or nowhere where the node is closed. With no memory for that it hands the batch back.
     ///
     /// A page of the batch that was freed or split since is passed over.
+    /// Those still in flight have to come first in the caller's flight: so they do behind `take`, and every call leaves it so.
     pub fn put_back(&mut self, batch: Batch) -> Result<BackReply, (Batch, Refusal)>
         requires front { IsInFront self.old.journal batch }
         ensures reply { IfOk result (λ r. r ≡ back_reply self.old.journal (still_flying self.old.journal batch.caller batch.pages)) }

@@ -1,5 +1,5 @@
 -- The node is in the slot at the end, and its journal is the pass's front.
-use Rattle.std.proofs.Common.{◌≡◌, ℕ, ◌<◌, rules, arith, refl, subst, ap, sym, ◌∙◌, Option, Some}
+use Rattle.std.proofs.Common.{◌≡◌, ◌<◌, arith, subst, ap, sym, Option}
 use Rattle.std.specs.List.{All}
 use Rattle.std.proofs.lemmas.List.Elements.{All-weaker}
 use Rattle.thp_model.specs.declared.events.Event.{Event}

@@ -1,5 +1,5 @@
 -- The join of two seats and the load after it keep the rule, and tell that both fronts begin the new one.
-use Rattle.std.proofs.Common.{rules, arith, ap, ◌∙◌, ◌<◌, ◌≡◌, sym}
+use Rattle.std.proofs.Common.{rules, arith, ap, ◌∙◌, ◌≡◌}
 use Rattle.thp_cell.specs.Steps.{Sat}
 use Rattle.thp_cell.specs.Seats.{pass_state}
 use Rattle.thp_cell.proofs.Locking.{looks_at}

@@ -1,5 +1,5 @@
 -- One call of the node within a hold.
-use Rattle.std.proofs.Common.{refl, ap, ◌∙◌}
+use Rattle.std.proofs.Common.{refl}
 use Rattle.thp_model.specs.declared.events.What.TheVariants.{MapWhole}
 use Rattle.thp_model.specs.Refusals.{refusal}
 use Rattle.thp_model.specs.Refusals as call

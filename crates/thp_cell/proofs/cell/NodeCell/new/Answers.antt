@@ -1,5 +1,5 @@
 -- The rule holds of the new table.
-use Rattle.std.proofs.Common.{rules, arith, refl, ◌≡◌, ◌*◌, ◌∷◌, [], ◌<◌, List, ℕ, Some, Option, subst, sym, ap}
+use Rattle.std.proofs.Common.{rules, arith, refl, ◌≡◌, ◌*◌, ◌∷◌, [], ◌<◌, List, Some, Option, subst, sym}
 use Rattle.atomic_table.specs.Table.{opening}
 use Rattle.thp_node.specs.NodeState.{NodeState}
 use Rattle.std.proofs.lemmas.List.Elements.{All-weaker}

@@ -1,17 +1,18 @@
-//! Four threads with mixed calls. Each keeps a log of what it was answered, which is to be its part of the journal.
-ghost use Rattle.std.specs.Prelude.{◌≡◌, ℕ, ◌<◌, ◌≤◌, ◌+◌, IfSome};
+//! Four threads with mixed calls on a shared node. Each keeps a log of what it was answered, which is to be its part of the
+//! journal, and the journal passes the check of a history.
+ghost use Rattle.std.specs.Prelude.{◌≡◌, ◌<◌, ◌+◌, IfSome};
 ghost use Rattle.thp_node.specs.Batches.{IsInFront};
-ghost use Rattle.thp_cell.specs.Views.{HasCaller, HasAll};
+ghost use Rattle.thp_cell.specs.Views.{HasCaller};
 ghost use Rattle.thp_cell.specs.Calls.{at_front, BatchesStay};
 
-use crate::tests::cell_of;
-use crate::{NodeCell, Pass};
 use std::alloc::Global;
 use std::process::Abort;
 use std::thread;
 use std::thread::Threads;
-use thp_model::{Event, Outcome, PageId, What};
-use thp_node::{BackReply, Batch, Tried};
+use thp_cell::{NodeCell, Pass};
+use thp_check::check;
+use thp_model::{Event, Outcome, PageId, Shape, What};
+use thp_node::{BackReply, Batch, Node, Tried};
 
 // What a call was answered, as far as the answer tells it.
 #[derive(Clone, Copy, PartialEq, Eq, Debug)]
@@ -228,7 +229,7 @@ fn work(alloc: Global, cell: &NodeCell, pass: Pass, caller: u32) -> (Pass, Vec<A
     let mut log = Vec::new(alloc);
     let mut page = PageId(0);
     let mut batch = None;
-    for turn in 0..6000 {
+    for turn in 0..60_000 {
         page = change(cell, &mut pass, caller, turn, page, &mut log);
         batch = shrink(cell, &mut pass, caller, turn, batch, &mut log);
     }
@@ -260,6 +261,17 @@ fn work_in_pairs<R: Threads + Sync>(
     )
 }
 
+// A cell over a node of order 9 with these blocks, and the pass that has all its callers.
+fn cell_of(rt: &impl Abort, alloc: Global, blocks: u32, callers: u32) -> (NodeCell, Pass)
+    ensures cell { result.1.cell ≡ result.0 }
+    ensures all { HasAll result.1 }
+    ensures callers { result.1.callers ≡ callers }
+    ensures few { callers ≤ 64 }
+{
+    let node = Node::new(alloc, Shape { blocks, order: 9 }).expect(rt, "a node of this shape");
+    NodeCell::new(alloc, node, callers).expect(rt, "a cell of these callers")
+}
+
 #[test]
 fn four_threads_mix_calls(rt: HostRuntime) {
     let (cell, pass) = cell_of(&rt, rt.alloc(), 64, 4);
@@ -279,6 +291,7 @@ fn four_threads_mix_calls(rt: HostRuntime) {
     let pass = cell.join(low, high);
     let node = cell.finish(pass);
     let events = node.journal();
+    assert_eq!(rt; check(rt.alloc(), node.shape(), events), Ok(()));
     assert!(rt; is_part(events, 0, &of_a));
     assert!(rt; is_part(events, 1, &of_b));
     assert!(rt; is_part(events, 2, &of_c));
