@@ -1,8 +1,8 @@
 //! Four threads with mixed calls on a shared node. Each keeps a log of what it was answered, which is to be its part of the
 //! journal, and the journal passes the check of a history.
-ghost use Rattle.std.specs.Prelude.{◌≡◌, ◌<◌, ◌+◌, IfSome};
+ghost use Rattle.std.specs.Prelude.{◌≡◌, ◌<◌, ◌≤◌, ◌+◌, IfSome};
 ghost use Rattle.thp_node.specs.Batches.{IsInFront};
-ghost use Rattle.thp_cell.specs.Views.{HasCaller};
+ghost use Rattle.thp_cell.specs.Views.{HasCaller, HasAll};
 ghost use Rattle.thp_cell.specs.Calls.{at_front, BatchesStay};
 
 use std::alloc::Global;
