@@ -10,17 +10,23 @@ KIND   churn   pages are allocated, partly unmapped (so queued), scanned eight a
 BLOCKS how many blocks the node has, so how long the queue grows
 BYTES  about how long the script is; below 16,777,216
 """
+import itertools
 import sys
+
+
+def fill(live, numbers, blocks):
+    """Allocates pages until every block has one, and unmaps the first subpage of each, which queues it."""
+    while len(live) < blocks:
+        page = next(numbers)
+        yield f"alloc 0\nsplitpmd 0 {page}\nunmap 0 {page} 0 1\n"
+        live.append(page)
 
 
 def churn(blocks):
     """Cycles of allocation, partial unmap, scan and free."""
-    live, number = [], 0
+    live, numbers = [], itertools.count()
     while True:
-        while len(live) < blocks:
-            yield f"alloc 0\nsplitpmd 0 {number}\nunmap 0 {number} 0 1\n"
-            live.append(number)
-            number += 1
+        yield from fill(live, numbers, blocks)
         yield "scan 0 8\n"
         for page in live[:8]:
             yield f"unmap 0 {page} 1 511\n"
@@ -29,12 +35,9 @@ def churn(blocks):
 
 def middle(blocks):
     """Frees of queued pages, each from the middle of the queue."""
-    live, number = [], 0
+    live, numbers = [], itertools.count()
     while True:
-        while len(live) < blocks:
-            yield f"alloc 0\nsplitpmd 0 {number}\nunmap 0 {number} 0 1\n"
-            live.append(number)
-            number += 1
+        yield from fill(live, numbers, blocks)
         yield f"unmap 0 {live.pop(len(live) // 2)} 1 511\n"
 
 
