@@ -1,5 +1,5 @@
 //! What callers can conclude from the contracts of a cell with no proof of their own.
-ghost use Rattle.std.specs.Prelude.{◌≡◌, ◌≤◌, ◌++◌, [], ◌∷◌, IfOk, OnOk};
+ghost use Rattle.std.specs.Prelude.{◌≡◌, ◌≤◌, ◌++◌, [], ◌∷◌, Err, IfOk, OnOk};
 ghost use Rattle.thp_model.specs.History.{by};
 ghost use Rattle.thp_cell.specs.Views.{HasCaller, HasAll};
 
@@ -16,6 +16,7 @@ pub fn first_page(cell: &NodeCell, pass: &mut Pass, caller: u32) -> Result<(Page
     requires new { pass.old.front ≡ [] }
     ensures page { IfOk result (λ r. r.0 ≡ 0) }
     ensures count { IfOk result (λ r. r.1 ≡ 0) }
+    ensures never_busy { result ≡ Err CellFault.Busy → ⊥ }
 {
     let page = cell.alloc_page(pass, caller)?;
     let queued = cell.count(pass);

@@ -4,7 +4,9 @@ ghost use Rattle.thp_node.specs.Batches.{IsInFront};
 ghost use Rattle.thp_cell.specs.Views.{HasCaller};
 ghost use Rattle.thp_cell.specs.Calls.{at_front};
 
-use crate::steps::{cell_of, pin_page, queue_page, return_pages, take_pages, try_page};
+use crate::steps::{
+    cell_of, count_is, pin_page, queue_page, return_pages, scan_pages, take_pages, try_page,
+};
 use std::process::Abort;
 use thp_cell::{NodeCell, Pass};
 use thp_model::PageId;
@@ -37,16 +39,23 @@ fn try_128(rt: &impl Abort, cell: &NodeCell, pass: &mut Pass, batch: &mut Batch)
     try_page(rt, cell, pass, batch, Tried::Done);
 }
 
+// Takes the 128 pages, tries them all and puts them back.
+fn batch_of_128(rt: &impl Abort, cell: &NodeCell, pass: &mut Pass)
+    requires cell { pass.old.cell ≡ cell.now }
+    requires caller { HasCaller pass.old 0 }
+    ensures same { pass.new ≡ at_front pass.old pass.new.front }
+{
+    let mut batch = take_pages(rt, cell, pass, 0, 128, (PageId(0), PageId(127)));
+    count_is(rt, cell, pass, 0);
+    try_128(rt, cell, pass, &mut batch);
+    return_pages(rt, cell, pass, batch, 128);
+}
+
 #[test]
 fn batches_at_their_limit(rt: HostRuntime) {
     let (cell, mut pass) = cell_of(&rt, rt.alloc(), 128, 1);
     queue_128(&rt, &cell, &mut pass);
-    assert_eq!(rt; cell.count(&mut pass), 128);
-    let mut batch = take_pages(&rt, &cell, &mut pass, 0, 128);
-    assert_eq!(rt; batch.pages().len(), 128);
-    assert_eq!(rt; cell.count(&mut pass), 0);
-    try_128(&rt, &cell, &mut pass, &mut batch);
-    assert_eq!(rt; return_pages(&rt, &cell, &mut pass, batch), (128, 0));
+    batch_of_128(&rt, &cell, &mut pass);
     let reply = ScanReply {
         taken: 128,
         split: 0,
@@ -54,9 +63,9 @@ fn batches_at_their_limit(rt: HostRuntime) {
         back: 128,
         dropped: 0,
     };
-    assert_eq!(rt; cell.scan(&mut pass, 0, 128), Ok(reply));
-    assert_eq!(rt; cell.count(&mut pass), 128);
+    scan_pages(&rt, &cell, &mut pass, 0, 128, reply);
+    count_is(&rt, &cell, &mut pass, 128);
     let node = cell.finish(pass);
-    // four events queued and pinned each page, three the batch, and three the scan
+    // four events queued and pinned each page, three came of the batch, and three of the scan
     assert_eq!(rt; node.journal().len(), 1280);
 }

@@ -8,7 +8,7 @@ use std::alloc::Global;
 use std::process::Abort;
 use thp_cell::{CellFault, NodeCell, Pass};
 use thp_model::{Event, Outcome, PageId, Refusal, Shape, SubSet, What};
-use thp_node::{BackReply, Batch, Done, Node, Tried};
+use thp_node::{BackReply, Batch, Done, Node, ScanReply, Tried};
 
 // A cell over a node of order 9 with these blocks, and the pass that has all its callers.
 pub(crate) fn cell_of(rt: &impl Abort, alloc: Global, blocks: u32, callers: u32) -> (NodeCell, Pass)
@@ -53,6 +53,64 @@ pub(crate) fn is_allocation(event: &Event, caller: u32, page: PageId) -> bool {
     }
 }
 
+// Allocates the page of this number.
+pub(crate) fn allocate(rt: &impl Abort, cell: &NodeCell, pass: &mut Pass, caller: u32, page: PageId)
+    requires cell { pass.old.cell ≡ cell.now }
+    requires caller { HasCaller pass.old caller }
+    ensures same { pass.new ≡ at_front pass.old pass.new.front }
+    ensures batches { BatchesStay pass.old pass.new }
+{
+    assert_eq!(rt; cell.alloc_page(pass, caller), Ok(page));
+}
+
+// Splits the PMD mapping of a page.
+pub(crate) fn split_mapping(
+    rt: &impl Abort,
+    cell: &NodeCell,
+    pass: &mut Pass,
+    caller: u32,
+    page: PageId,
+)
+    requires cell { pass.old.cell ≡ cell.now }
+    requires caller { HasCaller pass.old caller }
+    ensures same { pass.new ≡ at_front pass.old pass.new.front }
+    ensures batches { BatchesStay pass.old pass.new }
+{
+    assert_eq!(rt; cell.split_pmd(pass, caller, page), Ok(()));
+}
+
+// Unmaps a range of a page, with this answer.
+pub(crate) fn unmap(
+    rt: &impl Abort,
+    cell: &NodeCell,
+    pass: &mut Pass,
+    caller: u32,
+    page: PageId,
+    first: u32,
+    count: u32,
+    answer: Done,
+)
+    requires cell { pass.old.cell ≡ cell.now }
+    requires caller { HasCaller pass.old caller }
+    ensures same { pass.new ≡ at_front pass.old pass.new.front }
+    ensures batches { BatchesStay pass.old pass.new }
+{
+    assert_eq!(rt;
+        cell.unmap_sub(pass, caller, page, first, count),
+        Ok(answer)
+    );
+}
+
+// Pins a page.
+pub(crate) fn pin_page(rt: &impl Abort, cell: &NodeCell, pass: &mut Pass, caller: u32, page: PageId)
+    requires cell { pass.old.cell ≡ cell.now }
+    requires caller { HasCaller pass.old caller }
+    ensures same { pass.new ≡ at_front pass.old pass.new.front }
+    ensures batches { BatchesStay pass.old pass.new }
+{
+    assert_eq!(rt; cell.pin(pass, caller, page), Ok(()));
+}
+
 // Allocates the page of this number, splits its PMD mapping and unmaps its first subpage, which queues it.
 pub(crate) fn queue_page(
     rt: &impl Abort,
@@ -66,44 +124,46 @@ pub(crate) fn queue_page(
     ensures same { pass.new ≡ at_front pass.old pass.new.front }
     ensures batches { BatchesStay pass.old pass.new }
 {
-    assert_eq!(rt; cell.alloc_page(pass, caller), Ok(page));
-    assert_eq!(rt; cell.split_pmd(pass, caller, page), Ok(()));
-    assert_eq!(rt; cell.unmap_sub(pass, caller, page, 0, 1), Ok(queued()));
+    allocate(rt, cell, pass, caller, page);
+    split_mapping(rt, cell, pass, caller, page);
+    unmap(rt, cell, pass, caller, page, 0, 1, queued());
 }
 
-// Pins a page.
-pub(crate) fn pin_page(rt: &impl Abort, cell: &NodeCell, pass: &mut Pass, caller: u32, page: PageId)
+// Looks at how many pages are queued.
+pub(crate) fn count_is(rt: &impl Abort, cell: &NodeCell, pass: &mut Pass, pages: u32)
     requires cell { pass.old.cell ≡ cell.now }
-    requires caller { HasCaller pass.old caller }
     ensures same { pass.new ≡ at_front pass.old pass.new.front }
     ensures batches { BatchesStay pass.old pass.new }
 {
-    assert_eq!(rt; cell.pin(pass, caller, page), Ok(()));
+    assert_eq!(rt; cell.count(pass), pages);
 }
 
-// Unmaps every subpage of a page but the first, after which the page is free.
-pub(crate) fn free_page(
+// Scans up to `n` pages, with this answer.
+pub(crate) fn scan_pages(
     rt: &impl Abort,
     cell: &NodeCell,
     pass: &mut Pass,
     caller: u32,
-    page: PageId,
+    n: u32,
+    answer: ScanReply,
 )
     requires cell { pass.old.cell ≡ cell.now }
     requires caller { HasCaller pass.old caller }
+    requires count { n ≤ 128 }
     ensures same { pass.new ≡ at_front pass.old pass.new.front }
-    ensures batches { BatchesStay pass.old pass.new }
+    ensures batches { OtherBatchesStay caller pass.old pass.new }
 {
-    assert_eq!(rt; cell.unmap_sub(pass, caller, page, 1, 511), Ok(freed()));
+    assert_eq!(rt; cell.scan(pass, caller, n), Ok(answer));
 }
 
-// Takes up to `n` pages, of which there is one at least.
+// Takes up to `n` pages, of which these are the first and the last.
 pub(crate) fn take_pages(
     rt: &impl Abort,
     cell: &NodeCell,
     pass: &mut Pass,
     caller: u32,
     n: u32,
+    ends: (PageId, PageId),
 ) -> Batch
     requires cell { pass.old.cell ≡ cell.now }
     requires caller { HasCaller pass.old caller }
@@ -114,7 +174,14 @@ pub(crate) fn take_pages(
     ensures batches { OtherBatchesStay caller pass.old pass.new }
 {
     match cell.take(pass, caller, n) {
-        Ok(batch) => batch,
+        Ok(batch) => {
+            let pages = batch.pages();
+            assert_eq!(rt;
+                (pages.first(), pages.last()),
+                (Some(&ends.0), Some(&ends.1))
+            );
+            batch
+        }
         Err(_) => panic!(rt; "a take was refused"),
     }
 }
@@ -138,13 +205,14 @@ pub(crate) fn try_page(
     assert_eq!(rt; cell.split_next(pass, batch), Ok(answer));
 }
 
-// Puts a batch back: how many pages returned, and how many were dropped.
+// Puts a batch back, of which so many pages return and none is dropped.
 pub(crate) fn return_pages(
     rt: &impl Abort,
     cell: &NodeCell,
     pass: &mut Pass,
     batch: Batch,
-) -> (u32, u32)
+    pages: u32,
+)
     requires cell { pass.old.cell ≡ cell.now }
     requires caller { HasCaller pass.old batch.caller }
     requires front { IsInFront pass.old.front batch }
@@ -152,7 +220,7 @@ pub(crate) fn return_pages(
     ensures batches { BatchesStay pass.old pass.new }
 {
     match cell.put_back(pass, batch) {
-        Ok(BackReply { back, dropped }) => (back, dropped),
+        Ok(BackReply { back, dropped }) => assert_eq!(rt; (back, dropped), (pages, 0)),
         Err(_) => panic!(rt; "a put-back was refused"),
     }
 }

@@ -4,9 +4,10 @@ ghost use Rattle.thp_cell.specs.Views.{HasCaller};
 ghost use Rattle.thp_cell.specs.Calls.{at_front};
 
 use crate::steps::{cell_of, is_allocation};
+use std::process::Abort;
 use std::thread;
 use thp_cell::{NodeCell, Pass};
-use thp_model::PageId;
+use thp_model::{Event, PageId};
 
 // Allocates until 20 pages were answered, or gives up after 50,000,000 calls.
 fn allocate_20(cell: &NodeCell, pass: Pass, caller: u32) -> (Pass, u32)
@@ -27,6 +28,15 @@ fn allocate_20(cell: &NodeCell, pass: Pass, caller: u32) -> (Pass, u32)
     (pass, pages)
 }
 
+// The events are 40 allocations, in the order of the pages' numbers, and 20 of them by caller 1.
+fn are_40_allocations(rt: &impl Abort, events: &[Event]) {
+    assert_eq!(rt; events.len(), 40);
+    assert_eq!(rt; events.iter().filter(|event| event.caller == 1).count(), 20);
+    for (number, event) in events.iter().enumerate() {
+        assert!(rt; is_allocation(event, event.caller, PageId(number as u64)));
+    }
+}
+
 #[test]
 fn two_threads_allocate(rt: HostRuntime) {
     let (cell, pass) = cell_of(&rt, rt.alloc(), 64, 2);
@@ -40,15 +50,5 @@ fn two_threads_allocate(rt: HostRuntime) {
     assert_eq!(rt; (pages_of_a, pages_of_b), (20, 20));
     let pass = cell.join(a, b);
     let node = cell.finish(pass);
-    assert_eq!(rt; node.journal().len(), 40);
-    assert_eq!(rt;
-        node.journal()
-            .iter()
-            .filter(|event| event.caller == 1)
-            .count(),
-        20
-    );
-    for (number, event) in node.journal().iter().enumerate() {
-        assert!(rt; is_allocation(event, event.caller, PageId(number as u64)));
-    }
+    are_40_allocations(&rt, node.journal());
 }
