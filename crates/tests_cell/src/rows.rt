@@ -1,7 +1,7 @@
 //! Worked rows on a shared node, with answers known beforehand.
-ghost use Rattle.std.specs.Prelude.{◌≡◌, ◌<◌};
+ghost use Rattle.std.specs.Prelude.{◌≡◌};
 ghost use Rattle.thp_node.specs.Batches.{IsInFront};
-ghost use Rattle.thp_cell.specs.Views.{HasCaller, HasAll};
+ghost use Rattle.thp_cell.specs.Views.{HasCaller};
 ghost use Rattle.thp_cell.specs.Calls.{at_front};
 
 use crate::steps::{
