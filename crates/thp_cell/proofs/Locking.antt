@@ -1,5 +1,5 @@
 -- The steps that end no hold keep the rule: the lock step, and the two loads.
-use Rattle.std.proofs.Common.{◌≡◌, inl, ℕ, ◌+◌, ◌*◌, ◌/◌, ◌<◌, Bool, true, false, List, [], ◌∷◌, set, get_or, length, refl, sym, ap, ◌∙◌, subst, arith, Option, Some, true≢false}
+use Rattle.std.proofs.Common.{◌≡◌, inl, ℕ, ◌+◌, ◌*◌, ◌/◌, ◌<◌, Bool, true, false, List, [], ◌∷◌, set, get_or, length, refl, sym, ap, ◌∙◌, subst, arith, true≢false}
 use Rattle.std.specs.Prelude.{bit_or, cond, sum_by}
 use Rattle.std.proofs.lemmas.List.Elements.{All-nil, All-weaker}
 use mathlib.Core.Logic.{dite}
@@ -11,12 +11,13 @@ use Rattle.thp_model.specs.declared.shape.Shape.{Shape}
 use Rattle.thp_model.specs.History.{History}
 use Rattle.thp_model.specs.Legal.{IsLegal}
 use Rattle.thp_model.specs.Places.{queue}
+use Rattle.thp_model.proofs.LegalSteps.{legal_front}
 use Rattle.thp_node.specs.NodeState.{NodeState}
 use Rattle.thp_cell.specs.declared.rule.OldFront.{OldFront}
 use Rattle.thp_cell.specs.declared.rule.Knows.{Knows}
-use Rattle.thp_cell.specs.Rule.{Since, holding, FitsOld, Fits, FitsSeat, Home, Kept}
+use Rattle.thp_cell.specs.Rule.{Since, AllBelow, holding, FitsOld, Fits, FitsSeat, Home, Kept}
 use Rattle.thp_cell.specs.Steps.{Sat, seen, Took, Locked, Counted, Looked}
-use Rattle.thp_cell.proofs.Fronts.{since_same, between}
+use Rattle.thp_cell.proofs.Fronts.{since_same, between, below_end}
 use Rattle.thp_cell.proofs.Sums.{sum_set, bit_set}
 use Rattle.thp_cell.proofs.Seating.{Cell, reseated, stays, nobody}
 
@@ -55,15 +56,16 @@ module _ (n : ℕ) (s : Shape) where
       let now : sum_by holding (set t.views id w) ≡ 1 = omega arith in
       let to : bit_or x 1 ≡ 2 * q + sum_by holding (set t.views id w) = omega arith in
       let mine : FitsSeat n s r.history w = subst (λ l. FitsSeat n s r.history (seen v true l)) (sym m.journal) (knows_all r.history v true was live) in
-      let took : Took (v, []) (w, (0, Some node) ∷ []) = record {
+      let took : Took (v, []) (w, (0, node) ∷ []) = record {
         node = node;
         now = refl;
         shape = m.shape ∙ sym was.shape;
         since = subst (Since v.first v.end v.front) (sym m.journal) was.since;
         legal = subst (λ (z : Shape × History). IsLegal z.0 z.1) (λ i. (sym was.shape i, sym m.journal i)) r.legal;
+        callers = subst (λ (z : ℕ × History). AllBelow z.0 z.1) (λ i. (sym was.callers i, sym m.journal i)) (below_end 0 n r.history r.callers);
       } in (
         w,
-        takes 0 (Some node),
+        takes 0 node,
         ap (λ l. get_elem? l 0) m.at_home,
         reseated n s t r id v w r.history (set t.words 0 (bit_or x 1)) (set t.homes 0 none) at (inl refl) refl refl live r.legal r.short
             (ap (λ l. set l 0 (bit_or x 1)) r.word ∙ ap (λ (y : ℕ). y ∷ []) to)
@@ -118,6 +120,7 @@ module _ (n : ℕ) (s : Shape) where
           now = refl;
           since = was.since;
           legal = subst (λ z. IsLegal z r.history) (sym was.shape) r.legal;
+          callers = subst (λ (k : ℕ). AllBelow k r.history) (sym was.callers) (below_end 0 n r.history r.callers);
           count = half;
           short = omega arith;
         },
@@ -146,18 +149,20 @@ module _ (n : ℕ) (s : Shape) where
           now = refl;
           both = All-weaker (FitsOld r.history v) (λ (o : OldFront). Since o.first o.end o.front v.front)
               (λ o p. between o.first o.end o.front v.front r.history v.first v.end p.shorter p.since was.since) v.old_fronts was.old_fronts;
+          inside = let in_n = was.inside in let all = was.callers in omega arith;
+          legal = subst (λ z. IsLegal z v.front) (sym was.shape) (legal_front s v.front was.since.others (subst (IsLegal s) was.since.goes_on r.legal));
         },
       )
 
 -- the same at a seat that is known by its parts
 pub locks_at : (n : ℕ) (s : Shape) (slots id : ℕ) (m : Sat) → m.1 ≡ [] → m.0.has_node ≡ false → m.0.first < m.0.end → m.0.old_fronts ≡ [] → Allows (Kept n s) slots id m 0 (λ x. bit_or x 1) (Locked (step slots 0 1 0 none) m)
 locks_at n s slots id m e free live clean =
-    subst (λ (l : List (ℕ × Option NodeState)). Allows (Kept n s) slots id (m.0, l) 0 (λ x. bit_or x 1) (Locked (step slots 0 1 0 none) (m.0, l))) (sym e) (locks n s slots id m.0 free live clean)
+    subst (λ (l : List (ℕ × NodeState)). Allows (Kept n s) slots id (m.0, l) 0 (λ x. bit_or x 1) (Locked (step slots 0 1 0 none) (m.0, l))) (sym e) (locks n s slots id m.0 free live clean)
 
 pub counts_at : (n : ℕ) (s : Shape) (slots id : ℕ) (m : Sat) → m.1 ≡ [] → m.0.has_node ≡ false → m.0.first < m.0.end → Allows (Kept n s) slots id m 0 (λ x. x) (Counted (step slots 0 0 0 none) m)
 counts_at n s slots id m e free live =
-    subst (λ (l : List (ℕ × Option NodeState)). Allows (Kept n s) slots id (m.0, l) 0 (λ x. x) (Counted (step slots 0 0 0 none) (m.0, l))) (sym e) (counts n s slots id m.0 free live)
+    subst (λ (l : List (ℕ × NodeState)). Allows (Kept n s) slots id (m.0, l) 0 (λ x. x) (Counted (step slots 0 0 0 none) (m.0, l))) (sym e) (counts n s slots id m.0 free live)
 
 pub looks_at : (n : ℕ) (s : Shape) (slots id : ℕ) (m : Sat) → m.1 ≡ [] → m.0.has_node ≡ false → m.0.first < m.0.end → Allows (Kept n s) slots id m 0 (λ x. x) (Looked (step slots 0 0 0 none) m)
 looks_at n s slots id m e free live =
-    subst (λ (l : List (ℕ × Option NodeState)). Allows (Kept n s) slots id (m.0, l) 0 (λ x. x) (Looked (step slots 0 0 0 none) (m.0, l))) (sym e) (looks n s slots id m.0 free live)
+    subst (λ (l : List (ℕ × NodeState)). Allows (Kept n s) slots id (m.0, l) 0 (λ x. x) (Looked (step slots 0 0 0 none) (m.0, l))) (sym e) (looks n s slots id m.0 free live)

@@ -1,5 +1,5 @@
 -- The store that ends a hold keeps the rule: the node is in the slot again, with the events of the hold.
-use Rattle.std.proofs.Common.{◌≡◌, inr, ℕ, ◌*◌, ◌^◌, ◌<◌, true, false, List, [], ◌∷◌, set, length, refl, sym, ap, ◌∙◌, subst, arith, Option, Some, None, true≢false}
+use Rattle.std.proofs.Common.{◌≡◌, inr, ℕ, ◌*◌, ◌^◌, ◌<◌, ◌≤◌, true, false, List, [], ◌∷◌, set, length, refl, sym, ap, ◌∙◌, subst, arith, true≢false}
 use Rattle.std.specs.Prelude.{cond, sum_by}
 use Rattle.std.proofs.lemmas.List.Elements.{All-nil}
 use mathlib.Core.Option.{some, none}
@@ -10,22 +10,22 @@ use Rattle.thp_model.specs.Places.{queue}
 use Rattle.thp_node.specs.NodeState.{NodeState}
 use Rattle.thp_cell.specs.declared.rule.Knows.{Knows}
 use Rattle.thp_cell.specs.Rule.{Adds, holding, Kept}
+use Rattle.thp_cell.specs.Seats.{Place, IsFree, IsLent, HasSlot}
 use Rattle.thp_cell.specs.Steps.{Sat, seen, Stored}
 use Rattle.thp_cell.proofs.Fronts.{since_same}
 use Rattle.thp_cell.proofs.Sums.{sum_set, share_of_one}
 use Rattle.thp_cell.proofs.Seating.{reseated}
 
 -- a slot's node is the one that was put there
-same_node : (x y : NodeState) → ◌≡◌ {A = List (ℕ × Option NodeState)} ((0, Some x) ∷ []) ((0, Some y) ∷ []) → x ≡ y
+pub same_node : (x y : NodeState) → ◌≡◌ {A = List (ℕ × NodeState)} ((0, x) ∷ []) ((0, y) ∷ []) → x ≡ y
 same_node x y e =
-    let p : ◌≡◌ {A = ℕ × Option NodeState} (0, Some x) (0, Some y) = cc in
-    let q : ◌≡◌ {A = Option NodeState} (Some x) (Some y) = ap (λ (z : ℕ × Option NodeState). z.1) p in
-    cc
+    let p : ◌≡◌ {A = ℕ × NodeState} (0, x) (0, y) = cc in
+    ap (λ (z : ℕ × NodeState). z.1) p
 
 module _ (n : ℕ) (s : Shape) where
   stores : (slots id : ℕ) (v : Knows) (node : NodeState) (new : ℕ) → v.has_node ≡ true → v.first < v.end → node.shape ≡ v.shape → IsLegal node.shape node.journal → length (queue node.journal) < 2 ^ 32
       → new ≡ 2 * length (queue node.journal) → Adds v.first v.end v.front node.journal
-      → Allows (Kept n s) slots id (v, (0, Some node) ∷ []) 0 (λ _. new) (λ _. Stored (step slots 0 new 0 none) (v, (0, Some node) ∷ []) new)
+      → Allows (Kept n s) slots id (v, (0, node) ∷ []) 0 (λ _. new) (λ _. Stored (step slots 0 new 0 none) (v, (0, node) ∷ []) new)
   stores slots id v node new mine live shape legal short is adds t r wide at small =
       let was = (r.seats id v at).knows live in
       let few = r.home.one_at_most in
@@ -39,12 +39,12 @@ module _ (n : ℕ) (s : Shape) where
         w,
         gives,
         tt,
-        reseated n s t r id v w node.journal (set t.words 0 new) (set t.homes 0 (some (Some node))) at (inr (mine, subst (λ l. Adds v.first v.end l node.journal) (was.at_node mine) adds)) refl refl live
+        reseated n s t r id v w node.journal (set t.words 0 new) (set t.homes 0 (some node)) at (inr (mine, subst (λ l. Adds v.first v.end l node.journal) (was.at_node mine) adds)) refl refl live
             (subst (λ z. IsLegal z node.journal) shape' legal) short
             (ap (λ l. set l 0 new) r.word ∙ ap (λ (y : ℕ). y ∷ []) (omega arith))
             record {
               one_at_most = omega arith;
-              in_slot = λ _. record { node = node; at_home = ap (λ l. set l 0 (some (Some node))) (r.home.out out); shape = shape'; journal = refl };
+              in_slot = λ _. record { node = node; at_home = ap (λ l. set l 0 (some node)) (r.home.out out); shape = shape'; journal = refl };
               out = λ one_now. absurd (omega arith);
             }
             record {
@@ -61,9 +61,28 @@ module _ (n : ℕ) (s : Shape) where
         λ other e. ap (λ (x : NodeState). (seen v false x.journal, [])) (same_node node other e),
       )
 
-  -- the same, of the seat m' into whose slot the node was put at the seat m
-  pub puts : (slots id : ℕ) (m m' : Sat) (node : NodeState) (new : ℕ) → m' ≡ (m.0, (0, Some node) ∷ rest m.1) → m.1 ≡ (0, None) ∷ [] → m.0.has_node ≡ true → m.0.first < m.0.end → node.shape ≡ m.0.shape
-      → IsLegal node.shape node.journal → Adds m.0.first m.0.end m.0.front node.journal → length (queue node.journal) < 2 ^ 32 → new ≡ 2 * length (queue node.journal)
-      → Allows (Kept n s) slots id m' 0 (λ _. new) (λ _. Stored (step slots 0 new 0 none) m' new)
-  puts slots id m m' node new is out mine live shape legal adds short word = subst (λ (x : Sat). Allows (Kept n s) slots id x 0 (λ _. new) (λ _. Stored (step slots 0 new 0 none) x new))
-      (ap (λ l. (m.0, (0, Some node) ∷ rest l)) (sym out) ∙ sym is) (stores slots id m.0 node new mine live shape legal short word adds)
+  -- the same, of a seat that is known by its parts: the node y is what its slot was read to have
+  pub stores_at : (slots id : ℕ) (m : Sat) (node y : NodeState) (new : ℕ) → m.1 ≡ (0, node) ∷ [] → m.1 ≡ (0, y) ∷ [] → m.0.has_node ≡ true → m.0.first < m.0.end → node.shape ≡ m.0.shape
+      → IsLegal node.shape node.journal → Adds m.0.first m.0.end m.0.front node.journal → length (queue y.journal) < 2 ^ 32 → new ≡ 2 * length (queue y.journal)
+      → Allows (Kept n s) slots id (m.0, (0, y) ∷ rest m.1) 0 (λ _. new) (λ _. Stored (step slots 0 new 0 none) (m.0, (0, y) ∷ rest m.1) new)
+  stores_at slots id m node y new out read mine live shape legal adds short word =
+      let none_left : rest m.1 ≡ [] = ap rest out in
+      let same : node ≡ y = same_node node y (sym out ∙ read) in
+      subst (λ (l : List (ℕ × NodeState)). Allows (Kept n s) slots id (m.0, (0, y) ∷ l) 0 (λ _. new) (λ _. Stored (step slots 0 new 0 none) (m.0, (0, y) ∷ l) new)) (sym none_left)
+      (subst (λ (z : NodeState). length (queue z.journal) < 2 ^ 32 → new ≡ 2 * length (queue z.journal) → Allows (Kept n s) slots id (m.0, (0, z) ∷ []) 0 (λ _. new) (λ _. Stored (step slots 0 new 0 none) (m.0, (0, z) ∷ []) new)) same
+      (λ few is. stores slots id m.0 node new mine live shape legal few is adds) short word)
+
+-- the seat is free after the store
+pub freed : (s u : Place) (lent : IsLent s) → u.me ≡ (seen s.me.0 false lent.node.journal, []) → IsFree u
+freed s u lent e = record {
+  callers = subst (λ (m : Sat). m.0.first < m.0.end) (sym e) lent.callers;
+  inside = subst (λ (m : Sat). m.0.end ≤ m.0.callers) (sym e) lent.inside;
+  no_node = ap (λ (m : Sat). m.0.has_node) e;
+  no_old_fronts = ap (λ (m : Sat). m.0.old_fronts) e;
+  no_slot = ap (λ (m : Sat). m.1) e;
+  legal = subst (λ (m : Sat). IsLegal m.0.shape m.0.front) (sym e) (subst (λ z. IsLegal z lent.node.journal) lent.shape lent.legal);
+}
+
+-- what the lending of a slot asks of the seat that has it
+pub may_lend : (s : Place) → HasSlot s → (old : NodeState) × (s.me.1 ≡ (0, old) ∷ rest s.me.1)
+may_lend s has = (has.node, has.slot ∙ ap (λ (l : List (ℕ × NodeState)). (0, has.node) ∷ rest l) (sym has.slot))

@@ -9,7 +9,7 @@ use Rattle.thp_model.specs.Legal.{IsLegal}
 use Rattle.thp_model.specs.Counts.{is_live}
 use Rattle.thp_model.specs.Places.{flight}
 use Rattle.thp_node.specs.Batches.{BatchState, IsInFront}
-use Rattle.thp_cell.specs.Rule.{Since}
+use Rattle.thp_cell.specs.Rule.{Since, AllBelow}
 use Rattle.thp_cell.specs.Views.{PassState, HasCaller, HasAll, part}
 use Rattle.thp_cell.specs.declared.fault.CellFault.{CellFault}
 use Rattle.thp_cell.specs.declared.fault.CellFault.TheVariants as fault
@@ -34,10 +34,13 @@ BatchesStay p q = (b : BatchState) → HasCaller p b.caller → IsInFront p.fron
 abbrev pub OtherBatchesStay : ℕ → PassState → PassState → Type 0
 OtherBatchesStay c p q = (b : BatchState) → HasCaller p b.caller → b.caller ≢ c → IsInFront p.front b → IsInFront q.front b
 
--- the front went on with events of callers that aren't the pass's alone, and is legal; no part changed
+-- the front went on with events of callers that aren't the pass's alone, and is legal; no part changed. No event has a
+-- caller beyond the cell's, so the front of a pass that has all callers stayed
 pub record Follows (p q : PassState) : Type 0 where
   pub same : q ≡ at_front p q.front
   pub others : Since p.first p.end p.front q.front
+  pub callers : AllBelow p.callers q.front
+  pub alone : HasAll p → q.front ≡ p.front
   pub legal : IsLegal p.shape q.front
   pub parts : PartsStay p q
   pub flights : FlightsLast p q.front
@@ -45,13 +48,17 @@ pub record Follows (p q : PassState) : Type 0 where
 
 -- A call of caller c found the node with the journal `found`: the front of the pass, and then events of callers that
 -- aren't the pass's alone. It recorded its own events, all of them caller c's, and the front is now `found` and these.
--- The part of c grew by them, and no other part changed. `Says` is what the call says of `found` and its own events.
+-- The part of c grew by them, and no other part changed. No event has a caller beyond the cell's, so a pass that has all
+-- callers found its front. `Says` is what the call says of `found` and its own events.
 pub record Called (p q : PassState) (c : ℕ) (Says : History → List Event → Type 0) : Type 0 where
   pub found : History
   pub own : List Event
   pub others : Since p.first p.end p.front found
+  pub callers_found : AllBelow p.callers found
+  pub alone : HasAll p → found ≡ p.front
   pub flights : FlightsLast p found
   pub front : q.front ≡ found ++ own
+  pub callers : AllBelow p.callers q.front
   pub legal : IsLegal p.shape q.front
   pub by_caller : All (λ e. e.caller ≡ c) own
   pub grown : part q c ≡ part p c ++ own

@@ -1,5 +1,5 @@
 -- The running rule of a cell: what holds of its word, its slot and its seats between any two atomic steps.
-use Rattle.std.specs.Prelude.{◌≡◌, ℕ, ◌+◌, ◌*◌, ◌^◌, ◌<◌, ◌≤◌, true, false, ◌&&◌, nat_lt, nat_le, cond, List, [], ◌∷◌, ◌++◌, length, All, Option, Some, sum_by}
+use Rattle.std.specs.Prelude.{◌≡◌, ℕ, ◌+◌, ◌*◌, ◌^◌, ◌<◌, ◌≤◌, true, false, ◌&&◌, nat_lt, nat_le, cond, List, [], ◌∷◌, ◌++◌, length, All, sum_by}
 use mathlib.Core.Option.{Option as Maybe, some, none}
 use lib.ListN.{get_elem?}
 use Rattle.atomic_table.specs.Table.{State}
@@ -28,6 +28,10 @@ OnlyOf first end es = All (IsOwn first end) es
 abbrev pub NoneOf : ℕ → ℕ → List Event → Type 0
 NoneOf first end es = All (IsOther first end) es
 
+-- every event is of a caller below n
+abbrev pub AllBelow : ℕ → List Event → Type 0
+AllBelow n es = All (λ e. e.caller < n) es
+
 -- the history is the front, and then events of other callers alone
 pub record Since (first end : ℕ) (front h : History) : Type 0 where
   pub others : List Event
@@ -40,7 +44,7 @@ pub record Adds (first end : ℕ) (front h : History) : Type 0 where
   pub goes_on : h ≡ front ++ own
   pub by_own : OnlyOf first end own
 
--- 1 where the seat has the node out of the slot
+-- 1 where the seat has the slot, and the node in it
 abbrev pub holding : Knows → ℕ
 holding v = cond v.has_node 1 0
 
@@ -74,14 +78,14 @@ pub record FitsSeat (n : ℕ) (s : Shape) (h : History) (v : Knows) : Type 0 whe
   pub knows : v.first < v.end → Fits n s h v
 
 -- the slot has a node of this shape and this journal
-pub record HasNode (s : Shape) (h : History) (homes : List (Maybe (Option NodeState))) : Type 0 where
+pub record HasNode (s : Shape) (h : History) (homes : List (Maybe NodeState)) : Type 0 where
   pub node : NodeState
-  pub at_home : homes ≡ some (Some node) ∷ []
+  pub at_home : homes ≡ some node ∷ []
   pub shape : node.shape ≡ s
   pub journal : node.journal ≡ h
 
--- while no seat has the node the slot has it, and while one has it the slot is out
-pub record Home (bit : ℕ) (s : Shape) (h : History) (homes : List (Maybe (Option NodeState))) : Type 0 where
+-- while no seat has the node it lies in the slot at home, and while one has it the slot is with that seat
+pub record Home (bit : ℕ) (s : Shape) (h : History) (homes : List (Maybe NodeState)) : Type 0 where
   pub one_at_most : bit ≤ 1
   pub in_slot : bit ≡ 0 → HasNode s h homes
   pub out : bit ≡ 1 → homes ≡ none ∷ []
@@ -89,7 +93,7 @@ pub record Home (bit : ℕ) (s : Shape) (h : History) (homes : List (Maybe (Opti
 -- There is one legal history of the callers below n. The word is twice the length of its queue and the lock bit, which is
 -- set exactly while one seat has the node. The front of each seat begins the history, which goes on with events of other
 -- callers alone; so each caller's part is the same in both. Each caller stands in one seat.
-pub record Kept (n : ℕ) (s : Shape) (t : State (Option NodeState) Knows) : Type 0 where
+pub record Kept (n : ℕ) (s : Shape) (t : State NodeState Knows) : Type 0 where
   pub history : History
   pub legal : IsLegal s history
   pub callers : OnlyOf 0 n history

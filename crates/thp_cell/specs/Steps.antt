@@ -1,7 +1,7 @@
 -- What each kind of atomic step tells the seat that makes it. There are eight kinds: the making of the table and its first
 -- seat (`root`), the split of a seat, the join of two, the lock step that finds the bit clear or set, the store that ends a
 -- hold, the load after a join, and the load of a count.
-use Rattle.std.specs.Prelude.{◌≡◌, ◌≢◌, ℕ, ◌/◌, ◌%◌, ◌^◌, ◌<◌, Bool, true, false, nat_le, cond, [], ◌∷◌, length, All, Option, Some}
+use Rattle.std.specs.Prelude.{◌≡◌, ◌≢◌, ℕ, ◌/◌, ◌%◌, ◌^◌, ◌<◌, ◌≤◌, Bool, true, false, nat_le, cond, [], ◌∷◌, length, All}
 use Rattle.atomic_table.specs.Table.{Me, Step}
 use Rattle.thp_model.specs.History.{History}
 use Rattle.thp_model.specs.Legal.{IsLegal}
@@ -9,14 +9,14 @@ use Rattle.thp_model.specs.Places.{queue}
 use Rattle.thp_node.specs.NodeState.{NodeState}
 use Rattle.thp_cell.specs.declared.rule.OldFront.{OldFront}
 use Rattle.thp_cell.specs.declared.rule.Knows.{Knows}
-use Rattle.thp_cell.specs.Rule.{Since}
+use Rattle.thp_cell.specs.Rule.{Since, AllBelow}
 
 -- what a seat knows, and the slot that it may have
 abbrev pub Sat : Type 0
-Sat = Me (Option NodeState) Knows
+Sat = Me NodeState Knows
 
 abbrev pub Told : Type 0
-Told = Step (Option NodeState)
+Told = Step NodeState
 
 -- the seat once it has seen the history h
 abbrev pub seen : Knows → Bool → History → Knows
@@ -30,10 +30,11 @@ pub record IsWhole (v : Knows) : Type 0 where
 -- the seat has the slot, with the node whose journal is its new front
 pub record Took (m m' : Sat) : Type 0 where
   pub node : NodeState
-  pub now : m' ≡ (seen m.0 true node.journal, (0, Some node) ∷ [])
+  pub now : m' ≡ (seen m.0 true node.journal, (0, node) ∷ [])
   pub shape : node.shape ≡ m.0.shape
   pub since : Since m.0.first m.0.end m.0.front node.journal
   pub legal : IsLegal m.0.shape node.journal
+  pub callers : AllBelow m.0.callers node.journal
 
 -- nothing changed; another seat has the node
 pub record WasBusy (m m' : Sat) : Type 0 where
@@ -47,7 +48,7 @@ pub record Locked (st : Told) (m : Sat) (found : ℕ) (m' : Sat) : Type 0 where
 
 -- the store that ends a hold: the front is the journal of the node that lies in the slot
 abbrev pub Stored : Told → Sat → ℕ → Sat → Type 0
-Stored st m word m' = (node : NodeState) → m.1 ≡ (0, Some node) ∷ [] → m' ≡ (seen m.0 false node.journal, [])
+Stored st m word m' = (node : NodeState) → m.1 ≡ (0, node) ∷ [] → m' ≡ (seen m.0 false node.journal, [])
 
 -- the load of a count
 pub record Counted (st : Told) (m : Sat) (found : ℕ) (m' : Sat) : Type 0 where
@@ -55,13 +56,16 @@ pub record Counted (st : Told) (m : Sat) (found : ℕ) (m' : Sat) : Type 0 where
   pub now : m' ≡ (seen m.0 false front, m.1)
   pub since : Since m.0.first m.0.end m.0.front front
   pub legal : IsLegal m.0.shape front
+  pub callers : AllBelow m.0.callers front
   pub count : found / 2 ≡ length (queue front)
   pub short : found / 2 < 2 ^ 32
 
--- the load after a join: the front goes on from both old fronts, which are kept no longer
+-- the load after a join: the front goes on from both old fronts, which are kept no longer, and the callers are the cell's
 pub record Looked (st : Told) (m : Sat) (found : ℕ) (m' : Sat) : Type 0 where
   pub now : m' ≡ (seen m.0 false m.0.front, m.1)
   pub both : All (λ (o : OldFront). Since o.first o.end o.front m.0.front) m.0.old_fronts
+  pub inside : m.0.end ≤ m.0.callers
+  pub legal : IsLegal m.0.shape m.0.front
 
 -- the two parts of a split
 abbrev pub left_of : ℕ → Knows → Knows

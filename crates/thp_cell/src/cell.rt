@@ -1,11 +1,11 @@
 //! A node that threads share: how it is made, held, split among threads, and taken apart.
-ghost use Rattle.std.specs.Prelude.{◌≡◌, ℕ, ◌<◌, ◌≤◌, ◌⊎◌, ◌↔◌, [], ◌∷◌, length, true, false, None, Some, Err, All, IfOk, IfErr, IfSome, IfNone};
+ghost use Rattle.std.specs.Prelude.{◌≡◌, ℕ, ◌<◌, ◌≤◌, ◌⊎◌, ◌↔◌, [], ◌∷◌, length, true, false, Err, All, IfOk, IfErr};
 ghost use Rattle.thp_model.specs.History.{events_of};
 ghost use Rattle.thp_model.specs.Legal.{IsLegal};
 ghost use Rattle.thp_model.specs.Places.{queue};
-ghost use Rattle.thp_node.specs.JournalLaws.{StandsOnce, TakesOldest, LeavesFreedAlone, NothingEnters, HasFramesOnce};
-ghost use Rattle.thp_cell.specs.Views.{HasAll, part};
-ghost use Rattle.thp_cell.specs.Calls.{Follows, PartsStay, IsBusy, IsJoined, below, from};
+ghost use Rattle.thp_node.specs.JournalLaws.{StandsOnce, StandsWhole, TakesOldest, LeavesFreedAlone, NothingEnters, HasFramesOnce, KeepsFrames};
+ghost use Rattle.thp_cell.specs.Views.{HasCaller, HasAll, part};
+ghost use Rattle.thp_cell.specs.Calls.{Follows, PartsStay, BatchesStay, IsBusy, IsJoined, below, from};
 
 mod batch_calls;
 mod list_calls;
@@ -25,7 +25,7 @@ use thp_node::{NewFault, Node};
 /// The word is twice the length of the queue, and the lock bit. Contracts see which cell it is.
 #[derive(Drop)]
 pub struct NodeCell {
-    table: Table<Option<Node>, Knows, Key, CellRule, Global>,
+    table: Table<Node, Knows, Key, CellRule, Global>,
 }
 
 impl Model for NodeCell {
@@ -40,9 +40,11 @@ impl Model for NodeCell {
 }
 
 impl NodeCell {
-    ghost use Rattle.thp_cell.specs.Rule.{Since, Adds};
-    ghost use Rattle.thp_cell.specs.Steps.{seen, IsWhole, left_of, right_of};
-    ghost use Rattle.thp_cell.specs.Seats.{IsFree, IsOut};
+    ghost use Rattle.std.specs.Borrow.{sem};
+    ghost use Rattle.thp_node.specs.NodeState.{NodeState};
+    ghost use Rattle.thp_cell.specs.Steps.{seen, left_of, right_of, Took, WasBusy};
+    ghost use Rattle.thp_cell.specs.Seats.{IsFree, IsLent, HasSlot};
+    ghost use Rattle.thp_cell.specs.Lending.{lends_node};
 
     /// Makes a cell of a node, for a number of callers, and the pass that has them all. Their numbers are those below
     /// `callers`: 1 to 64 of them, which is looked at first. A refusal drops the node.
@@ -55,6 +57,7 @@ impl NodeCell {
         ensures few { IfOk result (λ r. (0 < callers) × (callers ≤ 64)) }
         ensures shape { IfOk result (λ r. r.1.shape ≡ node.shape) }
         ensures front { IfOk result (λ r. r.1.front ≡ node.journal) }
+        ensures legal { IfOk result (λ r. IsLegal r.1.shape r.1.front) }
         ensures parts { IfOk result (λ r. (c : ℕ) → part r.1 c ≡ events_of c node.journal) }
     {
         if callers == 0 || callers > 64 {
@@ -70,7 +73,7 @@ impl NodeCell {
         let Ok(mut slots) = Vec::with_capacity(alloc, 1) else {
             return Err(NewFault::OutOfMemory);
         };
-        slots.push_reserved(Some(node));
+        slots.push_reserved(node);
         match Table::new(alloc, &[word], slots, &key) {
             Ok((table, seat)) => Ok((
                 NodeCell { table },
@@ -91,6 +94,8 @@ impl NodeCell {
         requires before { at < pass.end }
         ensures left { result.0 ≡ below pass at }
         ensures right { result.1 ≡ from pass at }
+        ensures inside { pass.end ≤ pass.callers }
+        ensures legal { IsLegal pass.shape pass.front }
     {
         let Pass {
             first,
@@ -113,11 +118,7 @@ impl NodeCell {
     }
 
     // Divides the callers of a seat.
-    fn split_seat<C: Cut>(
-        &self,
-        seat: &mut Seat<Option<Node>, Knows>,
-        at: u32,
-    ) -> Seat<Option<Node>, Knows>
+    fn split_seat<C: Cut>(&self, seat: &mut Seat<Node, Knows>, at: u32) -> Seat<Node, Knows>
         requires cell { seat.old.table_id ≡ self.now }
         requires free { IsFree seat.old }
         requires cut { C.at ≡ at }
@@ -137,8 +138,14 @@ impl NodeCell {
         requires right_cell { right.cell ≡ self.now }
         requires adjacent { left.end ≡ right.first }
         ensures fronts { IsJoined left right result }
+        ensures inside { result.end ≤ result.callers }
+        ensures legal { IsLegal result.shape result.front }
+        ensures left_callers { (c : ℕ) → HasCaller left c → HasCaller result c }
+        ensures right_callers { (c : ℕ) → HasCaller right c → HasCaller result c }
         ensures left_parts { PartsStay left result }
         ensures right_parts { PartsStay right result }
+        ensures left_batches { BatchesStay left result }
+        ensures right_batches { BatchesStay right result }
     {
         let Pass {
             first,
@@ -167,8 +174,7 @@ impl NodeCell {
             end,
             mut seat,
         } = pass;
-        let found = self.table.shared.fetch_or::<Lock>(&mut seat, 0, 1);
-        if found % 2 == 0 {
+        if self.lock(&mut seat) {
             Ok(Hold { first, end, seat })
         } else {
             Err((Pass { first, end, seat }, Busy))
@@ -185,10 +191,7 @@ impl NodeCell {
             end,
             mut seat,
         } = hold;
-        let Some(node) = self.table.shared.exchange(&mut seat, 0, None) else {
-            unreachable!()
-        };
-        self.put_node(&mut seat, node);
+        self.unlock(&mut seat);
         Pass { first, end, seat }
     }
 
@@ -217,9 +220,11 @@ impl NodeCell {
         // the laws of every legal history that the headline tells, at this one
         ensures oldest { TakesOldest result.journal }
         ensures once { StandsOnce result.journal }
+        ensures whole { StandsWhole result.journal }
         ensures freed { LeavesFreedAlone result.journal }
         ensures closed { NothingEnters result.journal }
         ensures frames { HasFramesOnce result.shape result.journal }
+        ensures sum { KeepsFrames result.shape result.journal }
     {
         let NodeCell { table } = self;
         let Pass {
@@ -228,50 +233,43 @@ impl NodeCell {
             seat,
         } = pass;
         let mut closed = table.close_with(seat);
-        let slot = closed.take(0);
+        let node = closed.take(0);
         closed.free();
-        let Some(node) = slot else { unreachable!() };
         // the contract of a node's journal says the laws at it
         let _laws = node.journal();
         node
     }
 
-    // Takes the node out of its slot, where no other pass has it.
-    fn take_node(&self, seat: &mut Seat<Option<Node>, Knows>) -> Option<Node>
+    // The lock step: where no other pass has the node, the seat has the slot with it until `unlock`.
+    fn lock(&self, seat: &mut Seat<Node, Knows>) -> bool
         requires cell { seat.old.table_id ≡ self.now }
         requires free { IsFree seat.old }
         ensures same_cell { seat.new.table_id ≡ seat.old.table_id }
-        ensures same_seat { seat.new.id ≡ seat.old.id }
-        ensures now { IfSome result (λ node. seat.new.me ≡ (seen seat.old.me.0 true node.journal, (0, None) ∷ [])) }
-        ensures shape { IfSome result (λ node. node.shape ≡ seat.old.me.0.shape) }
-        ensures since { IfSome result (λ node. Since seat.old.me.0.first seat.old.me.0.end seat.old.me.0.front node.journal) }
-        ensures legal { IfSome result (λ node. IsLegal node.shape node.journal) }
-        ensures same { IfNone result (seat.new.me ≡ seat.old.me) }
-        ensures shared { IfNone result (IsWhole seat.old.me.0 → ⊥) }
+        ensures took { result ≡ true → Took seat.old.me seat.new.me }
+        ensures busy { result ≡ false → WasBusy seat.old.me seat.new.me }
     {
-        let shared = &self.table.shared;
-        let found = shared.fetch_or::<Lock>(seat, 0, 1);
-        if found % 2 == 0 {
-            shared.exchange(seat, 0, None)
-        } else {
-            None
-        }
+        self.table.shared.fetch_or::<Lock>(seat, 0, 1) % 2 == 0
     }
 
-    // Puts the node back into its slot, with the events of the hold, and lets the lock go.
-    fn put_node(&self, seat: &mut Seat<Option<Node>, Knows>, node: Node)
-        requires cell { seat.old.table_id ≡ self.now }
-        requires out { IsOut seat.old }
-        requires shape { node.shape ≡ seat.old.me.0.shape }
-        requires legal { IsLegal node.shape node.journal }
-        requires adds { Adds seat.old.me.0.first seat.old.me.0.end seat.old.me.0.front node.journal }
-        ensures same_cell { seat.new.table_id ≡ seat.old.table_id }
-        ensures same_seat { seat.new.id ≡ seat.old.id }
-        ensures now { seat.new.me ≡ (seen seat.old.me.0 false node.journal, []) }
+    // The node in the slot that the seat has, to be called in place. The seat stands first, since it is what lends.
+    fn node<'a>(seat: &'a mut Seat<Node, Knows>, cell: &'a NodeCell) -> &'a mut Node
+        requires cell { seat.old.table_id ≡ cell.now }
+        requires slot { HasSlot seat.old }
+        ensures* writes_back { sem 𝓛 (lends_node seat.entry result) }
+        ensures value { seat.old.me.1 ≡ (0, result.now) ∷ [] }
     {
-        let shared = &self.table.shared;
-        let word = 2 * u64::from(node.queue_len());
-        drop(shared.exchange(seat, 0, Some(node)));
-        shared.store::<Store>(seat, 0, word);
+        seat.slot_mut(&cell.table.shared, 0)
+    }
+
+    // Ends the loan: tells the word the length of the queue, and lets the lock go.
+    fn unlock(&self, seat: &mut Seat<Node, Knows>)
+        requires cell { seat.old.table_id ≡ self.now }
+        requires lent { IsLent seat.old }
+        ensures same_cell { seat.new.table_id ≡ seat.old.table_id }
+        ensures free { IsFree seat.new }
+        ensures now { (node : NodeState) → seat.old.me.1 ≡ (0, node) ∷ [] → seat.new.me ≡ (seen seat.old.me.0 false node.journal, []) }
+    {
+        let word = 2 * u64::from(Self::node(seat, self).queue_len());
+        self.table.shared.store::<Store>(seat, 0, word);
     }
 }

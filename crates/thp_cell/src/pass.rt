@@ -1,5 +1,6 @@
 //! What threads reach a node with.
-ghost use Rattle.std.specs.Prelude.{◌≡◌};
+ghost use Rattle.std.specs.Prelude.{◌≡◌, ◌<◌, ◌≤◌};
+ghost use Rattle.thp_model.specs.Legal.{IsLegal};
 
 use crate::rule::Knows;
 use atomic_table::Seat;
@@ -14,7 +15,7 @@ pub struct Pass {
     // the callers: from `first` on and below `end`
     pub(crate) first: u32,
     pub(crate) end: u32,
-    pub(crate) seat: Seat<Option<Node>, Knows>,
+    pub(crate) seat: Seat<Node, Knows>,
 }
 
 impl Model for Pass {
@@ -33,6 +34,10 @@ impl Pass {
     pub fn callers(&self) -> (u32, u32)
         ensures first { result.0 ≡ self.now.first }
         ensures end { result.1 ≡ self.now.end }
+        // what is so of every pass
+        ensures some { self.now.first < self.now.end }
+        ensures inside { self.now.end ≤ self.now.callers }
+        ensures legal { IsLegal self.now.shape self.now.front }
     {
         (self.first, self.end)
     }
@@ -43,16 +48,16 @@ pub struct Hold {
     // the callers: from `first` on and below `end`
     pub(crate) first: u32,
     pub(crate) end: u32,
-    pub(crate) seat: Seat<Option<Node>, Knows>,
+    pub(crate) seat: Seat<Node, Knows>,
 }
 
 impl Model for Hold {
     ghost use Rattle.thp_cell.specs.Views.{PassState};
-    ghost use Rattle.thp_cell.specs.Seats.{pass_state, IsNumbered, IsHeld};
+    ghost use Rattle.thp_cell.specs.Seats.{pass_state, IsNumbered, HoldsNode};
 
     ghost Value = { PassState };
 
     ghost view = { λ h. pass_state h.seat };
 
-    ghost invariant = { λ h. IsNumbered h.first h.end h.seat × IsHeld h.seat };
+    ghost invariant = { λ h. IsNumbered h.first h.end h.seat × HoldsNode h.seat };
 }

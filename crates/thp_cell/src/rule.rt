@@ -25,7 +25,7 @@ pub struct Knows {
     /// The seat's own callers: from `first` on and below `end`. A seat with none is spent.
     pub first: u32,
     pub end: u32,
-    /// Whether the seat has the node out of the slot.
+    /// Whether the seat has the slot, and the node in it.
     pub has_node: bool,
     /// The history that the seat knows of.
     pub front: LinkedList<Event>,
@@ -43,7 +43,7 @@ pub struct Key {
 /// The rule of a cell.
 pub struct CellRule;
 
-impl TableRule<Option<Node>, Knows, Key> for CellRule {
+impl TableRule<Node, Knows, Key> for CellRule {
     ghost use Rattle.thp_cell.specs.Rule.{Kept, root};
 
     ghost holds = { λ key. Kept key.callers key.node.value.shape };
@@ -54,7 +54,7 @@ impl TableRule<Option<Node>, Knows, Key> for CellRule {
 /// The lock step: it finds the bit clear and takes the slot, or finds it set.
 pub struct Lock;
 
-impl Play<Option<Node>, Knows> for Lock {
+impl Play<Node, Knows> for Lock {
     ghost use Rattle.thp_cell.specs.Steps.{Locked};
 
     ghost then = { Locked };
@@ -63,7 +63,7 @@ impl Play<Option<Node>, Knows> for Lock {
 /// The store that ends a hold.
 pub struct Store;
 
-impl Play<Option<Node>, Knows> for Store {
+impl Play<Node, Knows> for Store {
     ghost use Rattle.thp_cell.specs.Steps.{Stored};
 
     ghost then = { Stored };
@@ -72,7 +72,7 @@ impl Play<Option<Node>, Knows> for Store {
 /// The load of a count.
 pub struct Count;
 
-impl Play<Option<Node>, Knows> for Count {
+impl Play<Node, Knows> for Count {
     ghost use Rattle.thp_cell.specs.Steps.{Counted};
 
     ghost then = { Counted };
@@ -81,7 +81,7 @@ impl Play<Option<Node>, Knows> for Count {
 /// The load after a join.
 pub struct Look;
 
-impl Play<Option<Node>, Knows> for Look {
+impl Play<Node, Knows> for Look {
     ghost use Rattle.thp_cell.specs.Steps.{Looked};
 
     ghost then = { Looked };

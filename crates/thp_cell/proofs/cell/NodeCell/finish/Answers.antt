@@ -1,5 +1,5 @@
 -- The node is in the slot at the end, and its journal is the pass's front.
-use Rattle.std.proofs.Common.{◌≡◌, ◌<◌, arith, subst, ap, sym, Option}
+use Rattle.std.proofs.Common.{◌≡◌, ◌<◌, arith, subst, ap, sym}
 use Rattle.std.specs.List.{All}
 use Rattle.std.proofs.lemmas.List.Elements.{All-weaker}
 use Rattle.thp_model.specs.declared.events.Event.{Event}
@@ -9,7 +9,7 @@ use Rattle.thp_cell.specs.Rule.{IsOwn}
 use Rattle.thp_cell.specs.Steps.{IsWhole}
 use Rattle.thp_cell.specs.Views.{PassState, HasAll}
 use Rattle.thp_cell.specs.Seats.{Place, pass_state}
-use Rattle.thp_cell.proofs.Ending.{Ended, EndsWith, ends, ended_node, ended_none}
+use Rattle.thp_cell.proofs.Ending.{EndsWith, ends}
 use Rattle.thp_cell.proofs.cell.NodeCell.finish.Goals as goal
 
 -- the node at the end, by the pass
@@ -29,20 +29,12 @@ ends_pass p s node is all e = subst (λ x. EndsPass x node) is record {
 is_whole : (p : PassState) (s : Place) → pass_state s ≡ p → HasAll p → IsWhole s.me.0
 is_whole p s is all = let whole = subst HasAll (sym is) all in record { from = whole.from; to = whole.to }
 
-pub unreachable-requires : goal.unreachable-requires
-unreachable-requires c =
-    let free = c.pass.invariant.1 in
-    let s = c.pass.inside.seat in
-    ended_none s.me.0 _ (ends _ _ _ s.me.0 _ _ _ free.no_node free.callers (is_whole _ s c.pass.view_is c.requires.all) c.close_with-closed.ensures.values.2 c.take-slot.ensures.value) c.in_default.not-Some
-
 pub returns : goal.returns
 returns c =
     let free = c.pass.invariant.1 in
     let s = c.pass.inside.seat in
-    let v = s.me.0 in
-    let ended = ends _ _ _ v _ _ _ free.no_node free.callers (is_whole _ s c.pass.view_is c.requires.all) c.close_with-closed.ensures.values.2 c.take-slot.ensures.value in
-    let t = ended_node v c.in-Some.node (subst (λ (o : Option NodeState). Ended v o) c.in-Some.is ended) in
-    let e = ends_pass c.args.pass s c.in-Some.node c.pass.view_is c.requires.all t in record {
+    let t = ends _ _ _ s.me.0 _ _ _ free.no_node free.callers (is_whole _ s c.pass.view_is c.requires.all) c.close_with-closed.ensures.values.2 c.take-node.ensures.value in
+    let e = ends_pass c.args.pass s c.take-node.result c.pass.view_is c.requires.all t in record {
       shape = e.shape;
       journal = e.journal;
       legal = t.legal;
@@ -50,7 +42,9 @@ returns c =
       callers = e.callers;
       oldest = c.journal-laws.ensures.oldest;
       once = c.journal-laws.ensures.once;
+      whole = c.journal-laws.ensures.whole;
       freed = c.journal-laws.ensures.freed;
       closed = c.journal-laws.ensures.closed;
       frames = c.journal-laws.ensures.frames;
+      sum = c.journal-laws.ensures.sum;
     }

@@ -1,9 +1,11 @@
 -- The join of two seats and the load after it keep the rule, and tell that both fronts begin the new one.
-use Rattle.std.proofs.Common.{rules, arith, ap, ◌∙◌, ◌≡◌}
+use Rattle.std.proofs.Common.{rules, arith, ap, subst, sym, ◌∙◌, ◌≡◌, ◌≤◌}
+use Rattle.thp_model.specs.Legal.{IsLegal}
 use Rattle.thp_cell.specs.Steps.{Sat}
+use Rattle.thp_cell.specs.Views.{PassState}
 use Rattle.thp_cell.specs.Seats.{pass_state}
 use Rattle.thp_cell.proofs.Locking.{looks_at}
-use Rattle.thp_cell.proofs.Passes.{joined_pass, joined_left, joined_right}
+use Rattle.thp_cell.proofs.Passes.{joined_pass, joined_left, joined_right, batches_stay_on}
 use Rattle.thp_cell.proofs.Splitting.{joins}
 use Rattle.thp_cell.proofs.cell.NodeCell.join.Goals as goal
 
@@ -28,9 +30,25 @@ load-requires c =
 -- what the load tells of the three passes
 pub returns : goal.returns
 returns c =
+    let p = pass_state c.left.inside.seat in
+    let q = pass_state c.right.inside.seat in
+    let r = pass_state c.load.new.seat in
     let j = joined_pass c.left.inside.seat c.right.inside.seat c.load.new.seat c.join_seat.new.seat.me _ c.join_seat.ensures.2 (c.load.ensures.0 ∙ c.join_seat.ensures.0) c.load.ensures.2.now c.load.ensures.2.both in
+    let legal : IsLegal r.shape r.front = subst (λ (m : Sat). IsLegal m.0.shape m.0.front) (sym c.load.ensures.2.now) c.load.ensures.2.legal in
+    let inside : r.end ≤ r.callers = subst (λ (m : Sat). m.0.end ≤ m.0.callers) (sym c.load.ensures.2.now) c.load.ensures.2.inside in
+    let first : r.first ≡ p.first = ap (λ (x : PassState). x.first) j.callers in
+    let end : r.end ≡ q.end = ap (λ (x : PassState). x.end) j.callers in
+    let mid : p.end ≡ q.first = search rules in
+    let some = c.left.invariant.1.callers in
+    let more = c.right.invariant.1.callers in
     rw (← c.left.view_is, ← c.right.view_is) record {
       fronts = j;
-      left_parts = joined_left (pass_state c.left.inside.seat) (pass_state c.right.inside.seat) (pass_state c.load.new.seat) j;
-      right_parts = joined_right (pass_state c.left.inside.seat) (pass_state c.right.inside.seat) (pass_state c.load.new.seat) j;
+      inside = inside;
+      legal = legal;
+      left_callers = λ k has. let a = has.from in let z = has.below in record { from = omega arith; below = omega arith };
+      right_callers = λ k has. let a = has.from in let z = has.below in record { from = omega arith; below = omega arith };
+      left_parts = joined_left p q r j;
+      right_parts = joined_right p q r j;
+      left_batches = batches_stay_on r.shape p r j.left legal;
+      right_batches = batches_stay_on r.shape q r j.right legal;
     }

@@ -1,0 +1,66 @@
+//! What callers can conclude from the contracts of a cell with no proof of their own.
+ghost use Rattle.std.specs.Prelude.{◌≡◌, ◌≤◌, ◌++◌, [], ◌∷◌, Err, IfOk, OnOk};
+ghost use Rattle.thp_model.specs.History.{by};
+ghost use Rattle.thp_cell.specs.Views.{HasCaller, HasAll};
+
+use thp_cell::{CellFault, NodeCell, Pass};
+use thp_model::{PageId, What};
+use thp_node::BackReply;
+
+/// The first page of a new cell, by the pass that has all callers, and how many pages are queued then.
+#[tactic(auto, unfolding(thp_model::specs::History::count_of, thp_model::specs::Places::queue))]
+pub fn first_page(cell: &NodeCell, pass: &mut Pass, caller: u32) -> Result<(PageId, u32), CellFault>
+    requires cell { pass.old.cell ≡ cell.now }
+    requires caller { HasCaller pass.old caller }
+    requires all { HasAll pass.old }
+    requires new { pass.old.front ≡ [] }
+    ensures page { IfOk result (λ r. r.0 ≡ 0) }
+    ensures count { IfOk result (λ r. r.1 ≡ 0) }
+    ensures never_busy { result ≡ Err CellFault.Busy → ⊥ }
+{
+    let page = cell.alloc_page(pass, caller)?;
+    let queued = cell.count(pass);
+    Ok((page, queued))
+}
+
+/// A pin by the pass that has all callers: its front is what it was, and that event.
+pub fn pin_alone(
+    cell: &NodeCell,
+    pass: &mut Pass,
+    caller: u32,
+    page: PageId,
+) -> Result<(), CellFault>
+    requires cell { pass.old.cell ≡ cell.now }
+    requires caller { HasCaller pass.old caller }
+    requires all { HasAll pass.old }
+    ensures { OnOk result (pass.new.front ≡ pass.old.front ++ by caller (What.Pin page) ∷ []) }
+{
+    cell.pin(pass, caller, page)
+}
+
+/// A batch that one of two neighbours took goes back through the pass that a join made of them.
+pub fn return_after_join(
+    cell: &NodeCell,
+    left: Pass,
+    right: Pass,
+    caller: u32,
+    n: u32,
+) -> (Pass, Result<BackReply, CellFault>)
+    requires left_cell { left.cell ≡ cell.now }
+    requires right_cell { right.cell ≡ cell.now }
+    requires adjacent { left.end ≡ right.first }
+    requires caller { HasCaller right caller }
+    requires count { n ≤ 128 }
+{
+    let mut right = right;
+    let taken = cell.take(&mut right, caller, n);
+    let mut pass = cell.join(left, right);
+    let reply = match taken {
+        Ok(batch) => match cell.put_back(&mut pass, batch) {
+            Ok(reply) => Ok(reply),
+            Err((_, fault)) => Err(fault),
+        },
+        Err(fault) => Err(fault),
+    };
+    (pass, reply)
+}

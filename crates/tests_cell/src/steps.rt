@@ -1,0 +1,226 @@
+//! Steps that the rows share. Each makes a few calls and says what it leaves of the pass, so that the rows stay short.
+ghost use Rattle.std.specs.Prelude.{◌≡◌, ◌≤◌};
+ghost use Rattle.thp_node.specs.Batches.{IsInFront};
+ghost use Rattle.thp_cell.specs.Views.{HasCaller, HasAll};
+ghost use Rattle.thp_cell.specs.Calls.{at_front, BatchesStay, OtherBatchesStay};
+
+use std::alloc::Global;
+use std::process::Abort;
+use thp_cell::{CellFault, NodeCell, Pass};
+use thp_model::{Event, Outcome, PageId, Refusal, Shape, SubSet, What};
+use thp_node::{BackReply, Batch, Done, Node, ScanReply, Tried};
+
+// A cell over a node of order 9 with these blocks, and the pass that has all its callers.
+pub(crate) fn cell_of(rt: &impl Abort, alloc: Global, blocks: u32, callers: u32) -> (NodeCell, Pass)
+    ensures cell { result.1.cell ≡ result.0 }
+    ensures all { HasAll result.1 }
+    ensures callers { result.1.callers ≡ callers }
+    ensures few { callers ≤ 64 }
+{
+    let node = Node::new(alloc, Shape { blocks, order: 9 }).expect(rt, "a node of this shape");
+    NodeCell::new(alloc, node, callers).expect(rt, "a cell of these callers")
+}
+
+pub(crate) fn done(outcome: Outcome, released: SubSet) -> Done {
+    Done { outcome, released }
+}
+
+pub(crate) fn queued() -> Done {
+    done(Outcome::Queued, SubSet::empty())
+}
+
+pub(crate) fn stays() -> Done {
+    done(Outcome::Stays, SubSet::empty())
+}
+
+// All frames of a page of order 9.
+pub(crate) fn freed() -> Done {
+    done(Outcome::Freed, SubSet::full(9))
+}
+
+pub(crate) fn refused<T>(refusal: Refusal) -> Result<T, CellFault> {
+    Err(CellFault::Refused(refusal))
+}
+
+// The event is the allocation of this page by this caller.
+pub(crate) fn is_allocation(event: &Event, caller: u32, page: PageId) -> bool {
+    match event.what {
+        What::Alloc {
+            page: allocated,
+            block: _,
+        } => event.caller == caller && allocated == page,
+        _ => false,
+    }
+}
+
+// Allocates the page of this number.
+pub(crate) fn allocate(rt: &impl Abort, cell: &NodeCell, pass: &mut Pass, caller: u32, page: PageId)
+    requires cell { pass.old.cell ≡ cell.now }
+    requires caller { HasCaller pass.old caller }
+    ensures same { pass.new ≡ at_front pass.old pass.new.front }
+    ensures batches { BatchesStay pass.old pass.new }
+{
+    assert_eq!(rt; cell.alloc_page(pass, caller), Ok(page));
+}
+
+// Splits the PMD mapping of a page.
+pub(crate) fn split_mapping(
+    rt: &impl Abort,
+    cell: &NodeCell,
+    pass: &mut Pass,
+    caller: u32,
+    page: PageId,
+)
+    requires cell { pass.old.cell ≡ cell.now }
+    requires caller { HasCaller pass.old caller }
+    ensures same { pass.new ≡ at_front pass.old pass.new.front }
+    ensures batches { BatchesStay pass.old pass.new }
+{
+    assert_eq!(rt; cell.split_pmd(pass, caller, page), Ok(()));
+}
+
+// Unmaps a range of a page, with this answer.
+pub(crate) fn unmap(
+    rt: &impl Abort,
+    cell: &NodeCell,
+    pass: &mut Pass,
+    caller: u32,
+    page: PageId,
+    first: u32,
+    count: u32,
+    answer: Done,
+)
+    requires cell { pass.old.cell ≡ cell.now }
+    requires caller { HasCaller pass.old caller }
+    ensures same { pass.new ≡ at_front pass.old pass.new.front }
+    ensures batches { BatchesStay pass.old pass.new }
+{
+    assert_eq!(rt;
+        cell.unmap_sub(pass, caller, page, first, count),
+        Ok(answer)
+    );
+}
+
+// Pins a page.
+pub(crate) fn pin_page(rt: &impl Abort, cell: &NodeCell, pass: &mut Pass, caller: u32, page: PageId)
+    requires cell { pass.old.cell ≡ cell.now }
+    requires caller { HasCaller pass.old caller }
+    ensures same { pass.new ≡ at_front pass.old pass.new.front }
+    ensures batches { BatchesStay pass.old pass.new }
+{
+    assert_eq!(rt; cell.pin(pass, caller, page), Ok(()));
+}
+
+// Allocates the page of this number, splits its PMD mapping and unmaps its first subpage, which queues it.
+pub(crate) fn queue_page(
+    rt: &impl Abort,
+    cell: &NodeCell,
+    pass: &mut Pass,
+    caller: u32,
+    page: PageId,
+)
+    requires cell { pass.old.cell ≡ cell.now }
+    requires caller { HasCaller pass.old caller }
+    ensures same { pass.new ≡ at_front pass.old pass.new.front }
+    ensures batches { BatchesStay pass.old pass.new }
+{
+    allocate(rt, cell, pass, caller, page);
+    split_mapping(rt, cell, pass, caller, page);
+    unmap(rt, cell, pass, caller, page, 0, 1, queued());
+}
+
+// Looks at how many pages are queued.
+pub(crate) fn count_is(rt: &impl Abort, cell: &NodeCell, pass: &mut Pass, pages: u32)
+    requires cell { pass.old.cell ≡ cell.now }
+    ensures same { pass.new ≡ at_front pass.old pass.new.front }
+    ensures batches { BatchesStay pass.old pass.new }
+{
+    assert_eq!(rt; cell.count(pass), pages);
+}
+
+// Scans up to `n` pages, with this answer.
+pub(crate) fn scan_pages(
+    rt: &impl Abort,
+    cell: &NodeCell,
+    pass: &mut Pass,
+    caller: u32,
+    n: u32,
+    answer: ScanReply,
+)
+    requires cell { pass.old.cell ≡ cell.now }
+    requires caller { HasCaller pass.old caller }
+    requires count { n ≤ 128 }
+    ensures same { pass.new ≡ at_front pass.old pass.new.front }
+    ensures batches { OtherBatchesStay caller pass.old pass.new }
+{
+    assert_eq!(rt; cell.scan(pass, caller, n), Ok(answer));
+}
+
+// Takes up to `n` pages, of which these are the first and the last.
+pub(crate) fn take_pages(
+    rt: &impl Abort,
+    cell: &NodeCell,
+    pass: &mut Pass,
+    caller: u32,
+    n: u32,
+    ends: (PageId, PageId),
+) -> Batch
+    requires cell { pass.old.cell ≡ cell.now }
+    requires caller { HasCaller pass.old caller }
+    requires count { n ≤ 128 }
+    ensures same { pass.new ≡ at_front pass.old pass.new.front }
+    ensures caller { result.caller ≡ caller }
+    ensures front { IsInFront pass.new.front result }
+    ensures batches { OtherBatchesStay caller pass.old pass.new }
+{
+    match cell.take(pass, caller, n) {
+        Ok(batch) => {
+            let pages = batch.pages();
+            assert_eq!(rt;
+                (pages.first(), pages.last()),
+                (Some(&ends.0), Some(&ends.1))
+            );
+            batch
+        }
+        Err(_) => panic!(rt; "a take was refused"),
+    }
+}
+
+// Tries the next page of a batch, with this answer.
+pub(crate) fn try_page(
+    rt: &impl Abort,
+    cell: &NodeCell,
+    pass: &mut Pass,
+    batch: &mut Batch,
+    answer: Tried,
+)
+    requires cell { pass.old.cell ≡ cell.now }
+    requires caller { HasCaller pass.old batch.old.caller }
+    requires front { IsInFront pass.old.front batch.old }
+    ensures same { pass.new ≡ at_front pass.old pass.new.front }
+    ensures caller { batch.new.caller ≡ batch.old.caller }
+    ensures front { IsInFront pass.new.front batch.new }
+    ensures batches { BatchesStay pass.old pass.new }
+{
+    assert_eq!(rt; cell.split_next(pass, batch), Ok(answer));
+}
+
+// Puts a batch back, of which so many pages return and none is dropped.
+pub(crate) fn return_pages(
+    rt: &impl Abort,
+    cell: &NodeCell,
+    pass: &mut Pass,
+    batch: Batch,
+    pages: u32,
+)
+    requires cell { pass.old.cell ≡ cell.now }
+    requires caller { HasCaller pass.old batch.caller }
+    requires front { IsInFront pass.old.front batch }
+    ensures same { pass.new ≡ at_front pass.old pass.new.front }
+    ensures batches { BatchesStay pass.old pass.new }
+{
+    match cell.put_back(pass, batch) {
+        Ok(BackReply { back, dropped }) => assert_eq!(rt; (back, dropped), (pages, 0)),
+        Err(_) => panic!(rt; "a put-back was refused"),
+    }
+}
