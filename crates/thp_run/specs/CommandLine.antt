@@ -7,8 +7,8 @@ use Rattle.clap.specs.declared.builder.action.ArgAction.TheVariants.{Set}
 use Rattle.clap.specs.declared.builder.value_parser.ValueParser.TheVariants.{Names, Signed}
 use Rattle.clap.specs.declared.error.Error.{Error}
 use Rattle.thp_run.specs.declared.line.Line.{Line}
-use Rattle.thp_run.specs.declared.settings.Report.{Report}
-use Rattle.thp_run.specs.declared.settings.Report.TheVariants.{Totals}
+use Rattle.thp_text.specs.declared.settings.Report.{Report}
+use Rattle.thp_text.specs.declared.settings.Report.TheVariants.{Totals}
 
 -- `--blocks BLOCKS`: a whole number from 1 to 4,096; 16 where the option isn't given
 abbrev pub blocks_rule : Rule

@@ -5,11 +5,11 @@ ghost use Rattle.clap.specs.declared.builder.value_parser.ValueParser.TheVariant
 ghost use Rattle.thp_run.specs.CommandLine.{blocks_rule, report_name, report_rule, FailsAsWords, HoldsWords, IsLineWithinLimits, WritesNumber};
 ghost use Rattle.thp_run.specs.OwnCommand.{IsOwnCommand};
 ghost use Rattle.thp_run.specs.Options.{HasValue, IsOption};
-ghost use Rattle.thp_run.specs.declared.settings.Report.{Report};
+ghost use Rattle.thp_text.specs.declared.settings.Report.{Report};
 
-use crate::settings::Report;
 use clap::{Arg, ArgAction, ArgMatches, Command, Error, value_parser};
 use std::alloc::{AllocError, Global};
+use thp_text::Report;
 
 /// What a command line asks for.
 #[derive(Clone, Copy, Debug)]
