@@ -7,3 +7,4 @@ pub mod CommandLineLaws
 pub mod StepLaws
 pub mod RunLaws
 pub mod OneNodeLaws
+pub mod OutcomeLaws

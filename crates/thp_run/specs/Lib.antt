@@ -12,3 +12,4 @@ pub mod Works
 pub mod NewNodes
 pub mod Programs
 pub mod OneNode
+pub mod Outcomes

@@ -27,7 +27,7 @@ pub enum TextKind {
 
 impl TextKind {
     /// The word that tells the kind on standard error.
-    fn word(self) -> &'static str
+    pub fn word(self) -> &'static str
         ensures { result.now ≡ kind_word self }
     {
         match self {
