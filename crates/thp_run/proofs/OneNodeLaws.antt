@@ -23,11 +23,11 @@ use Rattle.thp_node.specs.NodeState.{NodeState}
 use Rattle.thp_run.specs.declared.reply.Reply.{Reply}
 use Rattle.thp_run.specs.declared.reply.Reply.TheVariants as reply
 use Rattle.thp_run.specs.declared.reply.Reply.TheVariants.{Page, Unit as UnitReply}
-use Rattle.thp_run.specs.declared.script.Op.{Op}
-use Rattle.thp_run.specs.declared.script.Op.TheVariants.{Alloc, MapWhole, UnmapWhole, Map, Unmap, SplitPmd, Pin, Unpin, Close, Scan}
+use Rattle.thp_text.specs.declared.script.Op.{Op}
+use Rattle.thp_text.specs.declared.script.Op.TheVariants.{Alloc, MapWhole, UnmapWhole, Map, Unmap, SplitPmd, Pin, Unpin, Close, Scan}
 use Rattle.thp_run.specs.Answers.{Answer, Answers, Does, call_of}
 use Rattle.thp_run.specs.Fronts.{Moves, StepDone, Tells}
-use Rattle.thp_run.specs.declared.settings.Settings.{Settings}
+use Rattle.thp_text.specs.declared.settings.Settings.{Settings}
 use Rattle.thp_run.specs.NewNodes.{IsNew, shape_of}
 use Rattle.thp_run.specs.OneNode.{change_answer, fronts_of, only, unit_answer}
 

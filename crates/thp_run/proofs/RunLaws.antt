@@ -13,12 +13,12 @@ use Rattle.thp_model.specs.History.{History, events_of}
 use Rattle.thp_model.specs.Legal.{IsLegal}
 use Rattle.thp_model.proofs.LegalSteps.{legal_none}
 use Rattle.thp_model.proofs.ListPlaces.{get_below}
-use Rattle.thp_run.specs.declared.fault.ReadFault.{ReadFault}
-use Rattle.thp_run.specs.declared.fault.ReadFault.TheVariants as reading
+use Rattle.thp_text.specs.declared.fault.ReadFault.{ReadFault}
+use Rattle.thp_text.specs.declared.fault.ReadFault.TheVariants as reading
 use Rattle.thp_run.specs.declared.fault.RunFault.{RunFault}
 use Rattle.thp_run.specs.declared.fault.RunFault.TheVariants.{Write}
-use Rattle.thp_run.specs.declared.script.Script.{Script}
-use Rattle.thp_run.specs.declared.settings.Settings.{Settings}
+use Rattle.thp_text.specs.declared.script.Script.{Script}
+use Rattle.thp_text.specs.declared.settings.Settings.{Settings}
 use Rattle.thp_run.specs.Devices.{IsInputOf, WritesFront}
 use Rattle.thp_run.specs.Fronts.{Fronts}
 use Rattle.thp_run.specs.NewNodes.{IsNew, shape_of}
@@ -26,9 +26,9 @@ use Rattle.thp_run.specs.Programs.{Ends, IsReport, totals_report}
 use Rattle.thp_run.specs.Reports.{totals_of, totals_text}
 use Rattle.thp_run.specs.RunFaults.{run_fault}
 use Rattle.thp_run.specs.Runs.{Step, IsAfterSetup, IsRun, IsSection, IsStep, own_events}
-use Rattle.thp_run.specs.Scripts.{Fault, IsScriptFor, TellsFault, script_of}
+use Rattle.thp_text.specs.Scripts.{Fault, IsScriptFor, TellsFault, script_of}
 use Rattle.thp_run.specs.Works.{Worked}
-use Rattle.thp_run.proofs.ScriptLaws.{too_long}
+use Rattle.thp_text.proofs.ScriptLaws.{too_long}
 
 append-none : (es : History) → [] ++ es ≡ es
 append-none es = refl

@@ -16,8 +16,8 @@ use Rattle.thp_node.specs.Batches.{scan_reply}
 use Rattle.thp_run.specs.declared.reply.Reply.{Reply}
 use Rattle.thp_run.specs.declared.reply.Reply.TheVariants as reply
 use Rattle.thp_run.specs.declared.reply.Reply.TheVariants.{Page, Unit as UnitReply}
-use Rattle.thp_run.specs.declared.script.Op.{Op}
-use Rattle.thp_run.specs.declared.script.Op.TheVariants.{Alloc, MapWhole, UnmapWhole, Map, Unmap, SplitPmd, Pin, Unpin, Close, Scan}
+use Rattle.thp_text.specs.declared.script.Op.{Op}
+use Rattle.thp_text.specs.declared.script.Op.TheVariants.{Alloc, MapWhole, UnmapWhole, Map, Unmap, SplitPmd, Pin, Unpin, Close, Scan}
 
 -- what a command is answered: its reply, or why it was refused
 abbrev pub Answer : Type 0

@@ -6,7 +6,7 @@ use Rattle.thp_model.specs.declared.shape.Shape.{Shape}
 use Rattle.thp_model.specs.History.{History}
 use Rattle.thp_model.specs.Legal.{IsLegal}
 use Rattle.thp_model.specs.Refusals.{refusal}
-use Rattle.thp_run.specs.declared.script.Op.{Op}
+use Rattle.thp_text.specs.declared.script.Op.{Op}
 use Rattle.thp_run.specs.Answers.{Answer, Answers, call_of}
 
 -- how many nodes there are, the shape of each and its history so far, how many callers there are, and which of them the

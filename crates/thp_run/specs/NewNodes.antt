@@ -1,7 +1,7 @@
 -- The nodes that settings ask for.
 use Rattle.std.specs.Prelude.{◌≡◌, ◌<◌, ℕ, []}
 use Rattle.thp_model.specs.declared.shape.Shape.{Shape}
-use Rattle.thp_run.specs.declared.settings.Settings.{Settings}
+use Rattle.thp_text.specs.declared.settings.Settings.{Settings}
 use Rattle.thp_run.specs.Fronts.{Fronts}
 
 -- each node has the blocks that the settings say, and pages of order 9, as one PMD entry maps on x86-64

@@ -5,13 +5,13 @@ use Rattle.std.specs.Io.KnownBytes.{Keeps, Appends}
 use Rattle.thp_model.specs.History.{History}
 use Rattle.thp_run.specs.declared.fault.RunFault.{RunFault}
 use Rattle.thp_run.specs.declared.fault.RunFault.TheVariants.{Text, OutOfMemory, Read, Write}
-use Rattle.thp_run.specs.declared.script.Script.{Script}
-use Rattle.thp_run.specs.declared.settings.Settings.{Settings}
+use Rattle.thp_text.specs.declared.script.Script.{Script}
+use Rattle.thp_text.specs.declared.settings.Settings.{Settings}
 use Rattle.thp_run.specs.Devices.{WritesFront}
 use Rattle.thp_run.specs.NewNodes.{shape_of}
 use Rattle.thp_run.specs.Reports.{totals_of, totals_text}
 use Rattle.thp_run.specs.Runs.{IsRun}
-use Rattle.thp_run.specs.Scripts.{script_of}
+use Rattle.thp_text.specs.Scripts.{script_of}
 
 -- the report `totals` on the histories of the nodes
 unfoldable pub totals_report : Settings → (ℕ → History) → List ℕ

@@ -5,9 +5,9 @@ ghost use Rattle.thp_run.specs.Fronts.{Fronts};
 ghost use Rattle.thp_run.specs.NewNodes.{IsNew};
 
 use crate::report::NodeTotals;
-use crate::settings::Settings;
 use crate::steps::Steps;
 use std::alloc::{AllocError, Global};
+use thp_text::Settings;
 
 /// The nodes of a run, with all their callers.
 pub(crate) trait Nodes: Steps + Sized {

@@ -6,12 +6,11 @@ ghost use Rattle.thp_run.specs.OneNode.{unit_answer, change_answer};
 use crate::nodes::Nodes;
 use crate::reply::Reply;
 use crate::report::NodeTotals;
-use crate::script::Op;
-use crate::settings::Settings;
 use crate::steps::Steps;
 use std::alloc::{AllocError, Global};
 use thp_model::{Event, PageId, Refusal, Shape, What};
 use thp_node::{Done, NewFault, Node};
+use thp_text::{Op, Settings};
 
 /// One node.
 #[derive(Drop)]

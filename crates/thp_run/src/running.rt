@@ -4,20 +4,19 @@ ghost use Rattle.std.specs.List.{range_with_len};
 ghost use Rattle.thp_run.specs.Fronts.{Fronts};
 ghost use Rattle.thp_run.specs.Programs.{Ends, IsReport};
 ghost use Rattle.thp_run.specs.Reports.{totals_of, totals_text};
-ghost use Rattle.thp_run.specs.Scripts.{script_of, TellsFault};
+ghost use Rattle.thp_text.specs.Scripts.{script_of, TellsFault};
 
 use crate::device::{read_input, write_text};
-use crate::fault::{ReadFault, RunFault};
+use crate::fault::RunFault;
 use crate::gate::Gate;
 use crate::nodes::Nodes;
 use crate::one_node::OneNode;
-use crate::reading::read_script;
 use crate::report::totals_text;
-use crate::settings::Settings;
 use crate::steps::work;
 use crate::watched::Watched;
 use std::alloc::{AllocError, Global};
 use std::io::{Read, Write};
+use thp_text::{ReadFault, Settings, read_script};
 
 /// The report on what became of the nodes.
 fn report_on<N: Nodes>(alloc: Global, count: u32, nodes: &N) -> Result<Vec<u8>, AllocError>

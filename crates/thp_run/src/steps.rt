@@ -1,14 +1,14 @@
 //! Steps of callers on nodes, whoever keeps the nodes.
 ghost use Rattle.std.specs.Prelude.{◌≤◌, ◌<◌, All, IfOk, List};
-ghost use Rattle.thp_run.specs.Commands.{FitsBatch, IsCommandFor};
+ghost use Rattle.thp_text.specs.Commands.{FitsBatch, IsCommandFor};
 ghost use Rattle.thp_run.specs.Fronts.{Fronts, HasCaller, StepAnswered, StepDone};
 ghost use Rattle.thp_run.specs.Runs.{Step};
 ghost use Rattle.thp_run.specs.Works.{Worked};
 
 use crate::reply::Reply;
-use crate::script::{Command, Op};
 use std::alloc::AllocError;
 use thp_model::Refusal;
+use thp_text::{Command, Op};
 
 /// Nodes on which the holder of some callers makes steps, each one call of a node.
 pub(crate) trait Steps {

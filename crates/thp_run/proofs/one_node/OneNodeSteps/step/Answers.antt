@@ -1,6 +1,6 @@
 use Rattle.std.proofs.Common.{arith, refl}
 use Rattle.thp_model.specs.declared.events.What.TheVariants as what
-use Rattle.thp_run.specs.declared.script.Op.TheVariants.{Alloc, MapWhole, UnmapWhole, Map, Unmap, SplitPmd, Pin, Unpin, Close, Scan}
+use Rattle.thp_text.specs.declared.script.Op.TheVariants.{Alloc, MapWhole, UnmapWhole, Map, Unmap, SplitPmd, Pin, Unpin, Close, Scan}
 use Rattle.thp_run.proofs.OneNodeLaws.{alloc_step, change_step, on_node_0, refused_step, scan_step, unit_step}
 use Rattle.thp_run.proofs.one_node.OneNodeSteps.step.Goals as goal
 

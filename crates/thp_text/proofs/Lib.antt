@@ -1,0 +1,4 @@
+pub mod PieceLaws
+pub mod NumberLaws
+pub mod SectionLaws
+pub mod ScriptLaws

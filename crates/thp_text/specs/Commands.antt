@@ -1,0 +1,92 @@
+-- The commands of scripts by their words (this project's script format).
+use Rattle.std.specs.Prelude.{◌≤◌, ◌<◌, ℕ, ◌-◌, ⊤, List, [], ◌∷◌, Result, Ok, Err, codes, ok_or, if◌then◌else◌}
+use Rattle.std.specs.Str.{bytes_eq}
+use Rattle.thp_text.specs.declared.fault.TextKind.{TextKind}
+use Rattle.thp_text.specs.declared.fault.TextKind.TheVariants.{BadWord, BadCount, BadNumber}
+use Rattle.thp_text.specs.declared.script.Command.{Command}
+use Rattle.thp_text.specs.declared.script.Op.{Op}
+use Rattle.thp_text.specs.declared.script.Op.TheVariants.{Alloc, MapWhole, UnmapWhole, Map, Unmap, SplitPmd, Pin, Unpin, Close, Scan}
+use Rattle.thp_text.specs.declared.settings.Settings.{Settings}
+use Rattle.thp_text.specs.Readings.{◌>>=◌}
+use Rattle.thp_text.specs.Words.{Text, number_of}
+
+-- the one word that there is
+abbrev pub one_word : List Text → Result Text TextKind
+one_word (a ∷ []) = Ok a
+one_word _ = Err BadCount
+
+-- the two words that there are
+abbrev pub two_words : List Text → Result (Text × Text) TextKind
+two_words (a ∷ b ∷ []) = Ok (a, b)
+two_words _ = Err BadCount
+
+-- the four words that there are
+abbrev pub four_words : List Text → Result (Text × Text × Text × Text) TextKind
+four_words (a ∷ b ∷ c ∷ d ∷ []) = Ok (a, b, c, d)
+four_words _ = Err BadCount
+
+-- a number of at most `most`
+abbrev pub number_up_to : ℕ → Text → Result ℕ TextKind
+number_up_to most word = ok_or (number_of most word) BadNumber
+
+-- a node that there is
+abbrev pub node_number : Settings → Text → Result ℕ TextKind
+node_number s = number_up_to (s.nodes - 1)
+
+-- a command on a node as a whole, behind its name: `NODE`
+unfoldable pub node_command : Op → Settings → List Text → Result Command TextKind
+node_command op s words = do
+  word ← one_word words
+  node ← node_number s word
+  Ok (record { node = node; op = op })
+
+-- a command on a page: `NODE PAGE`
+unfoldable pub page_command : (ℕ → Op) → Settings → List Text → Result Command TextKind
+page_command op s words = do
+  word ← two_words words
+  node ← node_number s word.0
+  page ← number_up_to 18446744073709551615 word.1
+  Ok (record { node = node; op = op page })
+
+-- a command on a range of a page's subpages: `NODE PAGE FIRST COUNT`
+unfoldable pub range_command : (ℕ → ℕ → ℕ → Op) → Settings → List Text → Result Command TextKind
+range_command op s words = do
+  word ← four_words words
+  node ← node_number s word.0
+  page ← number_up_to 18446744073709551615 word.1
+  first ← number_up_to 65535 word.2
+  count ← number_up_to 65535 word.3
+  Ok (record { node = node; op = op page first count })
+
+-- a scan: `NODE COUNT`
+unfoldable pub scan_command : Settings → List Text → Result Command TextKind
+scan_command s words = do
+  word ← two_words words
+  node ← node_number s word.0
+  count ← number_up_to 128 word.1
+  Ok (record { node = node; op = Scan count })
+
+-- a command by its first word and the others
+unfoldable pub command_of : Settings → Text → List Text → Result Command TextKind
+command_of s name words =
+    if bytes_eq name (codes "alloc") then node_command Alloc s words
+    else if bytes_eq name (codes "mapwhole") then page_command MapWhole s words
+    else if bytes_eq name (codes "unmapwhole") then page_command UnmapWhole s words
+    else if bytes_eq name (codes "map") then range_command Map s words
+    else if bytes_eq name (codes "unmap") then range_command Unmap s words
+    else if bytes_eq name (codes "splitpmd") then page_command SplitPmd s words
+    else if bytes_eq name (codes "pin") then page_command Pin s words
+    else if bytes_eq name (codes "unpin") then page_command Unpin s words
+    else if bytes_eq name (codes "close") then node_command Close s words
+    else if bytes_eq name (codes "scan") then scan_command s words
+    else Err BadWord
+
+-- a scan is of as many pages as a batch holds
+abbrev pub FitsBatch : Op → Type 0
+FitsBatch (Scan count) = count ≤ 128
+FitsBatch _ = ⊤
+
+-- a command for a node that there is
+pub record IsCommandFor (nodes : ℕ) (command : Command) : Type 0 where
+  pub node_exists : command.node < nodes
+  pub fits_batch : FitsBatch command.op

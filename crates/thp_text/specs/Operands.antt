@@ -1,0 +1,22 @@
+-- The commands of a page and of a range of its subpages, by the kinds that the reader tells apart. No public clause cites
+-- this module.
+use Rattle.std.specs.Prelude.{ℕ}
+use Rattle.thp_text.specs.declared.operands.PageCall.{PageCall}
+use Rattle.thp_text.specs.declared.operands.PageCall.TheVariants as page
+use Rattle.thp_text.specs.declared.operands.RangeCall.{RangeCall}
+use Rattle.thp_text.specs.declared.operands.RangeCall.TheVariants as range
+use Rattle.thp_text.specs.declared.script.Op.{Op}
+use Rattle.thp_text.specs.declared.script.Op.TheVariants.{MapWhole, UnmapWhole, Map, Unmap, SplitPmd, Pin, Unpin}
+
+-- the command on a page
+abbrev pub page_op : PageCall → ℕ → Op
+page_op page.MapWhole = MapWhole
+page_op page.UnmapWhole = UnmapWhole
+page_op page.SplitPmd = SplitPmd
+page_op page.Pin = Pin
+page_op page.Unpin = Unpin
+
+-- the command on a range of a page's subpages
+abbrev pub range_op : RangeCall → ℕ → ℕ → ℕ → Op
+range_op range.Map = Map
+range_op range.Unmap = Unmap
