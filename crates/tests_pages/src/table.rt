@@ -1,16 +1,15 @@
 //! The table of page descriptors in the hands of callers, by its calls and by its links.
-ghost use Rattle.std.specs.Prelude.{◌≡◌, ◌<◌, ◌≤◌, ℕ, ◌+◌, [], ◌∷◌, ◌++◌, length, slice_get, Contains, IsSome, IfSome, IfOk, OnOk, OnErr, Option, Some, None};
-ghost use Rattle.thp_links.specs.Standing.{Stands};
+ghost use Rattle.std.specs.Prelude.{◌≡◌, ◌<◌, ℕ, ◌+◌, length, IsSome, OnOk, OnErr, Some, None};
 ghost use Rattle.thp_model.specs.Pages.{PageState, Pinned};
 ghost use Rattle.thp_page.specs.Table.{Slot};
 ghost use Rattle.thp_page.specs.Slots.{slot_at, with_slot, fresh_slot};
 
-use crate::{PageTable, Standing};
-use std::alloc::{AllocError, Global};
+use crate::counting::calls_counted;
 use std::process::Abort;
 use std::test::Fail;
-use thp_links::{Link, LinkTable, NIL, Queue};
+use thp_links::{Link, LinkTable, NIL};
 use thp_model::{PageId, Refusal};
+use thp_page::{PageTable, Standing};
 
 // The pins of the page of a block.
 fn pins_at(table: &PageTable, block: u32) -> u32
@@ -117,87 +116,10 @@ fn numbers_alike_are_found(rt: HostRuntime) -> Result<(), Fail> {
     Ok(())
 }
 
-// A table that counts its accesses when it runs.
-#[derive(Drop)]
-struct CountingTable {
-    table: PageTable,
-    made: u32,
-}
-
-impl CountingTable {
-    // The accesses since this was called last.
-    fn spent(&mut self) -> u32
-        ensures { self.new ≡ record self.old { made = 0 } }
-    {
-        std::mem::take(&mut self.made)
-    }
-}
-
-impl LinkTable for CountingTable {
-    ghost use Rattle.std.proofs.Common.{refl, ◌∙◌};
-    ghost use Rattle.thp_page.specs.Table.{SameSlots};
-
-    ghost links = { λ t. t.table.links };
-
-    ghost accesses = { λ t. t.table.accesses };
-
-    ghost same_rest = { λ s t. SameSlots s.table t.table };
-
-    fn len(&self) -> u32 {
-        self.table.len()
-    }
-
-    fn link(&mut self, i: u32) -> Link {
-        self.made = self.made.wrapping_add(1);
-        self.table.link(i)
-    }
-
-    fn set_link(&mut self, i: u32, link: Link) {
-        self.made = self.made.wrapping_add(1);
-        self.table.set_link(i, link);
-    }
-
-    ghost same_rest_refl = { λ t. record { order = refl; slots = refl } };
-
-    ghost same_rest_trans = { λ a b c p q. record { order = q.order ∙ p.order; slots = q.slots ∙ p.slots } };
-}
-
-// A table of this many blocks, all of them in the queue in rising order, each pushed by at most 4 accesses.
-fn filled(rt: &impl Abort, alloc: Global, blocks: u32) -> Result<(CountingTable, Queue), AllocError>
-    ensures size { IfOk result (λ r. length r.0.table.links ≡ blocks) }
-    ensures stands { IfOk result (λ r. Stands r.1 r.0.table.links) }
-    ensures all { IfOk result (λ r. (i : ℕ) → i < blocks → Contains r.1 i) }
-{
-    let mut table = CountingTable {
-        table: PageTable::new(alloc, blocks, 2)?,
-        made: 0,
-    };
-    let mut queue = Queue::new();
-    for i in 0..blocks {
-        queue.push_back(&mut table, i);
-        assert!(rt; table.spent() <= 4, "push of {i}");
-    }
-    Ok((table, queue))
-}
-
-// Each call on a queue of all these blocks is within its bound, `remove` at the block `middle`.
-fn calls_counted(rt: &impl Abort, alloc: Global, blocks: u32, middle: u32) -> Result<(), AllocError>
-    requires { middle < blocks }
-{
-    let (mut table, mut queue) = filled(rt, alloc, blocks)?;
-    queue.remove(&mut table, middle);
-    assert!(rt; table.spent() <= 6, "remove of {blocks}");
-    queue.push_back(&mut table, middle);
-    assert!(rt; table.spent() <= 4, "push_back of {blocks}");
-    assert_eq!(rt; queue.pop_front(&mut table), Some(0));
-    assert!(rt; table.spent() <= 4, "pop_front of {blocks}");
-    Ok(())
-}
-
 // No call on a queue of pages walks it.
 #[test]
 fn accesses_counted(rt: HostRuntime) -> Result<(), Fail> {
-    calls_counted(&rt, rt.alloc(), 3, 1)?;
-    calls_counted(&rt, rt.alloc(), 4096, 2048)?;
+    calls_counted(&rt, PageTable::new(rt.alloc(), 3, 2)?, 1);
+    calls_counted(&rt, PageTable::new(rt.alloc(), 4096, 2)?, 2048);
     Ok(())
 }

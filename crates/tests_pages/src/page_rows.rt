@@ -1,23 +1,15 @@
 //! Worked rows on the calls of one page, of the greatest order and of the least.
 ghost use Rattle.std.specs.Prelude.{◌≡◌, ◌≤◌};
 
-use crate::page::{Change, Page};
+use crate::calls::{Answer, Call, change, expect};
 use std::process::Abort;
 use thp_model::{Refusal, SubSet};
+use thp_page::{Change, Page};
 
-// Splits a page that the test knows can be split.
-fn split(rt: &impl Abort, page: &mut Page) -> SubSet {
-    assert!(rt; !page.is_split());
-    assert_eq!(rt; page.pins(), 0);
-    page.split()
-}
-
-// A change that gave nothing back.
-fn change(unused: bool, used_left: bool) -> Change {
-    Change {
-        unused,
-        used_left,
-        released: SubSet::empty(),
+// Makes one call as often as this.
+fn repeat(rt: &impl Abort, page: &mut Page, call: Call, times: u32) {
+    for _time in 0..times {
+        expect(rt, page, &[(call, Answer::Done)]);
     }
 }
 
@@ -26,21 +18,24 @@ fn counts_at_their_limit_at(rt: &impl Abort, order: u32)
     requires most { order ≤ 9 }
 {
     let mut page = Page::fresh(order);
-    for _ in 0..65_534 {
-        assert_eq!(rt; page.map_whole(), Ok(()));
-    }
+    repeat(rt, &mut page, Call::MapWhole, 65_534);
     assert_eq!(rt; page.whole(), 65_535);
-    assert_eq!(rt; page.map_whole(), Err(Refusal::TooMany));
-    assert_eq!(rt; page.map_sub(0, 1), Err(Refusal::TooMany));
-    assert_eq!(rt; page.split_pmd(), Ok(()));
-    assert_eq!(rt; page.map_sub(0, 1), Err(Refusal::TooMany));
+    let steps = [
+        (Call::MapWhole, Answer::Refused(Refusal::TooMany)),
+        (Call::MapSub(0, 1), Answer::Refused(Refusal::TooMany)),
+        (Call::SplitPmd, Answer::Done),
+        (Call::MapSub(0, 1), Answer::Refused(Refusal::TooMany)),
+    ];
+    expect(rt, &mut page, &steps);
     assert_eq!(rt; page.whole(), 65_534);
 
     let mut pinned = Page::fresh(order);
-    for _ in 0..65_535 {
-        assert_eq!(rt; pinned.pin(), Ok(()));
-    }
-    assert_eq!(rt; pinned.pin(), Err(Refusal::TooMany));
+    repeat(rt, &mut pinned, Call::Pin, 65_535);
+    expect(
+        rt,
+        &mut pinned,
+        &[(Call::Pin, Answer::Refused(Refusal::TooMany))],
+    );
     assert_eq!(rt; pinned.pins(), 65_535);
 }
 
@@ -61,25 +56,27 @@ fn refusals_after_a_split_at(rt: &impl Abort, order: u32, last: u32)
     requires inside { last ≤ 511 }
 {
     let mut page = Page::fresh(order);
-    assert_eq!(rt; page.split_pmd(), Ok(()));
-    assert_eq!(rt; page.unmap_sub(1, last), Ok(change(true, true)));
-    assert_eq!(rt; split(rt, &mut page), SubSet::range(1, last));
-    assert_eq!(rt; page.map_sub(1, 1), Err(Refusal::Gone));
-    assert_eq!(rt; page.unmap_sub(1, 1), Err(Refusal::NotMapped));
-    assert_eq!(rt; page.map_sub(0, 1), Ok(()));
-    assert_eq!(rt; page.map_whole(), Err(Refusal::IsSplit));
-    assert_eq!(rt; page.unmap_whole(), Err(Refusal::IsSplit));
-    assert_eq!(rt; page.split_pmd(), Err(Refusal::IsSplit));
-    assert_eq!(rt; page.pin(), Err(Refusal::IsSplit));
-    assert_eq!(rt; page.unpin(), Err(Refusal::IsSplit));
-    assert_eq!(rt; page.unmap_sub(0, 1), Ok(change(false, true)));
-
-    let freed = Change {
+    let freed = Answer::Changed(Change {
         unused: true,
         used_left: false,
         released: SubSet::range(0, 1),
-    };
-    assert_eq!(rt; page.unmap_sub(0, 1), Ok(freed));
+    });
+    let steps = [
+        (Call::SplitPmd, Answer::Done),
+        (Call::UnmapSub(1, last), change(true, true)),
+        (Call::Split, Answer::GaveBack(SubSet::range(1, last))),
+        (Call::MapSub(1, 1), Answer::Refused(Refusal::Gone)),
+        (Call::UnmapSub(1, 1), Answer::Refused(Refusal::NotMapped)),
+        (Call::MapSub(0, 1), Answer::Done),
+        (Call::MapWhole, Answer::Refused(Refusal::IsSplit)),
+        (Call::UnmapWhole, Answer::Refused(Refusal::IsSplit)),
+        (Call::SplitPmd, Answer::Refused(Refusal::IsSplit)),
+        (Call::Pin, Answer::Refused(Refusal::IsSplit)),
+        (Call::Unpin, Answer::Refused(Refusal::IsSplit)),
+        (Call::UnmapSub(0, 1), change(false, true)),
+        (Call::UnmapSub(0, 1), freed),
+    ];
+    expect(rt, &mut page, &steps);
     assert!(rt; !page.has_use());
 }
 
@@ -100,24 +97,24 @@ fn refusals_before_a_split_at(rt: &impl Abort, order: u32, first: u32)
     requires few { first ≤ 5 }
 {
     let mut page = Page::fresh(order);
-    assert_eq!(rt; page.unmap_sub(0, 1), Err(Refusal::NotMapped));
-    assert_eq!(rt; page.unpin(), Err(Refusal::NotPinned));
-    assert_eq!(rt; page.split_pmd(), Ok(()));
-    assert_eq!(rt; page.split_pmd(), Err(Refusal::NotMapped));
-    assert_eq!(rt; page.unmap_whole(), Err(Refusal::NotMapped));
-    assert_eq!(rt; page.unmap_sub(0, 1), Ok(change(true, true)));
-    assert_eq!(rt; page.unmap_sub(3, 1), Ok(change(true, true)));
-    assert_eq!(rt;
-        split(rt, &mut page),
-        SubSet::range(0, 1).union(SubSet::range(3, 1))
-    );
-
-    let given_back = Change {
+    let unused = SubSet::range(0, 1).union(SubSet::range(3, 1));
+    let given_back = Answer::Changed(Change {
         unused: true,
         used_left: order > 2,
         released: SubSet::range(first, 2),
-    };
-    assert_eq!(rt; page.unmap_sub(first, 2), Ok(given_back));
+    });
+    let steps = [
+        (Call::UnmapSub(0, 1), Answer::Refused(Refusal::NotMapped)),
+        (Call::Unpin, Answer::Refused(Refusal::NotPinned)),
+        (Call::SplitPmd, Answer::Done),
+        (Call::SplitPmd, Answer::Refused(Refusal::NotMapped)),
+        (Call::UnmapWhole, Answer::Refused(Refusal::NotMapped)),
+        (Call::UnmapSub(0, 1), change(true, true)),
+        (Call::UnmapSub(3, 1), change(true, true)),
+        (Call::Split, Answer::GaveBack(unused)),
+        (Call::UnmapSub(first, 2), given_back),
+    ];
+    expect(rt, &mut page, &steps);
 }
 
 #[test]
@@ -137,18 +134,32 @@ fn bad_ranges_at(rt: &impl Abort, order: u32, last: u32)
     requires inside { last ≤ 511 }
 {
     let mut page = Page::fresh(order);
-    assert_eq!(rt; page.split_pmd(), Ok(()));
-    assert_eq!(rt; page.unmap_sub(last, 1), Ok(change(true, true)));
-    assert_eq!(rt; page.map_sub(last, 2), Err(Refusal::BadRange));
-    assert_eq!(rt; page.unmap_sub(0, 0), Err(Refusal::BadRange));
-    assert_eq!(rt; page.unmap_sub(last + 1, 1), Err(Refusal::BadRange));
-    assert_eq!(rt; page.unmap_sub(last, 1), Err(Refusal::NotMapped));
-    assert_eq!(rt; page.map_sub(last, 1), Ok(()));
-
-    // ranges whose end is past the greatest number
-    assert_eq!(rt; page.map_sub(u32::MAX, u32::MAX), Err(Refusal::BadRange));
-    assert_eq!(rt; page.map_sub(1, u32::MAX), Err(Refusal::BadRange));
-    assert_eq!(rt; page.unmap_sub(u32::MAX, 1), Err(Refusal::BadRange));
+    let steps = [
+        (Call::SplitPmd, Answer::Done),
+        (Call::UnmapSub(last, 1), change(true, true)),
+        (Call::MapSub(last, 2), Answer::Refused(Refusal::BadRange)),
+        (Call::UnmapSub(0, 0), Answer::Refused(Refusal::BadRange)),
+        (
+            Call::UnmapSub(last + 1, 1),
+            Answer::Refused(Refusal::BadRange),
+        ),
+        (Call::UnmapSub(last, 1), Answer::Refused(Refusal::NotMapped)),
+        (Call::MapSub(last, 1), Answer::Done),
+        // ranges whose end is past the greatest number
+        (
+            Call::MapSub(u32::MAX, u32::MAX),
+            Answer::Refused(Refusal::BadRange),
+        ),
+        (
+            Call::MapSub(1, u32::MAX),
+            Answer::Refused(Refusal::BadRange),
+        ),
+        (
+            Call::UnmapSub(u32::MAX, 1),
+            Answer::Refused(Refusal::BadRange),
+        ),
+    ];
+    expect(rt, &mut page, &steps);
 }
 
 #[test]
@@ -168,11 +179,17 @@ fn split_of_a_mapped_page_at(rt: &impl Abort, order: u32, last: u32)
     requires inside { last ≤ 511 }
 {
     let mut page = Page::fresh(order);
-    assert_eq!(rt; page.split_pmd(), Ok(()));
-    assert_eq!(rt; page.unmap_sub(0, 1), Ok(change(true, true)));
+    let unmapped = [
+        (Call::SplitPmd, Answer::Done),
+        (Call::UnmapSub(0, 1), change(true, true)),
+    ];
+    expect(rt, &mut page, &unmapped);
     assert_eq!(rt; page.in_use_set(), SubSet::range(1, last));
-    assert_eq!(rt; page.map_whole(), Ok(()));
-    assert_eq!(rt; split(rt, &mut page), SubSet::empty());
+    let split = [
+        (Call::MapWhole, Answer::Done),
+        (Call::Split, Answer::GaveBack(SubSet::empty())),
+    ];
+    expect(rt, &mut page, &split);
     assert_eq!(rt; page.whole(), 0);
     assert!(rt; page.is_split());
     assert_eq!(rt; page.in_use_set(), SubSet::full(order));
@@ -194,10 +211,13 @@ fn pinned_page_is_freed_by_unpin_at(rt: &impl Abort, order: u32)
     requires most { order ≤ 9 }
 {
     let mut page = Page::fresh(order);
-    assert_eq!(rt; page.pin(), Ok(()));
-    assert_eq!(rt; page.unmap_whole(), Ok(change(true, false)));
+    let unmapped = [
+        (Call::Pin, Answer::Done),
+        (Call::UnmapWhole, change(true, false)),
+    ];
+    expect(rt, &mut page, &unmapped);
     assert_eq!(rt; page.pins(), 1);
-    assert_eq!(rt; page.unpin(), Ok(()));
+    expect(rt, &mut page, &[(Call::Unpin, Answer::Done)]);
     assert_eq!(rt; page.pins(), 0);
     assert!(rt; !page.has_use());
     assert_eq!(rt; page.in_use_set(), SubSet::empty());
@@ -219,8 +239,11 @@ fn pinned_page_is_freed_by_unpin_at_order_2(rt: HostRuntime) {
 fn subpages_go_out_of_use_one_by_one(rt: HostRuntime) {
     let mut page = Page::fresh(2);
     assert!(rt; page.in_use(0) && page.in_use(3));
-    assert_eq!(rt; page.split_pmd(), Ok(()));
-    assert_eq!(rt; page.unmap_sub(3, 1), Ok(change(true, true)));
+    let unmapped = [
+        (Call::SplitPmd, Answer::Done),
+        (Call::UnmapSub(3, 1), change(true, true)),
+    ];
+    expect(&rt, &mut page, &unmapped);
     assert_eq!(rt; page.order(), 2);
     assert!(rt; page.in_use(0) && !page.in_use(3));
 }

@@ -3,8 +3,7 @@ use Rattle.std.proofs.Common.{◌≡◌, ℕ, ◌+◌, ◌<◌, List, [], ◌∷
 use Rattle.std.proofs.lemmas.Bool.{cases_eq}
 use Rattle.std.proofs.lemmas.List.Elements.{Contains-append_left, Contains-push, Contains-push_cases}
 use Rattle.thp_links.specs.declared.link.Link.{Link}
-use Rattle.thp_page.specs.declared.table_tests.CountingTable.{CountingTable}
-use Rattle.thp_page.proofs.table_tests.filled.Goals as goal
+use Rattle.tests_pages.proofs.counting.filled.Goals as goal
 
 -- after a push of n to indices below n all are below n + 1
 below_more : (n : ℕ) (xs ys : List ℕ) → ys ≡ xs ++ n ∷ [] → ((j : ℕ) → Contains xs j → j < n) → (j : ℕ) → Contains ys j → j < n + 1
@@ -30,7 +29,7 @@ pub loop-i-preserved : goal.loop-i-preserved
 loop-i-preserved g c =
     let i = c.loop-i.i-counter in
     let list = c.push_back.ensures.list in
-    let pairs = ap (λ (t : CountingTable). t.table.links) c.spent.ensures in
+    let pairs = ap (λ t. g.T.LinkTable.links t.table) c.spent.ensures in
     record {
       size = ap (λ (ls : List Link). length ls) pairs ∙ c.push_back.ensures.outside.same_length ∙ c.loop-i.invariant.size;
       stands = rw pairs c.push_back.ensures.stands;

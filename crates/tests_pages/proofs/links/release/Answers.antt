@@ -1,7 +1,7 @@
 -- The index came out of the queue, so that it is in neither list when it is pushed.
 use Rattle.std.proofs.Common.{arith}
 use Rattle.thp_links.proofs.OneTable.{one_table, Stands-inside}
-use Rattle.thp_links.proofs.tests.release.Goals as goal
+use Rattle.tests_pages.proofs.links.release.Goals as goal
 
 pub push-requires-clause-stands : goal.push-requires-clause-stands
 push-requires-clause-stands g c = search one_table

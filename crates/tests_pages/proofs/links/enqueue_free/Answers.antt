@@ -2,7 +2,7 @@
 use Rattle.std.proofs.Common.{◌≡◌, Some, sym, ◌∙◌}
 use Rattle.std.specs.List.{slice_get}
 use Rattle.thp_links.proofs.OneTable.{one_table}
-use Rattle.thp_links.proofs.tests.enqueue_free.Goals as goal
+use Rattle.tests_pages.proofs.links.enqueue_free.Goals as goal
 
 pub push_back-requires-clause-stands : goal.push_back-requires-clause-stands
 push_back-requires-clause-stands g c = search one_table

@@ -1,5 +1,5 @@
 //! Sets of subpages and shapes, with values counted by hand.
-use crate::{Shape, SubSet};
+use thp_model::{Shape, SubSet};
 
 #[test]
 fn ranges_and_full_sets(rt: HostRuntime) {
