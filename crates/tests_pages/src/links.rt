@@ -5,6 +5,7 @@ ghost use Rattle.thp_links.specs.Standing.{Stands, ChainStands};
 
 use crate::counting::calls_counted;
 use std::alloc::{AllocError, Global};
+use std::process::Abort;
 use std::test::Fail;
 use thp_links::{AccessCount, FreeChain, Link, LinkTable, NIL, Queue};
 
@@ -58,31 +59,52 @@ impl LinkTable for Pairs {
     ghost same_rest_trans = { λ a b c p q. tt };
 }
 
-// A queue of 3 goes through its calls as worked out by hand, and so does a chain.
+// A queue of the indices 2, 0 and 3, in this order.
+fn queue_of_three(table: &mut Pairs) -> Queue
+    requires { length table.old.pairs.items ≡ 4 }
+    ensures list { result ≡ 2 ∷ 0 ∷ 3 ∷ [] }
+    ensures stands { Stands result table.new.pairs.items }
+    ensures size { length table.new.pairs.items ≡ 4 }
+{
+    let mut queue = Queue::new();
+    queue.push_back(table, 2);
+    queue.push_back(table, 0);
+    queue.push_back(table, 3);
+    queue
+}
+
+// A queue of 3 goes through its calls as worked out by hand.
+fn queue_by_hand(rt: &impl Abort, table: &mut Pairs)
+    requires { length table.old.pairs.items ≡ 4 }
+{
+    let mut queue = queue_of_three(table);
+    assert_eq!(rt; queue.len(), 3);
+    queue.remove(table, 0);
+    assert_eq!(rt; queue.pop_front(table), Some(2));
+    assert_eq!(rt; queue.pop_front(table), Some(3));
+    assert_eq!(rt; queue.pop_front(table), None);
+    assert_eq!(rt; queue.front(), None);
+    queue.push_back(table, 0);
+    assert_eq!(rt; queue.front(), Some(0));
+}
+
+// So does a chain.
+fn chain_by_hand(rt: &impl Abort, table: &mut Pairs)
+    requires { length table.old.pairs.items ≡ 4 }
+{
+    let mut chain = FreeChain::new();
+    chain.push(table, 1);
+    chain.push(table, 3);
+    assert_eq!(rt; chain.first(), Some(3));
+    assert_eq!(rt; chain.pop(table), Some(3));
+    assert_eq!(rt; chain.pop(table), Some(1));
+    assert_eq!(rt; chain.pop(table), None);
+}
+
 #[test]
 fn links_by_hand(rt: HostRuntime) -> Result<(), Fail> {
-    let mut table = Pairs::new(rt.alloc(), 4)?;
-    let mut queue = Queue::new();
-    queue.push_back(&mut table, 2);
-    queue.push_back(&mut table, 0);
-    queue.push_back(&mut table, 3);
-    assert_eq!(rt; queue.len(), 3);
-    queue.remove(&mut table, 0);
-    assert_eq!(rt; queue.pop_front(&mut table), Some(2));
-    assert_eq!(rt; queue.pop_front(&mut table), Some(3));
-    assert_eq!(rt; queue.pop_front(&mut table), None);
-    assert_eq!(rt; queue.front(), None);
-    queue.push_back(&mut table, 0);
-    assert_eq!(rt; queue.front(), Some(0));
-
-    let mut table = Pairs::new(rt.alloc(), 4)?;
-    let mut chain = FreeChain::new();
-    chain.push(&mut table, 1);
-    chain.push(&mut table, 3);
-    assert_eq!(rt; chain.first(), Some(3));
-    assert_eq!(rt; chain.pop(&mut table), Some(3));
-    assert_eq!(rt; chain.pop(&mut table), Some(1));
-    assert_eq!(rt; chain.pop(&mut table), None);
+    queue_by_hand(&rt, &mut Pairs::new(rt.alloc(), 4)?);
+    chain_by_hand(&rt, &mut Pairs::new(rt.alloc(), 4)?);
     Ok(())
 }
 

@@ -2,7 +2,7 @@ use Rattle.std.proofs.Common.{◌≡◌}
 use Rattle.std.specs.Prelude.{IfSome}
 use Rattle.thp_node.specs.Batches.{BatchState, IsInFront}
 use Rattle.thp_cell.specs.Calls.{at_front}
-use Rattle.thp_tests.proofs.stress.work.Given as goal
+use Rattle.tests_threads.proofs.stress.work.Given as goal
 
 abbrev pub invariant-loop-turn : goal.invariant-loop-turn
 invariant-loop-turn l = record {
