@@ -10,7 +10,5 @@ mod flights;
 mod page_call;
 mod pages;
 mod replay;
-#[cfg(test)]
-mod tests;
 
 pub use checking::{CheckFault, check};

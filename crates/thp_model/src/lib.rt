@@ -15,8 +15,6 @@ mod refusal;
 mod rows;
 mod shape;
 mod sub_set;
-#[cfg(test)]
-mod tests;
 
 pub use events::{Event, Outcome, PageId, What};
 pub use laws::{

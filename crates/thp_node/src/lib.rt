@@ -20,8 +20,6 @@ mod blocks;
 mod journal;
 mod node;
 mod page_call;
-#[cfg(test)]
-mod tests;
 
 pub use answers::{BackReply, Counters, Done, NewFault, ScanReply, Tried};
 pub use batch::Batch;
