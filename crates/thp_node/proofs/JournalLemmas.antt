@@ -150,6 +150,11 @@ pub flight_moves : (shape : Shape) (h : History) (c d : ℕ) (w : What) → IsLe
 flight_moves shape h c d w l f =
     ap (λ ps. length ps + one_for (leaves_of h c w) d) (flight_push h d c w) ∙ moves shape h (h ++ by c w ∷ []) c d w l f
 
+-- a page that is taken joins the taker's flight
+pub flight_grows : (h : History) (c p : ℕ) → length (flight (h ++ by c (Taken p) ∷ []) c) ≡ length (flight h c) + 1
+flight_grows h c p =
+    ap length (flight_push h c c (Taken p)) ∙ (ap (λ b. length (cond b (flight h c ++ p ∷ []) (flight h c))) (eq-eqb c c refl) ∙ length_push (flight h c) p)
+
 apart : (h : History) (c d : ℕ) (w : What) → Some d ≡ leaves_of h c w → joins_of c w ≡ None
 apart h c d (Taken p) e = absurd (cc)
 apart h c d w e = refl

@@ -18,8 +18,8 @@ use Rattle.thp_model.proofs.Kept.{frames_given_push, size_given}
 use Rattle.thp_model.proofs.LegalSteps.{legal_none, legal_push}
 use Rattle.thp_model.proofs.Pushes.{count_of_push, some_event_push, thp_split_pmd_push}
 use Rattle.thp_node.specs.declared.answers.Counters.{Counters}
-use Rattle.thp_node.specs.Journals.{IsJournal, leaves_of, joins_of, one_for, frames_of}
-use Rattle.thp_node.proofs.JournalLemmas.{few_events, few_frames_given, few_in_flight, flight_moves, leaves_one}
+use Rattle.thp_node.specs.Journals.{HasFlightRoom, IsJournal, leaves_of, joins_of, one_for, frames_of}
+use Rattle.thp_node.proofs.JournalLemmas.{few_events, few_frames_given, flight_moves, leaves_one}
 
 zeros : (n c : ℕ) → slice_index_or {A = ℕ} (replicate n 0) c 0 ≡ 0
 zeros zero c = refl
@@ -80,14 +80,14 @@ few_frames_counted shape h c w n m k s l f is e g =
     )
 
 -- the count of the caller whose flight a page joins has room for it
-pub may_join : (h : History) (c : ℕ) (w : What) (flying : List ℕ) (o : Option ℕ) → c < 64 → o ≡ joins_of c w → length h + 1 < 2 ^ 64 →
-    ((d : ℕ) → slice_index_or flying d 0 ≡ length (flight h d)) → IfSome o (λ d. (d < 64) × (slice_index_or flying d 0 + 1 < 2 ^ 64))
+pub may_join : (h : History) (c : ℕ) (w : What) (flying : List ℕ) (o : Option ℕ) → c < 64 → o ≡ joins_of c w → HasFlightRoom h c w →
+    ((d : ℕ) → slice_index_or flying d 0 ≡ length (flight h d)) → IfSome o (λ d. (d < 64) × (slice_index_or flying d 0 + 1 < 2 ^ 8))
 may_join h c w flying o below e few f =
-    let P : Option ℕ → Type 0 = λ o. IfSome o (λ d. (d < 64) × (slice_index_or flying d 0 + 1 < 2 ^ 64)) in
-    subst P (sym e) (go w) where
-      go : (w : What) → IfSome (joins_of c w) (λ d. (d < 64) × (slice_index_or flying d 0 + 1 < 2 ^ 64))
-      go (Taken p) = (below, omega (arith, f c, few_in_flight h c))
-      go w = tt
+    let P : Option ℕ → Type 0 = λ o. IfSome o (λ d. (d < 64) × (slice_index_or flying d 0 + 1 < 2 ^ 8)) in
+    subst P (sym e) (go w few) where
+      go : (w : What) → HasFlightRoom h c w → IfSome (joins_of c w) (λ d. (d < 64) × (slice_index_or flying d 0 + 1 < 2 ^ 8))
+      go (Taken p) few = (below, omega (arith, f c, few))
+      go w few = tt
 
 -- the count of the caller whose flight a page leaves isn't 0
 pub may_leave : (shape : Shape) (h : History) (c : ℕ) (w : What) (flying : List ℕ) (o : Option ℕ) → IsLegal shape h → Fits shape h (by c w) →

@@ -1,5 +1,5 @@
 -- What the journal of a node keeps beside its events.
-use Rattle.std.specs.Prelude.{◌≡◌, ℕ, ◌*◌, ◌^◌, ◌≤◌, Bool, cond, nat_eq, length, List, slice_index_or, Option, Some, None}
+use Rattle.std.specs.Prelude.{◌≡◌, ℕ, ◌*◌, ◌^◌, ◌≤◌, Bool, cond, nat_eq, length, List, slice_index_or, Option, Some, None, IfSome, ◌<◌}
 use Rattle.thp_model.specs.declared.events.Outcome.{Outcome}
 use Rattle.thp_model.specs.declared.events.Outcome.TheVariants.{Freed}
 use Rattle.thp_model.specs.declared.events.What.{What}
@@ -63,6 +63,10 @@ leaves_of h c _ = None
 abbrev pub joins_of : ℕ → What → Option ℕ
 joins_of c (Taken p) = Some c
 joins_of c _ = None
+
+-- the flight that a page joins has fewer than 255 pages
+abbrev pub HasFlightRoom : History → ℕ → What → Type 0
+HasFlightRoom h c w = IfSome (joins_of c w) (λ d. length (flight h d) < 255)
 
 -- 1 for that caller, and 0 for another or where there is none
 abbrev pub one_for : Option ℕ → ℕ → ℕ

@@ -7,7 +7,7 @@ ghost use Rattle.thp_model.specs.Counters.{splits_pmds, is_page_split, is_failed
 ghost use Rattle.thp_model.specs.Frames.{frames_given, frames_held};
 ghost use Rattle.thp_model.specs.Places.{flight};
 ghost use Rattle.thp_model.specs.Legal.{IsLegal, Fits};
-ghost use Rattle.thp_node.specs.Journals.{leaves_of, joins_of, one_for, counters_of, frames_of};
+ghost use Rattle.thp_node.specs.Journals.{leaves_of, HasFlightRoom, joins_of, one_for, counters_of, frames_of};
 
 use crate::answers::Counters;
 use std::alloc::{AllocError, Global};
@@ -23,7 +23,7 @@ pub(crate) struct Journal {
     next: u64,
     closed: bool,
     // how many pages each caller has in flight
-    flying: [u64; 64],
+    flying: [u8; 64],
     frames_given: u128,
     counters: Counters,
 }
@@ -80,6 +80,7 @@ impl Journal {
         requires caller { caller < 64 }
         requires room { 0 < self.old.room }
         requires fits { Fits self.old.shape self.old.events (by caller what) }
+        requires flight { HasFlightRoom self.old.events caller what }
         requires left { left ≡ leaves_of self.old.events caller what }
         requires split_pmds { split_pmds ≡ splits_pmds self.old.events what }
         ensures shape { self.new.shape ≡ self.old.shape }
@@ -136,7 +137,7 @@ impl Journal {
         requires { caller < 64 }
         ensures { result ≡ length (flight self.now.events caller) }
     {
-        self.flying[caller as usize]
+        u64::from(self.flying[caller as usize])
     }
 
     // How many frames were given back.
@@ -228,8 +229,8 @@ fn joins(caller: u32, what: &What) -> Option<u32>
 }
 
 // Counts a page that joins the flight of one caller, and a page that leaves that of another, where there are such.
-fn count_moves(flying: &mut [u64; 64], joins: Option<u32>, leaves: Option<u32>)
-    requires joins { IfSome joins (λ c. (c < 64) × (slice_index_or flying.old c 0 + 1 < 2 ^ 64)) }
+fn count_moves(flying: &mut [u8; 64], joins: Option<u32>, leaves: Option<u32>)
+    requires joins { IfSome joins (λ c. (c < 64) × (slice_index_or flying.old c 0 + 1 < 2 ^ 8)) }
     requires leaves { IfSome leaves (λ c. (c < 64) × (0 < slice_index_or flying.old c 0)) }
     ensures { (c : ℕ) → slice_index_or flying.new c 0 + one_for leaves c ≡ slice_index_or flying.old c 0 + one_for joins c }
 {

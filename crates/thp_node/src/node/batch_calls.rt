@@ -64,6 +64,7 @@ impl Node {
         requires queued { 0 < length (queue self.old.journal) }
         requires room { 0 < self.old.room }
         requires may_take { (no_pages (flight self.old.journal caller) || is_taking self.old.journal caller) ≡ true }
+        requires few { length (flight self.old.journal caller) < 255 }
         ensures oldest { slice_get (queue self.old.journal) 0 ≡ Some result }
         ensures did { Did self.old self.new caller (by caller (What.Taken result) ∷ []) }
     {

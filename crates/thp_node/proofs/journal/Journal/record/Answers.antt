@@ -6,7 +6,7 @@ use Rattle.thp_model.specs.Counts.{is_alloc}
 use Rattle.thp_model.specs.Counters.{splits_pmds, is_page_split, is_failed_try, queues}
 use Rattle.thp_model.specs.Legal.{Fits}
 use Rattle.thp_node.specs.declared.answers.Counters.{Counters}
-use Rattle.thp_node.specs.Journals.{JournalState, IsJournal, leaves_of, one_for}
+use Rattle.thp_node.specs.Journals.{JournalState, IsJournal, HasFlightRoom, leaves_of, one_for}
 use Rattle.thp_node.proofs.Recording.{counted, few_counted, frames_counted, few_frames_counted, may_join, may_leave, journal_push}
 use Rattle.thp_node.proofs.journal.Journal.record.Goals as goal
 
@@ -49,10 +49,8 @@ overflow_add-self-5 c =
 
 pub count_moves-requires-clause-joins : goal.count_moves-requires-clause-joins
 count_moves-requires-clause-joins c =
-    let h : History = c.self.inside.events.items in
-    let few : length h + 1 < 2 ^ 64 =
-    omega (arith, ap length (c.as_slice-events.ensures.value ∙ c.push_reserved.ensures.items), length_push h (by c.args.caller c.args.what)) in
-    may_join h c.args.caller c.args.what c.self.inside.flying _ c.requires.caller c.joins.ensures few c.self.invariant.flying_are
+    let few = subst (λ (j : JournalState). HasFlightRoom j.events c.args.caller c.args.what) (sym c.self.view_is) c.requires.flight in
+    may_join c.self.inside.events.items c.args.caller c.args.what c.self.inside.flying _ c.requires.caller c.joins.ensures few c.self.invariant.flying_are
 
 pub count_moves-requires-clause-leaves : goal.count_moves-requires-clause-leaves
 count_moves-requires-clause-leaves c =
