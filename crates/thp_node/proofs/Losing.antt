@@ -1,6 +1,7 @@
 -- What a call that takes mappings or a pin from a page records, once it is admitted.
-use Rattle.std.proofs.Common.{◌≡◌, ℕ, ◌+◌, ◌≤◌, Bool, [], ◌∷◌, ◌++◌, Option, Some, None, ap, ◌∙◌, subst}
+use Rattle.std.proofs.Common.{◌≡◌, ℕ, ◌+◌, ◌≤◌, Bool, List, [], ◌∷◌, ◌++◌, Option, Some, None, refl, ap, ◌∙◌, subst}
 use Rattle.thp_model.specs.declared.shape.Shape.{Shape}
+use Rattle.thp_model.specs.declared.events.Outcome.{Outcome}
 use Rattle.thp_model.specs.History.{History, by}
 use Rattle.thp_model.specs.Counts.{is_closed}
 use Rattle.thp_model.specs.Legal.{Fits, Gives}
@@ -9,14 +10,22 @@ use Rattle.thp_page.specs.Table.{Slot}
 use Rattle.thp_page.specs.Slots.{slot_at}
 use Rattle.thp_node.specs.declared.answers.Done.{Done}
 use Rattle.thp_node.specs.declared.page_call.Loss.{Loss}
+use Rattle.thp_node.specs.declared.page_call.Loss.TheVariants as loss
 use Rattle.thp_node.specs.BlocksState.{BlocksState, Lost}
 use Rattle.thp_node.specs.Holding.{IsNode}
 use Rattle.thp_node.specs.Homes.{block_of}
-use Rattle.thp_node.specs.Journals.{leaves_of}
+use Rattle.thp_node.specs.declared.journal.Unsaid.TheVariants.{FreedFrom}
+use Rattle.thp_node.specs.Journals.{leaves_of, unsaid_of}
 use Rattle.thp_node.specs.PageCalls.{loss_call, loss_what}
 use Rattle.thp_node.proofs.Admitting.{Found, at_home}
 use Rattle.thp_node.proofs.Homing.{legal_homed}
 use Rattle.thp_node.proofs.PageEvents.{LossFits, loss_fits, lost_node}
+
+-- what the event of a loss leaves unsaid: out of whose flight the page went
+pub loss_unsaid : (h : History) (c p : ℕ) (l : Loss) (o : Outcome) (set : List Bool) → FreedFrom (leaves_of h c (loss_what l p o set)) ≡ unsaid_of h (loss_what l p o set)
+loss_unsaid h c p loss.UnmapWhole o set = refl
+loss_unsaid h c p (loss.UnmapSub first count) o set = refl
+loss_unsaid h c p loss.Unpin o set = refl
 
 -- the event fits and tells what it did, the page leaves the flight in which it was, and the node holds what it should
 pub record Losing (s : Shape) (h : History) (c p : ℕ) (l : Loss) (old new : BlocksState) (done : Done) (left : Option ℕ) : Type 0 where

@@ -5,7 +5,7 @@ use Rattle.std.proofs.lemmas.Bool.{cases_lt}
 use Rattle.std.proofs.lemmas.List.{get_or_past, length_push}
 use Rattle.thp_model.specs.declared.events.Event.{Event}
 use Rattle.thp_model.specs.declared.events.What.{What}
-use Rattle.thp_model.specs.declared.events.What.TheVariants.{UnmapWhole, UnmapSub, Unpin, Taken, Split}
+use Rattle.thp_model.specs.declared.events.What.TheVariants.{UnmapWhole, UnmapSub, SplitPmd, Unpin, Taken, Split, Back, Dropped}
 use Rattle.thp_model.specs.declared.shape.Shape.{Shape}
 use Rattle.thp_model.specs.History.{History, by, count_of, some_event}
 use Rattle.thp_model.specs.Shapes.{IsShape}
@@ -18,7 +18,7 @@ use Rattle.thp_model.proofs.Kept.{frames_given_push, size_given}
 use Rattle.thp_model.proofs.LegalSteps.{legal_none, legal_push}
 use Rattle.thp_model.proofs.Pushes.{count_of_push, some_event_push, thp_split_pmd_push}
 use Rattle.thp_node.specs.declared.answers.Counters.{Counters}
-use Rattle.thp_node.specs.Journals.{HasFlightRoom, IsJournal, leaves_of, joins_of, one_for, frames_of}
+use Rattle.thp_node.specs.Journals.{HasFlightRoom, IsJournal, leaves_of, unsaid_of, leaves_by, pmds_by, joins_of, one_for, frames_of}
 use Rattle.thp_node.proofs.JournalLemmas.{few_events, few_frames_given, flight_moves, leaves_one}
 
 zeros : (n c : ℕ) → slice_index_or {A = ℕ} (replicate n 0) c 0 ≡ 0
@@ -99,6 +99,24 @@ may_leave shape h c w flying (Some d) l f size e g =
       elim (cases_lt d 64) [ inl y ↦ y | inr y ↦ absurd (omega (arith, some, get_or_past flying d 0 (omega arith))) ],
       some,
     )
+
+-- what an event leaves unsaid tells out of which flight its page goes, and how many PMD mappings it splits
+pub leaves_told : (h : History) (c : ℕ) (w : What) → leaves_by c w (unsaid_of h w) ≡ leaves_of h c w
+leaves_told h c (UnmapWhole p o r) = refl
+leaves_told h c (UnmapSub p a n o r) = refl
+leaves_told h c (Unpin p o r) = refl
+leaves_told h c (Split p r) = refl
+leaves_told h c (Back p) = refl
+leaves_told h c (Dropped p) = refl
+leaves_told h c w = refl
+
+pub pmds_told : (h : History) (w : What) → pmds_by w (unsaid_of h w) ≡ splits_pmds h w
+pmds_told h (UnmapWhole p o r) = refl
+pmds_told h (UnmapSub p a n o r) = refl
+pmds_told h (SplitPmd p) = refl
+pmds_told h (Unpin p o r) = refl
+pmds_told h (Split p r) = refl
+pmds_told h w = refl
 
 -- what an event adds: a page or none, the closing, frames, and to the four statistics
 pub record Adds (h : History) (c : ℕ) (w : What) (next alloc : ℕ) (close : Bool) (given frames : ℕ) (counters : Counters) (split failed queued pmds : ℕ) : Type 0 where

@@ -57,11 +57,6 @@ Loses loss.UnmapWhole old new = WholeMapped new old
 Loses (loss.UnmapSub first count) old new = RangeMapped first count new old
 Loses loss.Unpin old new = Pinned new old
 
--- how many PMD mappings it splits
-abbrev pub gain_splits : Gain → ℕ
-gain_splits gain.SplitPmd = 1
-gain_splits g = 0
-
 -- the outcome of a change, by the page after it
 abbrev pub outcome_by : PageState → Change → Bool → Bool → Outcome
 outcome_by new change closed nowhere =

@@ -50,7 +50,7 @@ impl PageCall {
 }
 
 impl Gain {
-    ghost use Rattle.thp_node.specs.PageCalls.{gain_call, gain_what, gain_splits, Gains};
+    ghost use Rattle.thp_node.specs.PageCalls.{gain_call, gain_what, Gains};
 
     // Does it to a page that doesn't refuse it.
     pub(crate) fn apply(self, page: &mut Page)
@@ -74,16 +74,6 @@ impl Gain {
             Gain::MapSub { first, count } => What::MapSub { page, first, count },
             Gain::SplitPmd => What::SplitPmd { page },
             Gain::Pin => What::Pin { page },
-        }
-    }
-
-    // How many PMD mappings it splits.
-    pub(crate) fn split_pmds(self) -> u32
-        ensures { result ≡ gain_splits self }
-    {
-        match self {
-            Gain::SplitPmd => 1,
-            _ => 0,
         }
     }
 }

@@ -10,6 +10,7 @@ ghost use Rattle.thp_node.specs.Homes.{block_of};
 ghost use Rattle.thp_node.specs.PageCalls.{gain_call, loss_call, page_call, gain_what, loss_what};
 
 use crate::answers::Done;
+use crate::journal::Unsaid;
 use crate::node::Node;
 use crate::page_call::{Gain, Loss, PageCall};
 use thp_model::{PageId, Refusal, What};
@@ -126,7 +127,7 @@ impl Node {
         let block = self.admit(page, PageCall::Gain(gain))?;
         self.blocks.gain(block, gain);
         self.journal
-            .record(caller, gain.what(page), None, gain.split_pmds());
+            .record(caller, gain.what(page), Unsaid::Nothing);
         Ok(())
     }
 
@@ -143,7 +144,8 @@ impl Node {
         let block = self.admit(page, PageCall::Loss(loss))?;
         let closed = self.journal.is_closed();
         let (done, left) = self.blocks.lose(block, loss, closed);
-        self.journal.record(caller, loss.what(page, &done), left, 0);
+        self.journal
+            .record(caller, loss.what(page, &done), Unsaid::FreedFrom(left));
         Ok(done)
     }
 

@@ -5,11 +5,12 @@ ghost use Rattle.thp_model.specs.Places.{flight};
 ghost use Rattle.thp_model.specs.Refusals.{refusal};
 ghost use Rattle.thp_model.specs.Refusals as call;
 ghost use Rattle.thp_model.specs.Runs.{take_events, put_back_events, scan_events, still_flying, try_event, return_event};
-ghost use Rattle.thp_node.specs.Batches.{back_reply, scan_reply, IsInFront, FrontsStay, OtherFrontsStay};
+ghost use Rattle.thp_node.specs.Batches.{back_reply, scan_reply, IsInFront, FrontsStay};
 ghost use Rattle.thp_node.specs.Calls.{Did, Refused};
 
 use crate::answers::{BackReply, ScanReply};
 use crate::batch::Batch;
+use crate::journal::Unsaid;
 use crate::node::Node;
 use thp_model::{PageId, Refusal, What};
 
@@ -89,11 +90,11 @@ impl Node {
         if self.journal.is_closed() {
             self.blocks.drop_out(block);
             self.journal
-                .record(caller, What::Dropped { page }, Some(caller), 0);
+                .record(caller, What::Dropped { page }, Unsaid::Nothing);
         } else {
             self.blocks.enqueue(block);
             self.journal
-                .record(caller, What::Back { page }, Some(caller), 0);
+                .record(caller, What::Back { page }, Unsaid::Nothing);
         }
     }
 
@@ -108,19 +109,11 @@ impl Node {
         ensures recorded { OnOk result (Did self.old self.new caller (scan_events self.old.shape self.old.journal caller n)) }
         ensures reply { IfOk result (λ r. r ≡ scan_reply (scan_events self.old.shape self.old.journal caller n)) }
         ensures refused { IfErr result (Refused self.old self.new (refusal self.old.shape self.old.journal (call.scan caller)) (3 * length (take_events self.old.journal caller n))) }
-        ensures fronts { OtherFrontsStay caller self.old.journal self.new.journal }
+        ensures fronts { FrontsStay self.old.journal self.new.journal }
     {
-        if self.journal.flying(caller) != 0 {
-            return Err(Refusal::HasBatch);
-        }
-        let count = n.min(self.blocks.queue().len());
-        if let Err(_) = self.journal.reserve(3 * count as usize) {
-            return Err(Refusal::OutOfMemory);
-        }
-        match self.take(caller, n) {
-            Ok(batch) => Ok(self.scan_batch(batch)),
-            Err(_) => unreachable!(),
-        }
+        let count = self.admit_take(caller, n, 3)?;
+        let batch = self.take_oldest(caller, count);
+        Ok(self.scan_batch(batch))
     }
 
     // Tries each page of a batch that was just taken, and returns those that are pinned, for which there is room.
