@@ -10,4 +10,5 @@ pub mod PageCalls
 pub mod BlocksState
 pub mod Flying
 pub mod Takings
+pub mod Returning
 pub mod Scanning

@@ -235,7 +235,7 @@ impl Blocks {
     }
 
     // The number of the page of a block.
-    fn number(&self, block: u32) -> PageId
+    pub(crate) fn number(&self, block: u32) -> PageId
         requires { IsSome (slot_at self.now.table block) }
         ensures { AtSlot self.now.table block (λ x. result ≡ x.id) }
     {

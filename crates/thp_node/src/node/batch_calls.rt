@@ -9,6 +9,7 @@ ghost use Rattle.thp_model.specs.Refusals as call;
 ghost use Rattle.thp_model.specs.Runs.{take_events, split_next_events, put_back_events, scan_events, next_page, rest_after, still_flying, try_event, return_event};
 ghost use Rattle.thp_node.specs.Batches.{rest, tried, IsInFront, FrontsStay, OtherFrontsStay, OlderAreInFront};
 ghost use Rattle.thp_node.specs.Calls.{Did, Refused};
+ghost use Rattle.thp_node.specs.Homes.{block_of};
 
 use crate::answers::{BackReply, ScanReply, Tried};
 use crate::batch::Batch;
@@ -149,6 +150,7 @@ impl Node {
         ensures none { IfNone result (has_page page (flight self.now.journal caller) ≡ false) }
         ensures flies { IfSome result (λ b. has_page page (flight self.now.journal caller) ≡ true) }
         ensures block { IfSome result (IsFlyingAt self.now.table caller page) }
+        ensures home { IfSome result (λ b. block_of self.now.journal page ≡ Some b) }
     {
         match self.blocks.find(page) {
             Some(block) => {
