@@ -4,7 +4,6 @@ ghost use Rattle.std.specs.Bool.{OnTrue, OnFalse};
 ghost use Rattle.thp_links.specs.Indices.{without};
 ghost use Rattle.thp_links.specs.Standing.{Stands};
 ghost use Rattle.thp_model.specs.Pages.{gives_frames, page_refusal, IsFresh, PageSplit, PageState};
-ghost use Rattle.thp_model.specs.Shapes.{IsShape};
 ghost use Rattle.thp_page.specs.Slots.{slot_at, IsHeld};
 ghost use Rattle.thp_page.specs.Table.{Slot};
 ghost use Rattle.thp_places.specs.Flying.{IsFlyingAt};
@@ -41,9 +40,10 @@ impl Model for Places {
 }
 
 impl Places {
-    /// No page in any block. It takes all memory that the pages will need, and fails where that isn't there.
+    /// No page in any of the shape's blocks. It takes all memory that the pages will need, and fails where that isn't there.
     pub fn new(alloc: Global, shape: Shape) -> Result<Places, AllocError>
-        requires { IsShape shape }
+        requires least { 2 ≤ shape.order }
+        requires most { shape.order ≤ 9 }
         ensures size { IfOk result (λ p. length p.table.slots ≡ shape.blocks) }
         ensures order { IfOk result (λ p. p.table.order ≡ shape.order) }
         ensures empty { IfOk result (λ p. (i : ℕ) → slot_at p.table i ≡ None) }
