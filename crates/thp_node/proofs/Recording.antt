@@ -19,7 +19,8 @@ use Rattle.thp_model.proofs.LegalSteps.{legal_none, legal_push}
 use Rattle.thp_model.proofs.Pushes.{count_of_push, some_event_push, thp_split_pmd_push}
 use Rattle.thp_node.specs.declared.answers.Counters.{Counters}
 use Rattle.thp_node.specs.Journals.{HasFlightRoom, IsJournal, leaves_of, unsaid_of, leaves_by, pmds_by, joins_of, one_for, frames_of}
-use Rattle.thp_node.proofs.JournalLemmas.{few_events, few_frames_given, flight_moves, leaves_one}
+use Rattle.thp_node.proofs.JournalLemmas.{few_frames_given, flight_moves, leaves_one}
+use Rattle.thp_places.proofs.Starting.{few_events}
 
 zeros : (n c : ℕ) → slice_index_or {A = ℕ} (replicate n 0) c 0 ≡ 0
 zeros zero c = refl

@@ -20,26 +20,26 @@ use Rattle.thp_page.specs.declared.standing.Standing.TheVariants.{Nowhere, Queue
 use Rattle.thp_page.specs.Table.{Slot}
 use Rattle.thp_page.specs.Table.{Table}
 use Rattle.thp_page.specs.Slots.{slot_at}
-use Rattle.thp_node.specs.BlocksState.{BlocksState, Edits, AtSlot}
+use Rattle.thp_places.specs.PlacesState.{PlacesState, Edits, AtSlot}
 use Rattle.thp_node.specs.Batches.{BatchState, IsInFront}
 use Rattle.thp_node.specs.Calls.{Did}
-use Rattle.thp_node.specs.Flying.{IsFlyingAt}
-use Rattle.thp_node.specs.Holding.{IsNode}
-use Rattle.thp_node.specs.Homes.{block_of, block_after}
+use Rattle.thp_places.specs.Flying.{IsFlyingAt}
+use Rattle.thp_places.specs.Holding.{IsNode}
+use Rattle.thp_places.specs.Homes.{block_of, block_after}
 use Rattle.thp_node.specs.NodeState.{NodeState}
 use Rattle.thp_node.specs.Returning.{BeginsIn, return_first}
-use Rattle.thp_node.proofs.Admitting.{Found, at_home}
+use Rattle.thp_places.proofs.Admitting.{Found, at_home}
 use Rattle.thp_node.proofs.CallLemmas.{did_then}
-use Rattle.thp_node.proofs.Homing.{legal_homed, block_push}
-use Rattle.thp_node.proofs.ListEvents.{back_node, dropped_node}
-use Rattle.thp_node.proofs.Standings.{standing_flying}
+use Rattle.thp_places.proofs.Homing.{legal_homed, block_push}
+use Rattle.thp_places.proofs.ListEvents.{back_node, dropped_node}
+use Rattle.thp_places.proofs.Standings.{standing_flying}
 
 -- a page of a batch stands in no queue
 pub flying_outside : (t : Table) (c p b : ℕ) → IsFlyingAt t c p b → (x : Slot) → slot_at t b ≡ Some x → x.standing ≢ Queued
 flying_outside t c p b w x at = λ e. absurd (let same : x ≡ w.slot = cc in let no : Queued ≡ Batch c = sym e ∙ ap (λ (y : Slot). y.standing) same ∙ w.stands in cc)
 
 -- the node once a page of a batch was dropped
-pub dropped_all : (s r : Shape) (h k : History) (c p b : ℕ) (old new : BlocksState) → IsNode s h old.table old.queue → IsFlyingAt old.table c p b → Fits s h (by c (what.Dropped p)) →
+pub dropped_all : (s r : Shape) (h k : History) (c p b : ℕ) (old new : PlacesState) → IsNode s h old.table old.queue → IsFlyingAt old.table c p b → Fits s h (by c (what.Dropped p)) →
     AtSlot old.table b (λ x. Edits old new b (Some (record x { standing = Nowhere })) old.queue 0) → r ≡ s → k ≡ h ++ by c (what.Dropped p) ∷ [] → IsNode r k new.table new.queue
 dropped_all s r h k c p b old new m w f edits e g =
     let F : ℕ → Type 0 = λ z. Fits s h (by c (what.Dropped z)) in
@@ -49,7 +49,7 @@ dropped_all s r h k c p b old new m w f edits e g =
     subst (λ t. N t k) (sym e) (subst (λ j. N s j) (ap (λ z. h ++ by c (what.Dropped z) ∷ []) w.id_is ∙ sym g) node)
 
 -- the node once a page of a batch was put back
-pub back_all : (s r : Shape) (h k : History) (c p b : ℕ) (old new : BlocksState) → IsNode s h old.table old.queue → IsFlyingAt old.table c p b → Fits s h (by c (what.Back p)) →
+pub back_all : (s r : Shape) (h k : History) (c p b : ℕ) (old new : PlacesState) → IsNode s h old.table old.queue → IsFlyingAt old.table c p b → Fits s h (by c (what.Back p)) →
     AtSlot old.table b (λ x. Edits old new b (Some (record x { standing = Queued })) (old.queue ++ b ∷ []) 4) → r ≡ s → k ≡ h ++ by c (what.Back p) ∷ [] → IsNode r k new.table new.queue
 back_all s r h k c p b old new m w f edits e g =
     let F : ℕ → Type 0 = λ z. Fits s h (by c (what.Back z)) in

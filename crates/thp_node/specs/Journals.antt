@@ -13,7 +13,7 @@ use Rattle.thp_model.specs.Counters.{thp_split_page, thp_split_page_failed, thp_
 use Rattle.thp_model.specs.Frames.{frames_given}
 use Rattle.thp_model.specs.Places.{flights, flight}
 use Rattle.thp_model.specs.Legal.{IsLegal}
-use Rattle.thp_node.specs.Homes.{flier}
+use Rattle.thp_places.specs.Homes.{flier}
 use Rattle.thp_node.specs.declared.answers.Counters.{Counters}
 use Rattle.thp_node.specs.declared.journal.Unsaid.{Unsaid}
 use Rattle.thp_node.specs.declared.journal.Unsaid.TheVariants.{Nothing, FreedFrom, Mapped}

@@ -189,6 +189,17 @@ impl Places {
         }
     }
 
+    /// The number of the page of a block.
+    pub fn number(&self, block: u32) -> PageId
+        requires { IsSome (slot_at self.now.table block) }
+        ensures { AtSlot self.now.table block (λ x. result ≡ x.id) }
+    {
+        match self.table.page(block) {
+            Some((id, _)) => id,
+            None => unreachable!(),
+        }
+    }
+
     /// The pins of the page of a block.
     pub fn pins(&self, block: u32) -> u32
         requires { IsSome (slot_at self.now.table block) }
@@ -265,17 +276,6 @@ impl Places {
         ensures same { Relinks self.old self.new 2 }
     {
         chain.pop(&mut self.table)
-    }
-
-    // The number of the page of a block.
-    fn number(&self, block: u32) -> PageId
-        requires { IsSome (slot_at self.now.table block) }
-        ensures { AtSlot self.now.table block (λ x. result ≡ x.id) }
-    {
-        match self.table.page(block) {
-            Some((id, _)) => id,
-            None => unreachable!(),
-        }
     }
 
     // Takes mappings or a pin from the page of a block, which isn't refused, and answers what becomes of it.

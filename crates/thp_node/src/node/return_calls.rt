@@ -7,7 +7,7 @@ ghost use Rattle.thp_model.specs.Refusals as call;
 ghost use Rattle.thp_model.specs.Runs.{take_events, put_back_events, scan_events, still_flying, try_event, return_event};
 ghost use Rattle.thp_node.specs.Batches.{back_reply, scan_reply, IsInFront, FrontsStay};
 ghost use Rattle.thp_node.specs.Calls.{Did, Refused};
-ghost use Rattle.thp_node.specs.Homes.{block_of};
+ghost use Rattle.thp_places.specs.Homes.{block_of};
 
 use crate::answers::{BackReply, ScanReply};
 use crate::batch::Batch;
@@ -17,7 +17,7 @@ use arrayvec::ArrayVec;
 use thp_model::{PageId, Refusal, What};
 
 impl Node {
-    ghost use Rattle.thp_node.specs.Flying.{IsFlyingAt};
+    ghost use Rattle.thp_places.specs.Flying.{IsFlyingAt};
     ghost use Rattle.thp_node.specs.Returning.{BeginsIn, return_first};
     ghost use Rattle.thp_node.specs.Scanning.{events_behind};
 

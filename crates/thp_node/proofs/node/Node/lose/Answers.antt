@@ -1,20 +1,19 @@
-use Rattle.std.proofs.Common.{◌≡◌, ℕ, Option, [], ◌∷◌, ◌++◌, sym, ◌∙◌, subst, ap, ap₂, arith}
+use Rattle.std.proofs.Common.{◌≡◌, [], ◌∷◌, ◌++◌, sym, ◌∙◌, subst, ap, ap₂, arith}
 use Rattle.thp_model.specs.declared.shape.Shape.{Shape}
 use Rattle.thp_model.specs.declared.events.What.{What}
 use Rattle.thp_model.specs.History.{History, by}
 use Rattle.thp_model.specs.Frames.{outcome, released}
 use Rattle.thp_model.specs.Legal.{Fits}
 use Rattle.thp_model.specs.Refusals.{refusal}
-use Rattle.thp_node.specs.declared.page_call.PageCall.TheVariants as either
-use Rattle.thp_node.specs.Holding.{IsNode}
-use Rattle.thp_node.specs.Homes.{block_of}
+use Rattle.thp_places.specs.declared.page_call.PageCall.TheVariants as either
+use Rattle.thp_places.specs.Holding.{IsNode}
+use Rattle.thp_places.specs.Homes.{block_of}
 use Rattle.thp_node.specs.Journals.{unsaid_of}
-use Rattle.thp_node.specs.declared.journal.Unsaid.TheVariants.{FreedFrom}
 use Rattle.thp_node.specs.NodeState.{NodeState}
-use Rattle.thp_node.specs.PageCalls.{loss_call, loss_what}
-use Rattle.thp_node.proofs.Admitting.{ready}
+use Rattle.thp_places.specs.PageCalls.{loss_call, loss_what}
+use Rattle.thp_places.proofs.Admitting.{ready}
 use Rattle.thp_node.proofs.CallLemmas.{did_one}
-use Rattle.thp_node.proofs.Losing.{Losing, losing, loss_unsaid}
+use Rattle.thp_node.proofs.Losing.{Losing, losing}
 use Rattle.thp_node.proofs.Fronts.{fronts_same, fronts_grown, loss_takes_none}
 use Rattle.thp_node.proofs.node.Node.lose.Goals as goal
 
@@ -57,7 +56,7 @@ record-requires-clause-fits c =
     subst P (sym c.what.ensures) (before c).fits
 
 pub record-requires-clause-unsaid : goal.record-requires-clause-unsaid
-record-requires-clause-unsaid c = ap (λ (o : Option ℕ). FreedFrom o) (before c).left_is ∙ loss_unsaid c.self.inside.journal.events c.args.caller c.args.page c.args.loss _ _ ∙ ap (unsaid_of c.self.inside.journal.events) (sym c.what.ensures)
+record-requires-clause-unsaid c = (before c).unsaid_is ∙ ap (unsaid_of c.self.inside.journal.events) (sym c.what.ensures)
 
 events : (c : goal.After-record) → c.record.new.self.events ≡ c.self.inside.journal.events ++ by c.args.caller (loss_what c.args.loss c.args.page c.lose-done.result.0.outcome c.lose-done.result.0.released) ∷ []
 events c = c.record.ensures.events ∙ ap (λ v. c.self.inside.journal.events ++ by c.args.caller v ∷ []) c.what.ensures
