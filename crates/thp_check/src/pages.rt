@@ -1,9 +1,8 @@
 //! The live pages of a replay: the table of their descriptors, with the queue that is linked through it.
-ghost use Rattle.std.specs.Prelude.{◌≡◌, ◌≢◌, ℕ, ◌<◌, [], ◌∷◌, ◌++◌, length, drop, slice_get, Option, Some, None, IsSome, IfSome, IfNone, IfOk, MatchOption, false};
+ghost use Rattle.std.specs.Prelude.{◌≡◌, ◌≢◌, ℕ, ◌<◌, ◌≤◌, [], ◌∷◌, ◌++◌, length, drop, slice_get, Option, Some, None, IsSome, IfSome, IfNone, IfOk, MatchOption, false};
 ghost use Rattle.std.specs.Bool.{OnTrue, OnFalse};
 ghost use Rattle.thp_links.specs.Indices.{without};
 ghost use Rattle.thp_model.specs.Pages.{gives_frames, page_refusal, IsFresh, PageSplit, PageState};
-ghost use Rattle.thp_model.specs.Shapes.{IsShape};
 ghost use Rattle.thp_page.specs.Slots.{slot_at, IsHeld};
 ghost use Rattle.thp_page.specs.Table.{Slot};
 ghost use Rattle.thp_node.specs.BlocksState.{AtSlot, Edits, batch_of, left_by, slot_after, queue_after, LeavesQueue, TakesFirst};
@@ -41,7 +40,8 @@ impl Model for Pages {
 impl Pages {
     // No page in any block. It takes all memory that the pages will need.
     pub(crate) fn new(alloc: Global, shape: Shape) -> Result<Pages, AllocError>
-        requires { IsShape shape }
+        requires least { 2 ≤ shape.order }
+        requires most { shape.order ≤ 9 }
         ensures size { IfOk result (λ p. length p.table.slots ≡ shape.blocks) }
         ensures order { IfOk result (λ p. p.table.order ≡ shape.order) }
         ensures empty { IfOk result (λ p. (i : ℕ) → slot_at p.table i ≡ None) }

@@ -1,6 +1,5 @@
 //! A replay of a history: what a node would hold after the events so far.
-ghost use Rattle.std.specs.Prelude.{◌≡◌, ◌<◌, ◌+◌, ◌^◌, ℕ, [], ◌||◌, IfOk, IsTrue, ◌↔◌};
-ghost use Rattle.thp_model.specs.Shapes.{IsShape};
+ghost use Rattle.std.specs.Prelude.{◌≡◌, ◌<◌, ◌≤◌, ◌+◌, ◌^◌, ℕ, [], ◌||◌, IfOk, IsTrue, ◌↔◌};
 ghost use Rattle.thp_model.specs.Places.{no_pages, takes_by};
 ghost use Rattle.thp_check.specs.Flights.{pages_in};
 ghost use Rattle.thp_check.specs.Meanings.{is_taker};
@@ -30,7 +29,8 @@ impl Replay {
 
     // The state before any event.
     pub(crate) fn new(alloc: Global, shape: Shape) -> Result<Replay, AllocError>
-        requires { IsShape shape }
+        requires least { 2 ≤ shape.order }
+        requires most { shape.order ≤ 9 }
         ensures { IfOk result (Means shape []) }
     {
         let pages = Pages::new(alloc, shape)?;
