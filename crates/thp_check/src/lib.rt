@@ -5,8 +5,8 @@
 #![tactic(auto)]
 
 mod checking;
-mod entries;
 mod flights;
+mod links;
 mod page_call;
 mod pages;
 mod replay;

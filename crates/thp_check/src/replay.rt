@@ -1,7 +1,8 @@
 //! A replay of a history: what a node would hold after the events so far.
-ghost use Rattle.std.specs.Prelude.{◌≡◌, ◌<◌, ◌≤◌, ◌+◌, ◌^◌, ℕ, [], ◌||◌, IfOk, IsTrue, ◌↔◌};
+ghost use Rattle.std.specs.Prelude.{◌≡◌, ◌<◌, ◌≤◌, ◌+◌, ◌^◌, ℕ, [], ◌||◌, slice_get, Some, IfNone, IfOk, IfSome, IsTrue, ◌↔◌};
 ghost use Rattle.thp_model.specs.Places.{no_pages, takes_by};
-ghost use Rattle.thp_check.specs.Flights.{pages_in};
+ghost use Rattle.thp_node.specs.Flying.{IsFlyingAt};
+ghost use Rattle.thp_check.specs.Flights.{blocks_in};
 ghost use Rattle.thp_check.specs.Meanings.{is_taker};
 ghost use Rattle.thp_check.specs.PageCalls.{gain_what, loss_what};
 
@@ -25,7 +26,7 @@ pub(crate) struct Replay {
 }
 
 impl Replay {
-    ghost use Rattle.thp_check.specs.Meanings.{Means, IsKnown, Follows, Admits};
+    ghost use Rattle.thp_check.specs.Meanings.{Means, IsKnown, IsNeverFirst, Follows, Admits};
 
     // The state before any event.
     pub(crate) fn new(alloc: Global, shape: Shape) -> Result<Replay, AllocError>
@@ -34,7 +35,7 @@ impl Replay {
         ensures { IfOk result (Means shape []) }
     {
         let pages = Pages::new(alloc, shape)?;
-        let flights = Flights::new(alloc)?;
+        let flights = Flights::new(alloc, shape.blocks)?;
         Ok(Replay {
             pages,
             flights,
@@ -45,57 +46,51 @@ impl Replay {
     }
 
     // Whether an event fits, and the state after it where it does.
-    pub(crate) fn admit(&mut self, event: &Event) -> Result<bool, AllocError>
+    pub(crate) fn admit(&mut self, event: &Event) -> bool
         requires known { IsKnown self.old }
         requires small { self.old.next + 1 < 2 ^ 64 }
-        ensures { IfOk result (Admits self.old self.new event.now) }
+        ensures { Admits self.old self.new event.now result }
     {
-        match self.apply(event.caller, &event.what) {
-            Ok(fits) => {
-                self.taker = taker_of(event);
-                Ok(fits)
-            }
-            Err(fault) => Err(fault),
-        }
+        let fits = self.apply(event.caller, &event.what);
+        self.taker = taker_of(event);
+        fits
     }
 
     // `admit`, but for the note whether the event is a take.
-    fn apply(&mut self, caller: u32, what: &What) -> Result<bool, AllocError>
+    fn apply(&mut self, caller: u32, what: &What) -> bool
         requires known { IsKnown self.old }
         requires small { self.old.next + 1 < 2 ^ 64 }
-        ensures { IfOk result (Follows self.old self.new caller what.now) }
+        ensures { Follows self.old self.new caller what.now result }
     {
         match *what {
-            What::Alloc { page, block } => Ok(self.alloc(page, block)),
-            What::MapWhole { page } => Ok(self.gain(page, Gain::MapWhole)),
+            What::Alloc { page, block } => self.alloc(page, block),
+            What::MapWhole { page } => self.gain(page, Gain::MapWhole),
             What::UnmapWhole {
                 page,
                 outcome,
                 released,
-            } => Ok(self.lose(page, Loss::UnmapWhole, outcome, released)),
-            What::MapSub { page, first, count } => {
-                Ok(self.gain(page, Gain::MapSub { first, count }))
-            }
+            } => self.lose(page, Loss::UnmapWhole, outcome, released),
+            What::MapSub { page, first, count } => self.gain(page, Gain::MapSub { first, count }),
             What::UnmapSub {
                 page,
                 first,
                 count,
                 outcome,
                 released,
-            } => Ok(self.lose(page, Loss::UnmapSub { first, count }, outcome, released)),
-            What::SplitPmd { page } => Ok(self.gain(page, Gain::SplitPmd)),
-            What::Pin { page } => Ok(self.gain(page, Gain::Pin)),
+            } => self.lose(page, Loss::UnmapSub { first, count }, outcome, released),
+            What::SplitPmd { page } => self.gain(page, Gain::SplitPmd),
+            What::Pin { page } => self.gain(page, Gain::Pin),
             What::Unpin {
                 page,
                 outcome,
                 released,
-            } => Ok(self.lose(page, Loss::Unpin, outcome, released)),
+            } => self.lose(page, Loss::Unpin, outcome, released),
             What::Taken { page } => self.take(caller, page),
-            What::Split { page, released } => Ok(self.split(caller, page, released)),
-            What::Pinned { page } => Ok(self.is_pinned(caller, page)),
-            What::Back { page } => Ok(self.put_back(caller, page)),
-            What::Dropped { page } => Ok(self.drop_page(caller, page)),
-            What::Close => Ok(self.close()),
+            What::Split { page, released } => self.split(caller, page, released),
+            What::Pinned { page } => self.is_pinned(caller, page),
+            What::Back { page } => self.put_back(caller, page),
+            What::Dropped { page } => self.drop_page(caller, page),
+            What::Close => self.close(),
         }
     }
 
@@ -131,6 +126,7 @@ impl Replay {
 
     // A page that loses mappings or a pin, with the outcome and the frames that the event tells.
     fn lose(&mut self, page: PageId, loss: Loss, outcome: Outcome, released: SubSet) -> bool
+        requires { IsKnown self.old }
         ensures { (c : ℕ) → Follows self.old self.new c (loss_what loss page outcome released) result }
     {
         let block = match self.pages.find(page) {
@@ -139,7 +135,7 @@ impl Replay {
         };
         match self.pages.lose(block, loss, self.closed) {
             Ok((done, left)) => {
-                self.flights.leave(left, page);
+                self.flights.leave(left, block);
                 is_told(&done, outcome, released)
             }
             Err(_) => false,
@@ -147,29 +143,32 @@ impl Replay {
     }
 
     // A take of the oldest page.
-    fn take(&mut self, caller: u32, page: PageId) -> Result<bool, AllocError>
-        ensures { IfOk result (Follows self.old self.new caller (What.Taken page)) }
+    fn take(&mut self, caller: u32, page: PageId) -> bool
+        requires { IsKnown self.old }
+        ensures { Follows self.old self.new caller (What.Taken page) result }
     {
         if !self.may_take(caller) {
-            return Ok(false);
+            return false;
         }
+        let block = match self.pages.find(page) {
+            Some(block) => block,
+            None => return false,
+        };
         match self.pages.take_first(caller) {
             Some(first) => {
                 if first != page {
-                    return Ok(false);
+                    return false;
                 }
-                match self.flights.join(caller, page) {
-                    Ok(()) => Ok(true),
-                    Err(fault) => Err(fault),
-                }
+                self.flights.join(caller, block);
+                true
             }
-            None => Ok(false),
+            None => false,
         }
     }
 
     // Whether a caller has no page in flight, or goes on taking.
     fn may_take(&self, caller: u32) -> bool
-        ensures { result ≡ (no_pages (pages_in self.now.flights caller) || is_taker self.now.taker caller) }
+        ensures { result ≡ (no_pages (blocks_in self.now.flights caller) || is_taker self.now.taker caller) }
     {
         if let None = self.flights.first_of(caller) {
             return true;
@@ -193,7 +192,7 @@ impl Replay {
             return false;
         }
         let given = self.pages.split(block);
-        self.flights.leave(Some(caller), page);
+        self.flights.leave(Some(caller), block);
         given == released
     }
 
@@ -209,15 +208,16 @@ impl Replay {
 
     // A put-back of the first page of the caller's flight.
     fn put_back(&mut self, caller: u32, page: PageId) -> bool
+        requires { IsKnown self.old }
         ensures { Follows self.old self.new caller (What.Back page) result }
     {
-        if self.closed || !self.flights.is_first(caller, page) {
+        if self.closed {
             return false;
         }
-        match self.pages.find_in_batch(page, caller) {
+        match self.find_first(caller, page) {
             Some(block) => {
                 self.pages.enqueue(block);
-                self.flights.leave(Some(caller), page);
+                self.flights.leave(Some(caller), block);
                 true
             }
             None => false,
@@ -226,18 +226,33 @@ impl Replay {
 
     // The first page of the caller's flight, which goes nowhere.
     fn drop_page(&mut self, caller: u32, page: PageId) -> bool
+        requires { IsKnown self.old }
         ensures { Follows self.old self.new caller (What.Dropped page) result }
     {
-        if !self.closed || !self.flights.is_first(caller, page) {
+        if !self.closed {
             return false;
         }
-        match self.pages.find_in_batch(page, caller) {
+        match self.find_first(caller, page) {
             Some(block) => {
                 self.pages.drop_out(block);
-                self.flights.leave(Some(caller), page);
+                self.flights.leave(Some(caller), block);
                 true
             }
             None => false,
+        }
+    }
+
+    // The block of a page that is the first of a caller's flight.
+    fn find_first(&self, caller: u32, page: PageId) -> Option<u32>
+        ensures there { IfSome result (IsFlyingAt self.now.pages.table caller page) }
+        ensures first { IfSome result (λ b. slice_get (blocks_in self.now.flights caller) 0 ≡ Some b) }
+        ensures none { IfNone result (IsNeverFirst self.now caller page) }
+    {
+        let block = self.pages.find_in_batch(page, caller)?;
+        if self.flights.is_first(caller, block) {
+            Some(block)
+        } else {
+            None
         }
     }
 
