@@ -36,6 +36,12 @@ fn main(rt: HostRuntime) -> Result<()> {
             blocks,
             &histories::batches(rt.alloc(), blocks, count)?,
         )?;
+        time_check(
+            &rt,
+            "a batch of one caller",
+            blocks,
+            &histories::one_caller(rt.alloc(), blocks, count)?,
+        )?;
     }
     Ok(())
 }
