@@ -9,17 +9,17 @@ use Rattle.thp_model.specs.Counts.{is_freed}
 use Rattle.thp_model.specs.FlightSteps.{flight_by}
 use Rattle.thp_model.specs.Places.{has_page, no_pages, flight, without}
 use Rattle.thp_model.proofs.Bools.{by_bool}
-use Rattle.thp_model.proofs.Flights.{flight_push}
-use Rattle.thp_node.specs.Homes.{block_of}
-use Rattle.thp_node.proofs.Homing.{block_push, block_stays}
-use Rattle.thp_node.proofs.Keeping.{blocks_same, blocks_without}
-use Rattle.thp_node.proofs.Standings.{has_not}
-use Rattle.thp_check.specs.declared.page_call.Gain.{Gain}
-use Rattle.thp_check.specs.declared.page_call.Gain.TheVariants as gain
-use Rattle.thp_check.specs.declared.page_call.Loss.{Loss}
-use Rattle.thp_check.specs.declared.page_call.Loss.TheVariants as loss
+use Rattle.thp_places.specs.Homes.{block_of}
+use Rattle.thp_places.specs.PageCalls.{gain_what, loss_what}
+use Rattle.thp_places.proofs.Homing.{block_push, block_stays}
+use Rattle.thp_places.proofs.Keeping.{blocks_same, blocks_without}
+use Rattle.thp_places.proofs.Standings.{has_not}
+use Rattle.thp_places.specs.declared.page_call.Gain.{Gain}
+use Rattle.thp_places.specs.declared.page_call.Gain.TheVariants as gain
+use Rattle.thp_places.specs.declared.page_call.Loss.{Loss}
+use Rattle.thp_places.specs.declared.page_call.Loss.TheVariants as loss
 use Rattle.thp_check.specs.Flights.{flight_left}
-use Rattle.thp_check.specs.PageCalls.{gain_what, loss_what}
+use Rattle.thp_check.proofs.PageEvents.{loss_flight_by}
 
 -- two lists that begin alike
 same_cons : (y : ℕ) (o : Option ℕ) (xs ys : List (Option ℕ)) → ◌≡◌ {A = List (Option ℕ)} (o ∷ xs) (Some y ∷ ys) → (o ≡ Some y) × (xs ≡ ys)
@@ -117,11 +117,6 @@ loss_home h c p loss.UnmapWhole o set r e = block_push h (by c (loss_what loss.U
 loss_home h c p (loss.UnmapSub f n) o set r e =
     block_push h (by c (loss_what (loss.UnmapSub f n) p o set)) r ∙ block_stays r (block_of h r) (loss_what (loss.UnmapSub f n) p o set) refl e
 loss_home h c p loss.Unpin o set r e = block_push h (by c (loss_what loss.Unpin p o set)) r ∙ block_stays r (block_of h r) (loss_what loss.Unpin p o set) refl e
-
-loss_flight_by : (h : History) (c p : ℕ) (l : Loss) (o : Outcome) (set : List Bool) (d : ℕ) → flight (h ++ by c (loss_what l p o set) ∷ []) d ≡ flight_by (flight h d) p o
-loss_flight_by h c p loss.UnmapWhole o set d = flight_push h d c (loss_what loss.UnmapWhole p o set)
-loss_flight_by h c p (loss.UnmapSub f n) o set d = flight_push h d c (loss_what (loss.UnmapSub f n) p o set)
-loss_flight_by h c p loss.Unpin o set d = flight_push h d c (loss_what loss.Unpin p o set)
 
 -- so it leaves those still in flight
 pub loss_flying_home : (h : History) (c p : ℕ) (l : Loss) (o : Outcome) (set : List Bool) (d r : ℕ) → has_page r (flight (h ++ by c (loss_what l p o set) ∷ []) d) ≡ true →

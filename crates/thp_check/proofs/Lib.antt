@@ -1,6 +1,3 @@
-pub mod PageUses
-pub mod Relinking
-pub mod Moving
 pub mod FlightLists
 pub mod PageEvents
 pub mod FlightBlocks

@@ -7,15 +7,15 @@ use Rattle.thp_model.specs.History.{History, by}
 use Rattle.thp_model.specs.Counts.{allocations, is_closed}
 use Rattle.thp_model.specs.Places.{flight, is_taking}
 use Rattle.thp_model.specs.Legal.{Fits}
-use Rattle.thp_node.specs.Holding.{IsNode}
-use Rattle.thp_node.specs.Homes.{block_of}
+use Rattle.thp_places.specs.Holding.{IsNode}
+use Rattle.thp_places.specs.Homes.{block_of}
 use Rattle.thp_check.specs.Flights.{blocks_in}
 use Rattle.thp_check.specs.declared.replay.Replay.{Replay}
 
 -- the pages, the queue, the flights and the numbers of a replay are those of the history, which is legal; a flight's blocks
 -- are those of its pages in order
 pub record Keeps (s : Shape) (h : History) (r : Replay) : Type 0 where
-  pub node : IsNode s h r.pages.table r.pages.queue
+  pub node : IsNode s h r.places.table r.places.queue
   pub flying : (c : ℕ) → map (block_of h) (flight h c) ≡ map (λ b. Some b) (blocks_in r.flights c)
   pub room : length r.flights.callers ≡ s.blocks
   pub next_is : r.next ≡ allocations h

@@ -7,8 +7,6 @@
 mod checking;
 mod flights;
 mod links;
-mod page_call;
-mod pages;
 mod replay;
 #[cfg(test)]
 mod tests;

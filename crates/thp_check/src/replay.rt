@@ -1,22 +1,20 @@
 //! A replay of a history: what a node would hold after the events so far.
 ghost use Rattle.std.specs.Prelude.{◌≡◌, ◌<◌, ◌≤◌, ◌+◌, ◌^◌, ℕ, [], ◌||◌, slice_get, Some, IfNone, IfOk, IfSome, IsTrue, ◌↔◌};
 ghost use Rattle.thp_model.specs.Places.{no_pages, takes_by};
-ghost use Rattle.thp_node.specs.Flying.{IsFlyingAt};
+ghost use Rattle.thp_places.specs.Flying.{IsFlyingAt};
 ghost use Rattle.thp_check.specs.Flights.{blocks_in};
 ghost use Rattle.thp_check.specs.Meanings.{is_taker};
-ghost use Rattle.thp_check.specs.PageCalls.{gain_what, loss_what};
+ghost use Rattle.thp_places.specs.PageCalls.{gain_what, loss_what};
 
 use crate::flights::Flights;
-use crate::page_call::{Gain, Loss};
-use crate::pages::Pages;
 use std::alloc::{AllocError, Global};
 use thp_model::{Event, Outcome, PageId, Shape, SubSet, What};
-use thp_node::Done;
+use thp_places::{Done, Gain, Loss, PageCall, Places};
 
 // The state after the events so far. Once an event didn't fit it may be any.
 #[derive(Drop)]
 pub(crate) struct Replay {
-    pages: Pages,
+    places: Places,
     flights: Flights,
     // how many pages were allocated: the next page's number
     next: u64,
@@ -34,10 +32,10 @@ impl Replay {
         requires most { shape.order ≤ 9 }
         ensures { IfOk result (Means shape []) }
     {
-        let pages = Pages::new(alloc, shape)?;
+        let places = Places::new(alloc, shape)?;
         let flights = Flights::new(alloc, shape.blocks)?;
         Ok(Replay {
-            pages,
+            places,
             flights,
             next: 0,
             closed: false,
@@ -103,10 +101,10 @@ impl Replay {
         if self.closed || page.0 != self.next {
             return false;
         }
-        if !self.pages.is_free(block) {
+        if !self.places.is_free(block) {
             return false;
         }
-        self.pages.place(block, page);
+        self.places.place(block, page);
         self.next += 1;
         true
     }
@@ -115,13 +113,15 @@ impl Replay {
     fn gain(&mut self, page: PageId, gain: Gain) -> bool
         ensures { (c : ℕ) → Follows self.old self.new c (gain_what gain page) result }
     {
-        match self.pages.find(page) {
-            Some(block) => match self.pages.gain(block, gain) {
-                Ok(()) => true,
-                Err(_) => false,
-            },
-            None => false,
+        let block = match self.places.find(page) {
+            Some(block) => block,
+            None => return false,
+        };
+        if let Some(_) = self.places.refusal(block, PageCall::Gain(gain)) {
+            return false;
         }
+        self.places.gain(block, gain);
+        true
     }
 
     // A page that loses mappings or a pin, with the outcome and the frames that the event tells.
@@ -129,17 +129,16 @@ impl Replay {
         requires { IsKnown self.old }
         ensures { (c : ℕ) → Follows self.old self.new c (loss_what loss page outcome released) result }
     {
-        let block = match self.pages.find(page) {
+        let block = match self.places.find(page) {
             Some(block) => block,
             None => return false,
         };
-        match self.pages.lose(block, loss, self.closed) {
-            Ok((done, left)) => {
-                self.flights.leave(left, block);
-                is_told(&done, outcome, released)
-            }
-            Err(_) => false,
+        if let Some(_) = self.places.refusal(block, PageCall::Loss(loss)) {
+            return false;
         }
+        let (done, left) = self.places.lose(block, loss, self.closed);
+        self.flights.leave(left, block);
+        is_told(&done, outcome, released)
     }
 
     // A take of the oldest page.
@@ -150,20 +149,19 @@ impl Replay {
         if !self.may_take(caller) {
             return false;
         }
-        let block = match self.pages.find(page) {
+        let block = match self.places.find(page) {
             Some(block) => block,
             None => return false,
         };
-        match self.pages.take_first(caller) {
-            Some(first) => {
-                if first != page {
-                    return false;
-                }
-                self.flights.join(caller, block);
-                true
-            }
-            None => false,
+        if self.places.queue().len() == 0 {
+            return false;
         }
+        let first = self.places.take_first(caller);
+        if first != page {
+            return false;
+        }
+        self.flights.join(caller, block);
+        true
     }
 
     // Whether a caller has no page in flight, or goes on taking.
@@ -184,14 +182,14 @@ impl Replay {
         requires { IsKnown self.old }
         ensures { Follows self.old self.new caller (What.Split page released) result }
     {
-        let block = match self.pages.find_in_batch(page, caller) {
+        let block = match self.places.find_in_batch(page, caller) {
             Some(block) => block,
             None => return false,
         };
-        if self.pages.pins(block) != 0 {
+        if self.places.pins(block) != 0 {
             return false;
         }
-        let given = self.pages.split(block);
+        let given = self.places.split(block);
         self.flights.leave(Some(caller), block);
         given == released
     }
@@ -200,8 +198,8 @@ impl Replay {
     fn is_pinned(&self, caller: u32, page: PageId) -> bool
         ensures { Follows self.now self.now caller (What.Pinned page) result }
     {
-        match self.pages.find_in_batch(page, caller) {
-            Some(block) => self.pages.pins(block) != 0,
+        match self.places.find_in_batch(page, caller) {
+            Some(block) => self.places.pins(block) != 0,
             None => false,
         }
     }
@@ -216,7 +214,7 @@ impl Replay {
         }
         match self.find_first(caller, page) {
             Some(block) => {
-                self.pages.enqueue(block);
+                self.places.enqueue(block);
                 self.flights.leave(Some(caller), block);
                 true
             }
@@ -234,7 +232,7 @@ impl Replay {
         }
         match self.find_first(caller, page) {
             Some(block) => {
-                self.pages.drop_out(block);
+                self.places.drop_out(block);
                 self.flights.leave(Some(caller), block);
                 true
             }
@@ -244,11 +242,11 @@ impl Replay {
 
     // The block of a page that is the first of a caller's flight.
     fn find_first(&self, caller: u32, page: PageId) -> Option<u32>
-        ensures there { IfSome result (IsFlyingAt self.now.pages.table caller page) }
+        ensures there { IfSome result (IsFlyingAt self.now.places.table caller page) }
         ensures first { IfSome result (λ b. slice_get (blocks_in self.now.flights caller) 0 ≡ Some b) }
         ensures none { IfNone result (IsNeverFirst self.now caller page) }
     {
-        let block = self.pages.find_in_batch(page, caller)?;
+        let block = self.places.find_in_batch(page, caller)?;
         if self.flights.is_first(caller, block) {
             Some(block)
         } else {
