@@ -1,7 +1,8 @@
-use Rattle.std.proofs.Common.{◌≡◌, refl, sym, ◌∙◌}
+use Rattle.std.proofs.Common.{◌≡◌, ℕ, Contains, refl, sym, ◌∙◌, subst}
 use Rattle.thp_model.proofs.WordLemmas.{same_set-Decides}
 use Rattle.thp_check.proofs.Deciding.{tested}
-use Rattle.thp_check.proofs.TakeSteps.{split_absent, split_goes, split_tells, flies_whole, same_slot}
+use Rattle.thp_check.specs.Flights.{blocks_in}
+use Rattle.thp_check.proofs.TakeSteps.{split_absent, split_goes, split_tells, flies_whole, same_slot, is_there, same_some}
 use Rattle.thp_check.proofs.replay.Replay.split.Goals as goal
 
 pub returns-in-None : goal.returns-in-None
@@ -23,5 +24,11 @@ returns c = λ s h m.
     tested c.eq.result (c.split-given.result ≡ c.args.released) _ _
     (λ e. (same_set-Decides c.split-given.result c.args.released).0 (sym c.eq.ensures ∙ e))
     (λ e. c.eq.ensures ∙ (same_set-Decides c.split-given.result c.args.released).1 e)
-    (λ e. split_goes s h c.args.caller c.args.page c.in-Some.block c.args.self.now m at c.args.released _ did.0 did.1 (sym (c.pins.ensures at.slot at.at) ∙ c.if-pins-ne0.false) (sym e ∙ did.2) did.3 c.leave.ensures refl refl)
+    (λ e. split_goes s h c.args.caller c.args.page c.in-Some.block c.args.self.now m at c.args.released _ did.0 did.1 (sym (c.pins.ensures at.slot at.at) ∙ c.if-pins-ne0.false) (sym e ∙ did.2) did.3 c.leave.ensures.left c.leave.ensures.size refl refl)
     (λ f. did.2 ∙ split_tells s h c.args.caller c.args.page c.in-Some.block c.args.self.now m at c.args.released did.0 did.1 f)
+
+pub leave-requires : goal.leave-requires
+leave-requires c = λ d e.
+    let k = c.requires in
+    let P : ℕ → Type 0 = λ n. Contains (blocks_in c.args.self.now.flights n) c.in-Some.block in
+    subst P (same_some c.args.caller d e) (is_there k.shape k.history c.args.caller c.args.page c.in-Some.block c.args.self.now k.means c.in-Some.ensures.there)
