@@ -1,5 +1,5 @@
 //! One page: its map counts, its pins, and whether it is split.
-ghost use Rattle.std.specs.Prelude.{◌≡◌, ℕ, ◌+◌, ◌<◌, ◌≤◌, Bool, true, false, not, ◌||◌, nat_eq, nat_lt, OnOk, OnErr, IfOk, Option, None};
+ghost use Rattle.std.specs.Prelude.{◌≡◌, ℕ, ◌+◌, ◌<◌, ◌≤◌, Bool, true, false, not, ◌&&◌, ◌||◌, nat_eq, nat_lt, OnOk, OnErr, IfOk, Option, None};
 ghost use Rattle.std.specs.Result.{result_err};
 ghost use Rattle.thp_model.specs.Pages.{size, own_at, total_at, holds, used_set, has_use, gives_frames, some_in_range, page_refusal, IsFresh, WholeMapped, RangeMapped, PmdSplit, Pinned, PageSplit};
 ghost use Rattle.thp_model.specs.Refusals.{most};
@@ -179,7 +179,7 @@ impl Page {
             return Some(Refusal::BadRange);
         }
         let (first, count) = (first as usize, count as usize);
-        if self.split && self.has_gone_frame(first, count) {
+        if self.split && self.has_unmapped(first, count) {
             Some(Refusal::Gone)
         } else if self.has_total_at_limit(first, count) {
             Some(Refusal::TooMany)
@@ -383,12 +383,12 @@ impl Page {
         self.order
     }
 
-    /// Whether subpage `i` is in use.
+    /// Whether subpage `i` is in use. Beyond the page nothing is.
     pub fn in_use(&self, i: u32) -> bool
-        requires { i < size self.now }
-        ensures { result ≡ nat_lt 0 (total_at self.now i) }
+        ensures { result ≡ (nat_lt i (size self.now) && nat_lt 0 (total_at self.now i)) }
     {
-        self.whole > 0 || self.own[i as usize] > 0
+        let i = i as usize;
+        i < self.subpages() && (self.whole > 0 || self.own[i] > 0)
     }
 
     /// Whether some subpage is in use.
@@ -455,19 +455,11 @@ impl Page {
         range_has_count(&self.own, first, count, u16::MAX - self.whole)
     }
 
-    // Whether the frame of a subpage of the range was given back.
-    fn has_gone_frame(&self, first: usize, count: usize) -> bool
-        requires split { self.now.split ≡ true }
-        requires inside { first + count ≤ size self.now }
-        ensures { result ≡ some_in_range self.now first count (λ i. not (holds self.now i)) }
-    {
-        range_has_count(&self.own, first, count, 0)
-    }
-
-    // Whether a subpage of the range has no mapping of its own.
+    // Whether a subpage of the range has no mapping of its own. In a split page that means that its frame was given back.
     fn has_unmapped(&self, first: usize, count: usize) -> bool
         requires { first + count ≤ size self.now }
-        ensures { result ≡ some_in_range self.now first count (λ i. nat_eq (own_at self.now i) 0) }
+        ensures own { result ≡ some_in_range self.now first count (λ i. nat_eq (own_at self.now i) 0) }
+        ensures gone { self.now.split ≡ true → result ≡ some_in_range self.now first count (λ i. not (holds self.now i)) }
     {
         range_has_count(&self.own, first, count, 0)
     }
