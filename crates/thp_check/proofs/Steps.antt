@@ -20,7 +20,7 @@ use Rattle.thp_model.proofs.Flights.{flight_push}
 use Rattle.thp_model.proofs.OnePlace.{flies_live}
 use Rattle.thp_model.proofs.Pushes.{count_same, count_more, some_same, some_event_push}
 use Rattle.thp_page.specs.declared.standing.Standing.TheVariants.{Nowhere}
-use Rattle.thp_page.specs.Slots.{slot_at, IsHeld}
+use Rattle.thp_page.specs.Slots.{slot_at, HoldsPage}
 use Rattle.thp_page.specs.Table.{Slot}
 use Rattle.thp_places.specs.declared.page_call.Done.{Done}
 use Rattle.thp_places.specs.PlacesState.{PlacesState, AtSlot, Edits, Lost}
@@ -77,17 +77,17 @@ plain_loss (loss.UnmapSub f n) p o r = (refl, refl)
 plain_loss loss.Unpin p o r = (refl, refl)
 
 -- an event about a page that lies nowhere
-pub gain_absent : (s : Shape) (h : History) (c p : ℕ) (g : Gain) (old : Replay) → Means s h old → ((b : ℕ) → IsHeld (slot_at old.places.table b) p → ⊥) →
+pub gain_absent : (s : Shape) (h : History) (c p : ℕ) (g : Gain) (old : Replay) → Means s h old → ((b : ℕ) → HoldsPage (slot_at old.places.table b) p → ⊥) →
     Fits s h (by c (gain_what g p)) → ⊥
 gain_absent s h c p g old m none f =
     some_none _ _ (refusal_gone s h p (either.Gain g) (not_live s h old.places.table old.places.queue p m.kept.node none)) (gain_allowed s h c p g f)
 
-pub loss_absent : (s : Shape) (h : History) (c p : ℕ) (l : Loss) (o : Outcome) (r : List Bool) (old : Replay) → Means s h old → ((b : ℕ) → IsHeld (slot_at old.places.table b) p → ⊥) →
+pub loss_absent : (s : Shape) (h : History) (c p : ℕ) (l : Loss) (o : Outcome) (r : List Bool) (old : Replay) → Means s h old → ((b : ℕ) → HoldsPage (slot_at old.places.table b) p → ⊥) →
     Fits s h (by c (loss_what l p o r)) → ⊥
 loss_absent s h c p l o r old m none f =
     some_none _ _ (refusal_gone s h p (either.Loss l) (not_live s h old.places.table old.places.queue p m.kept.node none)) (loss_allowed s h c p l o r f)
 
-module _ (s : Shape) (h : History) (c p b : ℕ) (old : Replay) (m : Means s h old) (held : IsHeld (slot_at old.places.table b) p) where
+module _ (s : Shape) (h : History) (c p b : ℕ) (old : Replay) (m : Means s h old) (held : HoldsPage (slot_at old.places.table b) p) where
   there : Found s h old.places.table p b
   there = found s h old.places.table old.places.queue p b m.kept.node held
 
@@ -161,7 +161,7 @@ new_dead s h p legal number =
     let none = (legal_homed s h legal).grown.numbered.fresh p (omega (arith, number)) in ap (λ b. b && not (some_event (frees p) h)) none.never
 
 -- a new page
-pub alloc_new : (s : Shape) (h : History) (p : ℕ) (old : Replay) → Means s h old → p ≡ old.next → (b : ℕ) → IsHeld (slot_at old.places.table b) p → ⊥
+pub alloc_new : (s : Shape) (h : History) (p : ℕ) (old : Replay) → Means s h old → p ≡ old.next → (b : ℕ) → HoldsPage (slot_at old.places.table b) p → ⊥
 alloc_new s h p old m e = next_is_new s h old.places.table old.places.queue p m.kept.node (e ∙ m.kept.next_is)
 
 pub alloc_goes : (s : Shape) (h : History) (c p b : ℕ) (old new : Replay) → Means s h old → old.closed ≡ false → p ≡ old.next → b < length old.places.table.slots →

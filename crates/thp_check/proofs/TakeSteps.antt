@@ -20,7 +20,7 @@ use Rattle.thp_model.proofs.Standing.{first_has}
 use Rattle.thp_model.proofs.Tallying.{tallies_split, pins_is}
 use Rattle.thp_page.specs.declared.standing.Standing.{Standing}
 use Rattle.thp_page.specs.declared.standing.Standing.TheVariants.{Nowhere, Queued, Batch}
-use Rattle.thp_page.specs.Slots.{slot_at, IsHeld}
+use Rattle.thp_page.specs.Slots.{slot_at, HoldsPage}
 use Rattle.thp_page.specs.Table.{Slot}
 use Rattle.thp_places.specs.PlacesState.{AtSlot, PlacesState, Edits, IsElsewhere, Lost, TakesFirst, left_by}
 use Rattle.thp_places.specs.Flying.{IsFlyingAt}
@@ -51,7 +51,7 @@ may_is s h c old m = ap₂ (λ n t. n || t) (none_there h (flight h c) (blocks_i
 alone : (s : Shape) (h : History) (p b : ℕ) → IsLegal s h → block_of h p ≡ Some b → LiesAlone h p b
 alone s h p b legal home = (home, λ r y. (legal_homed s h legal).once r p b y home)
 
-pub take_goes : (s : Shape) (h : History) (c p b : ℕ) (old new : Replay) → Means s h old → IsHeld (slot_at old.places.table b) p → (no_pages (blocks_in old.flights c) || is_taker old.taker c) ≡ true →
+pub take_goes : (s : Shape) (h : History) (c p b : ℕ) (old new : Replay) → Means s h old → HoldsPage (slot_at old.places.table b) p → (no_pages (blocks_in old.flights c) || is_taker old.taker c) ≡ true →
     TakesFirst old.places new.places c p → ((d : ℕ) → blocks_in new.flights d ≡ cond (nat_eq c d) (blocks_in old.flights d ++ b ∷ []) (blocks_in old.flights d)) →
     length new.flights.callers ≡ length old.flights.callers → new.next ≡ old.next → new.closed ≡ old.closed → FitsTaken h c p × Keeps s (h ++ by c (what.Taken p) ∷ []) new
 take_goes s h c p b old new m held may took fs size next closed =
@@ -69,7 +69,7 @@ take_goes s h c p b old new m held may took fs size next closed =
       longer d false home = m.kept.flying d
 
 -- a block in which the oldest page lies is in no flight
-pub oldest_apart : (s : Shape) (h : History) (c p b : ℕ) (old : Replay) (new : PlacesState) → Means s h old → IsHeld (slot_at old.places.table b) p → TakesFirst old.places new c p →
+pub oldest_apart : (s : Shape) (h : History) (c p b : ℕ) (old : Replay) (new : PlacesState) → Means s h old → HoldsPage (slot_at old.places.table b) p → TakesFirst old.places new c p →
     (d : ℕ) → Contains (blocks_in old.flights d) b → ⊥
 oldest_apart s h c p b old new m held took d i =
     let homed : Homed s h = legal_homed s h m.kept.node.legal in
@@ -81,7 +81,7 @@ oldest_apart s h c p b old new m held took d i =
     cc
 
 -- the oldest page lies somewhere
-pub take_absent : (s : Shape) (h : History) (c p : ℕ) (old : Replay) → Means s h old → ((b : ℕ) → IsHeld (slot_at old.places.table b) p → ⊥) → FitsTaken h c p → ⊥
+pub take_absent : (s : Shape) (h : History) (c p : ℕ) (old : Replay) → Means s h old → ((b : ℕ) → HoldsPage (slot_at old.places.table b) p → ⊥) → FitsTaken h c p → ⊥
 take_absent s h c p old m none f =
     no_both (is_live h p) (not_live s h old.places.table old.places.queue p m.kept.node none)
     ((legal_homed s h m.kept.node.legal).grown.sound.live p (omega (arith, has_times p (queue h) (first_has p (queue h) f.oldest))))
@@ -114,7 +114,7 @@ elsewhere s h c p old m e =
     elim e [
       | inl none ↦ flies_nowhere s h t q c p m.kept.node none
       | inr w ↦
-          let P : Option Slot → Type 0 = λ o. IsHeld o p in
+          let P : Option Slot → Type 0 = λ o. HoldsPage o p in
           let there : Found s h t p w.0 = found s h t q p w.0 m.kept.node (subst P (sym w.2) w.3) in
           flies_not_there s h t q c p w.0 m.kept.node there (λ y. w.4 (ap (λ (x : Slot). x.standing) (same_slot w.1 there.slot (sym w.2 ∙ there.at)) ∙ y))
     ]
@@ -229,7 +229,7 @@ leaver_is outcome.Queued w d e = absurd (cc)
 leaver_is outcome.Stays w d e = absurd (cc)
 
 -- the block of a page that leaves a batch by a loss is one of the flight's
-pub lost_there : (s : Shape) (h : History) (p b : ℕ) (old : Replay) → Means s h old → IsHeld (slot_at old.places.table b) p → (l : Loss) (new : PlacesState) (done : Done) (left : Option ℕ) →
+pub lost_there : (s : Shape) (h : History) (p b : ℕ) (old : Replay) → Means s h old → HoldsPage (slot_at old.places.table b) p → (l : Loss) (new : PlacesState) (done : Done) (left : Option ℕ) →
     AtSlot old.places.table b (λ x. Lost l old.closed x old.places new b done left) → (d : ℕ) → left ≡ Some d → Contains (blocks_in old.flights d) b
 lost_there s h p b old m held l new done left lost d e =
     let there : Found s h old.places.table p b = found s h old.places.table old.places.queue p b m.kept.node held in

@@ -4,7 +4,7 @@ ghost use Rattle.std.specs.Bool.{OnTrue, OnFalse};
 ghost use Rattle.thp_links.specs.Standing.{Stands};
 ghost use Rattle.thp_model.specs.Shapes.{IsShape};
 ghost use Rattle.thp_model.specs.Pages.{page_refusal, gives_frames, PageState, PageSplit};
-ghost use Rattle.thp_page.specs.Slots.{slot_at, IsHeld};
+ghost use Rattle.thp_page.specs.Slots.{slot_at, HoldsPage};
 ghost use Rattle.thp_page.specs.Table.{Slot};
 ghost use Rattle.thp_places.specs.PageCalls.{gain_call, loss_call, page_call, Gains};
 ghost use Rattle.thp_places.specs.PlacesState.{AtSlot, Edits, TakesFirst, HasFree};
@@ -56,7 +56,7 @@ impl Blocks {
 
     // The block of a page.
     pub(crate) fn find(&self, page: PageId) -> Option<u32>
-        ensures { MatchOption result ((b : ℕ) → IsHeld (slot_at self.now.table b) page → ⊥) (λ b. IsHeld (slot_at self.now.table b) page) }
+        ensures { MatchOption result ((b : ℕ) → HoldsPage (slot_at self.now.table b) page → ⊥) (λ b. HoldsPage (slot_at self.now.table b) page) }
     {
         self.places.find(page)
     }
@@ -171,7 +171,7 @@ impl Blocks {
     // Puts a new page into a free block.
     pub(crate) fn place(&mut self, page: PageId) -> u32
         requires free { HasFree self.old.table }
-        requires new { (b : ℕ) → IsHeld (slot_at self.old.table b) page → ⊥ }
+        requires new { (b : ℕ) → HoldsPage (slot_at self.old.table b) page → ⊥ }
         ensures inside { result < length self.old.table.slots }
         ensures free { slot_at self.old.table result ≡ None }
         ensures placed { PlacesFresh self.old self.new result page }

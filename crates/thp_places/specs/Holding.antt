@@ -7,7 +7,7 @@ use Rattle.thp_model.specs.Pages.{Tallies}
 use Rattle.thp_model.specs.Places.{queue}
 use Rattle.thp_page.specs.Table.{Slot}
 use Rattle.thp_page.specs.Table.{Table}
-use Rattle.thp_page.specs.Slots.{slot_at, IsHeld}
+use Rattle.thp_page.specs.Slots.{slot_at, HoldsPage}
 use Rattle.thp_places.specs.Homes.{block_of, standing_of}
 
 -- what stands in block b is what the history says of its page
@@ -23,7 +23,7 @@ Fills s h b (Some x) = IsSlot s h b x
 
 -- page p stands in some block
 abbrev pub HasBlock : Table → ℕ → Type 0
-HasBlock t p = (b : ℕ) × IsHeld (slot_at t b) p
+HasBlock t p = (b : ℕ) × HoldsPage (slot_at t b) p
 
 -- the history is legal, the table's slots are the live pages, and the queue's indices are the blocks of the queued pages
 -- in order

@@ -8,7 +8,7 @@ use Rattle.thp_model.specs.Pages.{PageState}
 use Rattle.thp_page.specs.declared.standing.Standing.{Standing}
 use Rattle.thp_page.specs.declared.standing.Standing.TheVariants.{Nowhere, Queued, Batch}
 use Rattle.thp_page.specs.Table.{Slot, Table}
-use Rattle.thp_page.specs.Slots.{slot_at, IsHeld}
+use Rattle.thp_page.specs.Slots.{slot_at, HoldsPage}
 use Rattle.thp_places.specs.declared.page_call.Done.{Done}
 use Rattle.thp_places.specs.declared.page_call.Loss.{Loss}
 use Rattle.thp_places.specs.PageCalls.{Loses}
@@ -100,4 +100,4 @@ pub record HasFree (t : Table) : Type 0 where
 -- page p is in no block, or in one where it doesn't stand in a batch of caller c
 abbrev pub IsElsewhere : Table → ℕ → ℕ → Type 0
 IsElsewhere t c p =
-    ((b : ℕ) → IsHeld (slot_at t b) p → ⊥) ⊎ ((b : ℕ) × (x : Slot) × (slot_at t b ≡ Some x) × (x.id ≡ p) × (x.standing ≢ Batch c))
+    ((b : ℕ) → HoldsPage (slot_at t b) p → ⊥) ⊎ ((b : ℕ) × (x : Slot) × (slot_at t b ≡ Some x) × (x.id ≡ p) × (x.standing ≢ Batch c))

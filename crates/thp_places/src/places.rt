@@ -4,7 +4,7 @@ ghost use Rattle.std.specs.Bool.{OnTrue, OnFalse};
 ghost use Rattle.thp_links.specs.Indices.{without};
 ghost use Rattle.thp_links.specs.Standing.{Stands};
 ghost use Rattle.thp_model.specs.Pages.{gives_frames, page_refusal, IsFresh, PageSplit, PageState};
-ghost use Rattle.thp_page.specs.Slots.{slot_at, IsHeld};
+ghost use Rattle.thp_page.specs.Slots.{slot_at, HoldsPage};
 ghost use Rattle.thp_page.specs.Table.{Slot};
 ghost use Rattle.thp_places.specs.Flying.{IsFlyingAt};
 ghost use Rattle.thp_places.specs.FreeChains.{IsFreeChain, Relinks};
@@ -90,7 +90,7 @@ impl Places {
     pub fn place(&mut self, block: u32, page: PageId)
         requires inside { block < length self.old.table.slots }
         requires free { slot_at self.old.table block ≡ None }
-        requires new { (b : ℕ) → IsHeld (slot_at self.old.table b) page → ⊥ }
+        requires new { (b : ℕ) → HoldsPage (slot_at self.old.table b) page → ⊥ }
         ensures { (p : PageState) × IsFresh self.old.table.order p × Edits self.old self.new block (Some (record { id = page; page = p; standing = Standing.Nowhere })) self.old.queue 0 }
     {
         self.table.place(block, page);
@@ -98,7 +98,7 @@ impl Places {
 
     /// The block of a page.
     pub fn find(&self, page: PageId) -> Option<u32>
-        ensures { MatchOption result ((b : ℕ) → IsHeld (slot_at self.now.table b) page → ⊥) (λ b. IsHeld (slot_at self.now.table b) page) }
+        ensures { MatchOption result ((b : ℕ) → HoldsPage (slot_at self.now.table b) page → ⊥) (λ b. HoldsPage (slot_at self.now.table b) page) }
     {
         self.table.block_of(page)
     }

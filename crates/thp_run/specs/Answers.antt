@@ -11,7 +11,7 @@ use Rattle.thp_model.specs.History.{History, by}
 use Rattle.thp_model.specs.Refusals.{Call, refusal}
 use Rattle.thp_model.specs.Refusals as call
 use Rattle.thp_model.specs.Runs.{scan_events}
-use Rattle.thp_node.specs.declared.answers.Done.{Done}
+use Rattle.thp_places.specs.declared.page_call.Done.{Done}
 use Rattle.thp_node.specs.Batches.{scan_reply}
 use Rattle.thp_run.specs.declared.reply.Reply.{Reply}
 use Rattle.thp_run.specs.declared.reply.Reply.TheVariants as reply
