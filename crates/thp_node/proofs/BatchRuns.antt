@@ -9,40 +9,39 @@ use Rattle.thp_model.specs.declared.refusal.Refusal.TheVariants as reason
 use Rattle.thp_model.specs.declared.shape.Shape.{Shape}
 use Rattle.thp_model.specs.History.{History, by}
 use Rattle.thp_model.specs.Legal.{IsLegal, Fits}
-use Rattle.thp_model.specs.Counts.{is_live, pins, whole}
+use Rattle.thp_model.specs.Counts.{pins, whole}
 use Rattle.thp_model.specs.Pages.{PageState, PageSplit, gives_frames}
 use Rattle.thp_model.specs.Places.{queue, flight, no_pages, is_taking, has_page}
 use Rattle.thp_model.specs.Refusals.{refusal}
 use Rattle.thp_model.specs.Refusals as call
 use Rattle.thp_model.specs.Runs.{take_events, next_page, rest_after, tries_of, try_event}
-use Rattle.thp_model.proofs.Bools.{by_bool, or_first, or_second}
-use Rattle.thp_model.proofs.OnePlace.{flies_live}
+use Rattle.thp_model.proofs.Bools.{or_first, or_second}
 use Rattle.thp_model.proofs.Tallying.{pins_is, whole_is}
 use Rattle.thp_model.proofs.Pushes.{queue_push, is_taking_push}
 use Rattle.thp_model.proofs.TakeRuns.{more_taken, take_events_more}
 use Rattle.thp_node.specs.declared.answers.Tried.{Tried}
 use Rattle.thp_node.specs.declared.answers.Tried.TheVariants as answer
 use Rattle.thp_node.specs.Batches.{tried}
-use Rattle.thp_node.specs.BlocksState.{BlocksState, AtSlot, Edits}
+use Rattle.thp_places.specs.PlacesState.{PlacesState, AtSlot, Edits}
 use Rattle.thp_node.specs.Calls.{Did}
-use Rattle.thp_node.specs.Flying.{IsFlyingAt, IsUnpinnedAt}
-use Rattle.thp_node.specs.Holding.{IsNode, IsSlot}
-use Rattle.thp_node.specs.Homes.{block_of}
+use Rattle.thp_places.specs.Flying.{IsFlyingAt, IsUnpinnedAt}
+use Rattle.thp_places.specs.Holding.{IsNode, IsSlot}
+use Rattle.thp_places.specs.Homes.{block_of}
 use Rattle.thp_node.specs.NodeState.{NodeState}
 use Rattle.thp_node.specs.Takings.{Took}
 use Rattle.thp_page.specs.declared.standing.Standing.{Standing}
 use Rattle.thp_page.specs.declared.standing.Standing.TheVariants.{Nowhere, Queued, Batch}
-use Rattle.thp_page.specs.Slots.{slot_at, IsHeld}
+use Rattle.thp_page.specs.Slots.{slot_at}
 use Rattle.thp_page.specs.Table.{Slot, Table}
 use Rattle.thp_node.proofs.CallLemmas.{did_none, did_then}
-use Rattle.thp_node.proofs.Admitting.{Found, not_live}
-use Rattle.thp_node.proofs.Homing.{Homed, legal_homed}
-use Rattle.thp_node.proofs.ListEvents.{flying_whole, split_fits, split_node, pinned_fits, pinned_node}
-use Rattle.thp_node.proofs.PageEvents.{slot_is}
-use Rattle.thp_node.proofs.Standings.{standing_flying, batch_has}
+use Rattle.thp_places.proofs.Admitting.{Found}
+use Rattle.thp_places.proofs.Homing.{Homed, legal_homed}
+use Rattle.thp_places.proofs.ListEvents.{flying_whole, split_fits, split_node, pinned_fits, pinned_node}
+use Rattle.thp_places.proofs.PageEvents.{slot_is}
+use Rattle.thp_places.proofs.Standings.{batch_has}
 
 -- the node once its journal has recorded an event
-pub node_recorded : (s t : Shape) (k h : History) (e : Event) (b : BlocksState) → s ≡ t → k ≡ h ++ e ∷ [] → IsNode t (h ++ e ∷ []) b.table b.queue → IsNode s k b.table b.queue
+pub node_recorded : (s t : Shape) (k h : History) (e : Event) (b : PlacesState) → s ≡ t → k ≡ h ++ e ∷ [] → IsNode t (h ++ e ∷ []) b.table b.queue → IsNode s k b.table b.queue
 node_recorded s t k h e b same is m =
     subst (λ x. IsNode s x b.table b.queue) (sym is) (subst (λ x. IsNode x (h ++ e ∷ []) b.table b.queue) (sym same) m)
 
@@ -100,17 +99,6 @@ pub flies_there : (s : Shape) (h : History) (t : Table) (q : List ℕ) (c p b : 
 flies_there s h t q c p b m w e =
     ap (λ r. has_page r (flight h c)) (sym w.id_is) ∙ (batch_has h w.slot.id c (sym w.is.stands ∙ e)).0
 
-pub flies_not_there : (s : Shape) (h : History) (t : Table) (q : List ℕ) (c p b : ℕ) → IsNode s h t q → (w : Found s h t p b) → (w.slot.standing ≡ Batch c → ⊥) → has_page p (flight h c) ≡ false
-flies_not_there s h t q c p b m w f =
-    by_bool (has_page p (flight h c)) _
-    (λ y. absurd (f (w.is.stands ∙ standing_flying h w.slot.id c (legal_homed s h m.legal).grown.sound (ap (λ r. has_page r (flight h c)) w.id_is ∙ y))))
-    (λ y. y)
-
--- a page that lies nowhere is in no flight
-pub flies_nowhere : (s : Shape) (h : History) (t : Table) (q : List ℕ) (c p : ℕ) → IsNode s h t q → ((b : ℕ) → IsHeld (slot_at t b) p → ⊥) → has_page p (flight h c) ≡ false
-flies_nowhere s h t q c p m none =
-    by_bool (has_page p (flight h c)) _ (λ y. absurd (no_both (is_live h p) (not_live s h t q p m none) (flies_live s h c p m.legal y).0)) (λ y. y)
-
 -- what a try answers
 pub tried_split : (h : History) (p : ℕ) → pins h p ≡ 0 → answer.Split p ≡ tried h (Some p)
 tried_split h p e = sym (ap (λ n. cond (nat_eq n 0) (answer.Split p) (answer.Pinned p)) e)
@@ -119,7 +107,7 @@ pub tried_pinned : (h : History) (p : ℕ) → 0 < pins h p → answer.Pinned p 
 tried_pinned h p l = sym (ap (λ b. cond b (answer.Split p) (answer.Pinned p)) (ne_eqb (pins h p) 0 (λ e. omega (arith, e, l))))
 
 -- a page was split off its batch
-pub record SplitOff (s : Shape) (h : History) (c p : ℕ) (set : List Bool) (old new : BlocksState) : Type 0 where
+pub record SplitOff (s : Shape) (h : History) (c p : ℕ) (set : List Bool) (old new : PlacesState) : Type 0 where
   pub is : by c (what.Split p set) ≡ try_event s h c p
   pub fits : Fits s h (by c (what.Split p set))
   pub node : IsNode s (h ++ by c (what.Split p set) ∷ []) new.table new.queue
@@ -138,7 +126,7 @@ not_queued : (z : Standing) (c : ℕ) → z ≡ Batch c → z ≢ Queued
 not_queued z c e f = cc
 
 -- the page of a block that is in a caller's flight
-module _ (s : Shape) (h : History) (c p b : ℕ) (old : BlocksState) (m : IsNode s h old.table old.queue) (w : IsFlyingAt old.table c p b) where
+module _ (s : Shape) (h : History) (c p b : ℕ) (old : PlacesState) (m : IsNode s h old.table old.queue) (w : IsFlyingAt old.table c p b) where
   homed : Homed s h
   homed = legal_homed s h m.legal
 
@@ -156,7 +144,7 @@ module _ (s : Shape) (h : History) (c p b : ℕ) (old : BlocksState) (m : IsNode
       let P : Slot → Type 0 = λ y. (y.page.split ≡ false) × (y.page.pins ≡ 0) × (y.standing ≢ Queued) in
       subst P (same_slot w.slot x (sym w.at ∙ at)) (flying_whole s h c b w.slot old old homed m w.at w.stands, none, not_queued w.slot.standing c w.stands)
 
-  pub split_off : (new : BlocksState) (set : List Bool) →
+  pub split_off : (new : PlacesState) (set : List Bool) →
       AtSlot old.table b (λ x. (q : PageState) × PageSplit x.page q × (set ≡ gives_frames x.page q) × Edits old new b (Some (record x { page = q; standing = Nowhere })) old.queue 0) →
       w.slot.page.pins ≡ 0 → SplitOff s h c p set old new
   split_off new set did none =

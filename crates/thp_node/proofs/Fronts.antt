@@ -1,5 +1,5 @@
 -- Batches stay in front of their flights, whatever is done but a take by their caller.
-use Rattle.std.proofs.Common.{◌≡◌, ◌≢◌, ℕ, suc, Bool, true, false, cond, not, ◌&&◌, ◌||◌, List, [], ◌∷◌, ◌++◌, map, refl, ap, sym, ◌∙◌, subst, nat_eq, eqb-true, append_assoc, arith, Option, Some, None, ap₂}
+use Rattle.std.proofs.Common.{◌≡◌, ◌≢◌, ℕ, suc, Bool, true, false, cond, not, ◌&&◌, ◌||◌, List, [], ◌∷◌, ◌++◌, map, refl, ap, sym, ◌∙◌, subst, nat_eq, eqb-true, eq-eqb, append_assoc, arith, Option, Some, None, ap₂}
 use Rattle.std.specs.List.{filter, list_all, All}
 use Rattle.std.proofs.lemmas.List.Elements.{filter-append}
 use Rattle.thp_model.specs.declared.events.Event.{Event}
@@ -18,14 +18,14 @@ use Rattle.thp_model.proofs.Bools.{by_bool, and_both, and_yes, not_true}
 use Rattle.thp_model.proofs.Flights.{flight_push}
 use Rattle.thp_model.proofs.ListPlaces.{append_none}
 use Rattle.thp_model.proofs.OnePlace.{filter_in}
-use Rattle.thp_node.specs.declared.page_call.Gain.{Gain}
-use Rattle.thp_node.specs.declared.page_call.Gain.TheVariants as gain
-use Rattle.thp_node.specs.declared.page_call.Loss.{Loss}
-use Rattle.thp_node.specs.declared.page_call.Loss.TheVariants as loss
-use Rattle.thp_node.specs.Batches.{BatchState, IsInFront, FrontsStay, OtherFrontsStay}
+use Rattle.thp_places.specs.declared.page_call.Gain.{Gain}
+use Rattle.thp_places.specs.declared.page_call.Gain.TheVariants as gain
+use Rattle.thp_places.specs.declared.page_call.Loss.{Loss}
+use Rattle.thp_places.specs.declared.page_call.Loss.TheVariants as loss
+use Rattle.thp_node.specs.Batches.{BatchState, IsInFront, FrontsStay, OtherFrontsStay, OlderAreInFront}
 use Rattle.thp_node.specs.Calls.{Did}
 use Rattle.thp_node.specs.NodeState.{NodeState}
-use Rattle.thp_node.specs.PageCalls.{gain_what, loss_what}
+use Rattle.thp_places.specs.PageCalls.{gain_what, loss_what}
 
 filter_all : (ps : List ℕ) → filter (λ p. true) ps ≡ ps
 filter_all [] = refl
@@ -170,3 +170,27 @@ front_advanced h k a b c p stays f =
       others = g.others;
       front = ap (flight k) c ∙ g.front ∙ sym (ap₂ (λ x y. still_flying k x y ++ g.others) c p);
     }
+
+-- a batch none of whose pages is in flight is in front, and so is every batch of a caller that has no flight
+front_spent : (h : History) (b : BatchState) → still_flying h b.caller b.pages ≡ [] → IsInFront h b
+front_spent h b e = record { others = flight h b.caller; front = ap (λ xs. xs ++ flight h b.caller) (sym e) }
+
+filter_none : (t : ℕ → Bool) (ps : List ℕ) → All (λ p. t p ≡ false) ps → filter t ps ≡ []
+filter_none t [] a = refl
+filter_none t (p ∷ ps) a =
+    ap (λ b. cond b (p ∷ filter t ps) (filter t ps)) (a 0 p (omega arith)) ∙ filter_none t ps (λ k d l. a (suc k) d (omega arith))
+
+-- older batches of a caller whose flight is that of one take
+pub older_in_front : (h : History) (c : ℕ) (ps : List ℕ) → flight h c ≡ ps → OlderAreInFront c ps h
+older_in_front h c ps e b who none =
+    front_spent h b
+    (ap (λ (d : ℕ). filter (λ p. has_page p (flight h d)) b.pages) who ∙ ap (λ xs. filter (λ p. has_page p xs) b.pages) e ∙ filter_none (λ p. has_page p ps) b.pages none)
+
+-- batches stay in front over the events of a caller that leave it no flight
+pub fronts_emptied : (old new : NodeState) (c : ℕ) (es : List Event) → Did old new c es → flight new.journal c ≡ [] → FrontsStay old.journal new.journal
+fronts_emptied old new c es did none b f =
+    by_bool (nat_eq b.caller c) _
+    (λ y. older_in_front new.journal c [] none b (eqb-true b.caller c y) (λ k d l. refl))
+    (λ y. fronts_did old new c es did b (λ e. not_both (nat_eq b.caller c) y (eq-eqb b.caller c e)) f) where
+      not_both : (x : Bool) → x ≡ false → x ≡ true → ⊥
+      not_both x e g = cc

@@ -11,7 +11,7 @@ use Rattle.thp_model.specs.declared.events.What.{What}
 use Rattle.thp_model.specs.declared.events.What.TheVariants.{UnmapWhole, UnmapSub, Unpin, Taken, Split, Back, Dropped}
 use Rattle.thp_model.specs.declared.shape.Shape.{Shape}
 use Rattle.thp_model.specs.Shapes.{IsShape, subpages}
-use Rattle.thp_model.specs.History.{History, by, count_of}
+use Rattle.thp_model.specs.History.{History, by}
 use Rattle.thp_model.specs.Counts.{is_alloc, allocations}
 use Rattle.thp_model.specs.Frames.{frames_given, frames_held}
 use Rattle.thp_model.specs.FlightSteps.{flight_after, flight_by}
@@ -23,13 +23,9 @@ use Rattle.thp_model.proofs.Kept.{frames_kept}
 use Rattle.thp_model.proofs.OnePlace.{times_flight, has_times, once_flies}
 use Rattle.thp_model.proofs.Sizes.{few_subpages}
 use Rattle.thp_model.proofs.Standing.{times, flying, pages, times-cons, flying-cons, first_has, legal_sound}
-use Rattle.thp_node.specs.Homes.{flier}
+use Rattle.thp_places.specs.Homes.{flier}
+use Rattle.thp_places.proofs.Starting.{few_events}
 use Rattle.thp_node.specs.Journals.{leaves_of, left_by, joins_of, one_for}
-
--- no more events pass a test than there are
-pub few_events : (test : What → Bool) (h : History) → count_of test h ≤ length h
-unfolding count_of
-few_events test h = count_by-le-length (λ (e : Event). test e.what) h
 
 -- each page had 512 frames at most to give back
 pub few_frames_given : (shape : Shape) (h : History) → shape.order ≤ 9 → IsLegal shape h → frames_given h ≤ 512 * length h
@@ -149,6 +145,11 @@ pub flight_moves : (shape : Shape) (h : History) (c d : ℕ) (w : What) → IsLe
     length (flight (h ++ by c w ∷ []) d) + one_for (leaves_of h c w) d ≡ length (flight h d) + one_for (joins_of c w) d
 flight_moves shape h c d w l f =
     ap (λ ps. length ps + one_for (leaves_of h c w) d) (flight_push h d c w) ∙ moves shape h (h ++ by c w ∷ []) c d w l f
+
+-- a page that is taken joins the taker's flight
+pub flight_grows : (h : History) (c p : ℕ) → length (flight (h ++ by c (Taken p) ∷ []) c) ≡ length (flight h c) + 1
+flight_grows h c p =
+    ap length (flight_push h c c (Taken p)) ∙ (ap (λ b. length (cond b (flight h c ++ p ∷ []) (flight h c))) (eq-eqb c c refl) ∙ length_push (flight h c) p)
 
 apart : (h : History) (c d : ℕ) (w : What) → Some d ≡ leaves_of h c w → joins_of c w ≡ None
 apart h c d (Taken p) e = absurd (cc)

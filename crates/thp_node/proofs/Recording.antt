@@ -5,7 +5,7 @@ use Rattle.std.proofs.lemmas.Bool.{cases_lt}
 use Rattle.std.proofs.lemmas.List.{get_or_past, length_push}
 use Rattle.thp_model.specs.declared.events.Event.{Event}
 use Rattle.thp_model.specs.declared.events.What.{What}
-use Rattle.thp_model.specs.declared.events.What.TheVariants.{UnmapWhole, UnmapSub, Unpin, Taken, Split}
+use Rattle.thp_model.specs.declared.events.What.TheVariants.{UnmapWhole, UnmapSub, SplitPmd, Unpin, Taken, Split, Back, Dropped}
 use Rattle.thp_model.specs.declared.shape.Shape.{Shape}
 use Rattle.thp_model.specs.History.{History, by, count_of, some_event}
 use Rattle.thp_model.specs.Shapes.{IsShape}
@@ -18,8 +18,9 @@ use Rattle.thp_model.proofs.Kept.{frames_given_push, size_given}
 use Rattle.thp_model.proofs.LegalSteps.{legal_none, legal_push}
 use Rattle.thp_model.proofs.Pushes.{count_of_push, some_event_push, thp_split_pmd_push}
 use Rattle.thp_node.specs.declared.answers.Counters.{Counters}
-use Rattle.thp_node.specs.Journals.{IsJournal, leaves_of, joins_of, one_for, frames_of}
-use Rattle.thp_node.proofs.JournalLemmas.{few_events, few_frames_given, few_in_flight, flight_moves, leaves_one}
+use Rattle.thp_node.specs.Journals.{HasFlightRoom, IsJournal, leaves_of, unsaid_of, leaves_by, pmds_by, joins_of, one_for, frames_of}
+use Rattle.thp_node.proofs.JournalLemmas.{few_frames_given, flight_moves, leaves_one}
+use Rattle.thp_places.proofs.Starting.{few_events}
 
 zeros : (n c : ℕ) → slice_index_or {A = ℕ} (replicate n 0) c 0 ≡ 0
 zeros zero c = refl
@@ -80,14 +81,14 @@ few_frames_counted shape h c w n m k s l f is e g =
     )
 
 -- the count of the caller whose flight a page joins has room for it
-pub may_join : (h : History) (c : ℕ) (w : What) (flying : List ℕ) (o : Option ℕ) → c < 64 → o ≡ joins_of c w → length h + 1 < 2 ^ 64 →
-    ((d : ℕ) → slice_index_or flying d 0 ≡ length (flight h d)) → IfSome o (λ d. (d < 64) × (slice_index_or flying d 0 + 1 < 2 ^ 64))
+pub may_join : (h : History) (c : ℕ) (w : What) (flying : List ℕ) (o : Option ℕ) → c < 64 → o ≡ joins_of c w → HasFlightRoom h c w →
+    ((d : ℕ) → slice_index_or flying d 0 ≡ length (flight h d)) → IfSome o (λ d. (d < 64) × (slice_index_or flying d 0 + 1 < 2 ^ 8))
 may_join h c w flying o below e few f =
-    let P : Option ℕ → Type 0 = λ o. IfSome o (λ d. (d < 64) × (slice_index_or flying d 0 + 1 < 2 ^ 64)) in
-    subst P (sym e) (go w) where
-      go : (w : What) → IfSome (joins_of c w) (λ d. (d < 64) × (slice_index_or flying d 0 + 1 < 2 ^ 64))
-      go (Taken p) = (below, omega (arith, f c, few_in_flight h c))
-      go w = tt
+    let P : Option ℕ → Type 0 = λ o. IfSome o (λ d. (d < 64) × (slice_index_or flying d 0 + 1 < 2 ^ 8)) in
+    subst P (sym e) (go w few) where
+      go : (w : What) → HasFlightRoom h c w → IfSome (joins_of c w) (λ d. (d < 64) × (slice_index_or flying d 0 + 1 < 2 ^ 8))
+      go (Taken p) few = (below, omega (arith, f c, few))
+      go w few = tt
 
 -- the count of the caller whose flight a page leaves isn't 0
 pub may_leave : (shape : Shape) (h : History) (c : ℕ) (w : What) (flying : List ℕ) (o : Option ℕ) → IsLegal shape h → Fits shape h (by c w) →
@@ -99,6 +100,24 @@ may_leave shape h c w flying (Some d) l f size e g =
       elim (cases_lt d 64) [ inl y ↦ y | inr y ↦ absurd (omega (arith, some, get_or_past flying d 0 (omega arith))) ],
       some,
     )
+
+-- what an event leaves unsaid tells out of which flight its page goes, and how many PMD mappings it splits
+pub leaves_told : (h : History) (c : ℕ) (w : What) → leaves_by c w (unsaid_of h w) ≡ leaves_of h c w
+leaves_told h c (UnmapWhole p o r) = refl
+leaves_told h c (UnmapSub p a n o r) = refl
+leaves_told h c (Unpin p o r) = refl
+leaves_told h c (Split p r) = refl
+leaves_told h c (Back p) = refl
+leaves_told h c (Dropped p) = refl
+leaves_told h c w = refl
+
+pub pmds_told : (h : History) (w : What) → pmds_by w (unsaid_of h w) ≡ splits_pmds h w
+pmds_told h (UnmapWhole p o r) = refl
+pmds_told h (UnmapSub p a n o r) = refl
+pmds_told h (SplitPmd p) = refl
+pmds_told h (Unpin p o r) = refl
+pmds_told h (Split p r) = refl
+pmds_told h w = refl
 
 -- what an event adds: a page or none, the closing, frames, and to the four statistics
 pub record Adds (h : History) (c : ℕ) (w : What) (next alloc : ℕ) (close : Bool) (given frames : ℕ) (counters : Counters) (split failed queued pmds : ℕ) : Type 0 where

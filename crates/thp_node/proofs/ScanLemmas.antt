@@ -1,11 +1,11 @@
 -- The tries of a scan, one by one, and what is behind its take, put together.
-use Rattle.std.proofs.Common.{◌≡◌, ℕ, suc, ◌+◌, ◌*◌, ◌<◌, ◌≤◌, Bool, true, false, cond, not, ◌&&◌, ◌||◌, List, [], ◌∷◌, ◌++◌, Option, Some, None, length, map, take, drop, refl, ap, ap₂, sym, ◌∙◌, subst, arith, nat_eq, nat_lt, get_or, append_assoc, length-take-le, ◌-◌, eq-eqb, eqb-true, inl, inr}
+use Rattle.std.proofs.Common.{◌≡◌, ℕ, min, suc, ◌+◌, ◌*◌, ◌<◌, ◌≤◌, Bool, true, false, cond, not, ◌&&◌, ◌||◌, List, [], ◌∷◌, ◌++◌, Option, Some, None, length, map, take, drop, refl, ap, ap₂, sym, ◌∙◌, subst, arith, nat_eq, nat_lt, get_or, append_assoc, length-take-le, ◌-◌, eq-eqb, eqb-true, inl, inr}
 use Rattle.std.specs.List.{filter, after_first}
 use Rattle.std.proofs.Math.Seq.{drop-cons}
 use Rattle.std.proofs.lemmas.Bool.Decides.{nat_tests}
 use Rattle.std.proofs.lemmas.List.Filters.{length-filter_both}
 use Rattle.std.proofs.lemmas.List.Sums.{length-filter, count_by-le-length}
-use Rattle.std.proofs.lemmas.List.{map-append, take-append-drop, take_more, length-map}
+use Rattle.std.proofs.lemmas.List.{map-append, take-append-drop, take_more, take_min, length-map}
 use Rattle.thp_model.specs.declared.events.Event.{Event}
 use Rattle.thp_model.specs.declared.events.What.TheVariants as what
 use Rattle.thp_model.specs.declared.events.What.{What}
@@ -318,6 +318,19 @@ took_reserved a r b c n s j g w m =
 
 abbrev pub whole_batch : ℕ → List ℕ → BatchState
 whole_batch c ps = record { caller = c; pages = ps; place = 0 }
+
+-- a take of as many pages as are wanted and queued, with what was reserved before it
+module _ (a m b : NodeState) (c n k : ℕ) (same : m ≡ record a { room = m.room }) (is : k ≡ min n (length (queue a.journal))) where
+  pub took_admitted : a.room ≤ m.room → Did m b c (take_events m.journal c k) → Did a b c (take_events a.journal c n)
+  took_admitted more did =
+      let D : List Event → Type 0 = λ es. Did a b c es in
+      subst D (ap (take_events a.journal c) is ∙ ap (takes_of c) (take_min n (queue a.journal)))
+      (took_reserved a m b c k (ap (λ (x : NodeState). x.shape) same) (ap (λ (x : NodeState). x.journal) same) more (ap (λ (x : NodeState). x.table.accesses) same) did)
+
+  pub batch_admitted : (t : BatchState) → t ≡ whole_batch c (take k (queue m.journal)) → t ≡ whole_batch c (take n (queue a.journal))
+  batch_admitted t e =
+      e ∙ ap (whole_batch c)
+      (ap (λ (x : NodeState). take k (queue x.journal)) same ∙ ap (λ i. take i (queue a.journal)) is ∙ take_min n (queue a.journal))
 
 map_same : (f g : ℕ → Event) → ((p : ℕ) → f p ≡ g p) → (ps : List ℕ) → map f ps ≡ map g ps
 map_same f g e [] = refl

@@ -1,11 +1,12 @@
 -- What contracts see of a batch, what a try and a put-back answer, and what a scan counts.
 use Rattle.std.specs.Prelude.{◌≡◌, ◌≢◌, ℕ, ◌≤◌, ◌<◌, length, nat_eq, if◌then◌else◌, Bool, true, false, List, ◌++◌, drop, Option, Some, None}
+use Rattle.std.specs.List.{All}
 use Rattle.thp_model.specs.declared.events.Event.{Event}
 use Rattle.thp_model.specs.declared.events.What.{What}
 use Rattle.thp_model.specs.declared.events.What.TheVariants.{Taken, Split as SplitOf, Pinned as PinnedOf, Back, Dropped}
 use Rattle.thp_model.specs.History.{History, count_of}
 use Rattle.thp_model.specs.Counts.{pins, is_closed}
-use Rattle.thp_model.specs.Places.{flight}
+use Rattle.thp_model.specs.Places.{flight, has_page}
 use Rattle.thp_model.specs.Runs.{still_flying}
 use Rattle.thp_node.specs.declared.answers.Tried.{Tried}
 use Rattle.thp_node.specs.declared.answers.Tried.TheVariants.{Split, Pinned, Done}
@@ -40,6 +41,10 @@ FrontsStay h k = (b : BatchState) → IsInFront h b → IsInFront k b
 -- every batch of a caller other than c
 abbrev pub OtherFrontsStay : ℕ → History → History → Type 0
 OtherFrontsStay c h k = (b : BatchState) → b.caller ≢ c → IsInFront h b → IsInFront k b
+
+-- a batch of caller c that has none of the pages ps, which are those of its flight, is in front of the flight at h
+abbrev pub OlderAreInFront : ℕ → List ℕ → History → Type 0
+OlderAreInFront c ps h = (b : BatchState) → b.caller ≡ c → All (λ p. has_page p ps ≡ false) b.pages → IsInFront h b
 
 -- what a try of the next page answers
 abbrev pub tried : History → Option ℕ → Tried

@@ -1,20 +1,22 @@
 -- What the journal of a node keeps beside its events.
-use Rattle.std.specs.Prelude.{◌≡◌, ℕ, ◌*◌, ◌^◌, ◌≤◌, Bool, cond, nat_eq, length, List, slice_index_or, Option, Some, None}
+use Rattle.std.specs.Prelude.{◌≡◌, ℕ, ◌*◌, ◌^◌, ◌≤◌, Bool, cond, nat_eq, length, List, slice_index_or, Option, Some, None, IfSome, ◌<◌}
 use Rattle.thp_model.specs.declared.events.Outcome.{Outcome}
 use Rattle.thp_model.specs.declared.events.Outcome.TheVariants.{Freed}
 use Rattle.thp_model.specs.declared.events.What.{What}
-use Rattle.thp_model.specs.declared.events.What.TheVariants.{UnmapWhole, UnmapSub, Unpin, Taken, Split, Back, Dropped}
+use Rattle.thp_model.specs.declared.events.What.TheVariants.{UnmapWhole, UnmapSub, SplitPmd, Unpin, Taken, Split, Back, Dropped}
 use Rattle.thp_model.specs.declared.shape.Shape.{Shape}
 use Rattle.thp_model.specs.Sets.{set_size}
 use Rattle.thp_model.specs.Shapes.{IsShape}
 use Rattle.thp_model.specs.History.{History}
-use Rattle.thp_model.specs.Counts.{is_closed, allocations}
+use Rattle.thp_model.specs.Counts.{is_closed, allocations, whole}
 use Rattle.thp_model.specs.Counters.{thp_split_page, thp_split_page_failed, thp_deferred_split_page, thp_split_pmd}
 use Rattle.thp_model.specs.Frames.{frames_given}
 use Rattle.thp_model.specs.Places.{flights, flight}
 use Rattle.thp_model.specs.Legal.{IsLegal}
-use Rattle.thp_node.specs.Homes.{flier}
+use Rattle.thp_places.specs.Homes.{flier}
 use Rattle.thp_node.specs.declared.answers.Counters.{Counters}
+use Rattle.thp_node.specs.declared.journal.Unsaid.{Unsaid}
+use Rattle.thp_node.specs.declared.journal.Unsaid.TheVariants.{Nothing, FreedFrom, Mapped}
 
 -- the node's shape, the events so far, and how many more there is room for
 pub record JournalState : Type 0 where
@@ -59,10 +61,36 @@ leaves_of h c (Back p) = Some c
 leaves_of h c (Dropped p) = Some c
 leaves_of h c _ = None
 
+-- what an event does that it doesn't say itself
+abbrev pub unsaid_of : History → What → Unsaid
+unsaid_of h (UnmapWhole p outcome set) = FreedFrom (left_by h p outcome)
+unsaid_of h (UnmapSub p first count outcome set) = FreedFrom (left_by h p outcome)
+unsaid_of h (Unpin p outcome set) = FreedFrom (left_by h p outcome)
+unsaid_of h (Split p set) = Mapped (whole h p)
+unsaid_of h _ = Nothing
+
+-- the caller whose flight a page leaves by what caller c does, told of what is unsaid
+abbrev pub leaves_by : ℕ → What → Unsaid → Option ℕ
+leaves_by c w (FreedFrom flier) = flier
+leaves_by c w (Mapped n) = Some c
+leaves_by c (Back p) Nothing = Some c
+leaves_by c (Dropped p) Nothing = Some c
+leaves_by c w Nothing = None
+
+-- how many PMD mappings an event splits, told of what is unsaid
+abbrev pub pmds_by : What → Unsaid → ℕ
+pmds_by w (Mapped n) = n
+pmds_by (SplitPmd p) u = 1
+pmds_by w u = 0
+
 -- the caller whose flight a page joins by what caller c does
 abbrev pub joins_of : ℕ → What → Option ℕ
 joins_of c (Taken p) = Some c
 joins_of c _ = None
+
+-- the flight that a page joins has fewer than 255 pages
+abbrev pub HasFlightRoom : History → ℕ → What → Type 0
+HasFlightRoom h c w = IfSome (joins_of c w) (λ d. length (flight h d) < 255)
 
 -- 1 for that caller, and 0 for another or where there is none
 abbrev pub one_for : Option ℕ → ℕ → ℕ

@@ -1,5 +1,5 @@
 //! What the calls of a node answer.
-use thp_model::{Outcome, PageId, SubSet};
+use thp_model::PageId;
 
 /// Why a node wasn't made.
 #[derive(Clone, Copy, PartialEq, Eq, Debug)]
@@ -8,13 +8,6 @@ pub enum NewFault {
     BadSize,
     /// The memory for the table of pages wasn't there.
     OutOfMemory,
-}
-
-/// What an unmap or an unpin did to its page, and the subpages whose frames it gave back.
-#[derive(Clone, Copy, PartialEq, Eq, Debug)]
-pub struct Done {
-    pub outcome: Outcome,
-    pub released: SubSet,
 }
 
 /// What a try of a batch's next page did.

@@ -19,10 +19,10 @@ mod batch;
 mod blocks;
 mod journal;
 mod node;
-mod page_call;
 #[cfg(test)]
 mod tests;
 
-pub use answers::{BackReply, Counters, Done, NewFault, ScanReply, Tried};
+pub use answers::{BackReply, Counters, NewFault, ScanReply, Tried};
 pub use batch::Batch;
 pub use node::Node;
+pub use thp_places::Done;

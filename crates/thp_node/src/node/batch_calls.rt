@@ -1,5 +1,5 @@
 //! The shrinker's calls: a take, tries, a put-back, and the scan that is made of them.
-ghost use Rattle.std.specs.Prelude.{◌≡◌, ℕ, ◌+◌, ◌*◌, ◌<◌, ◌≤◌, Bool, true, false, ◌||◌, [], ◌∷◌, length, drop, take, slice_get, Option, None, Some, IfOk, IfErr, IfSome, IfNone, OnOk, OnErr};
+ghost use Rattle.std.specs.Prelude.{◌≡◌, ℕ, ◌+◌, ◌*◌, ◌<◌, ◌≤◌, Bool, true, false, ◌||◌, [], ◌∷◌, length, drop, take, slice_get, min, Option, None, Some, IfOk, IfErr, IfSome, IfNone, OnOk, OnErr};
 ghost use Rattle.thp_model.specs.History.{by};
 ghost use Rattle.thp_model.specs.Counts.{is_closed};
 ghost use Rattle.thp_model.specs.Legal.{IsLegal};
@@ -7,16 +7,18 @@ ghost use Rattle.thp_model.specs.Places.{queue, flight, no_pages, is_taking, has
 ghost use Rattle.thp_model.specs.Refusals.{refusal};
 ghost use Rattle.thp_model.specs.Refusals as call;
 ghost use Rattle.thp_model.specs.Runs.{take_events, split_next_events, put_back_events, scan_events, next_page, rest_after, still_flying, try_event, return_event};
-ghost use Rattle.thp_node.specs.Batches.{rest, tried, back_reply, scan_reply, IsInFront, FrontsStay, OtherFrontsStay};
+ghost use Rattle.thp_node.specs.Batches.{rest, tried, IsInFront, FrontsStay, OtherFrontsStay, OlderAreInFront};
 ghost use Rattle.thp_node.specs.Calls.{Did, Refused};
+ghost use Rattle.thp_places.specs.Homes.{block_of};
 
 use crate::answers::{BackReply, ScanReply, Tried};
 use crate::batch::Batch;
+use crate::journal::Unsaid;
 use crate::node::Node;
 use thp_model::{PageId, Refusal, What};
 
 impl Node {
-    ghost use Rattle.thp_node.specs.Flying.{IsFlyingAt, IsUnpinnedAt};
+    ghost use Rattle.thp_places.specs.Flying.{IsFlyingAt, IsUnpinnedAt};
 
     /// Takes up to `n` pages, the oldest of the queue in order, into a batch of the caller. Refused as `HasBatch`.
     pub fn take(&mut self, caller: u32, n: u32) -> Result<Batch, Refusal>
@@ -28,19 +30,40 @@ impl Node {
         ensures refused { IfErr result (Refused self.old self.new (refusal self.old.shape self.old.journal (call.take caller)) (length (take_events self.old.journal caller n))) }
         ensures front { IfOk result (IsInFront self.new.journal) }
         ensures fronts { OtherFrontsStay caller self.old.journal self.new.journal }
+        // a batch that the caller took before, as long as this take brought back none of its pages
+        ensures older { IfOk result (λ b. OlderAreInFront caller b.pages self.new.journal) }
+    {
+        let count = self.admit_take(caller, n, 1)?;
+        Ok(self.take_oldest(caller, count))
+    }
+
+    // How many pages a take of up to `n` gets, with room in the journal for `each` events of each of them; or why it is
+    // refused.
+    pub(super) fn admit_take(&mut self, caller: u32, n: u32, each: u32) -> Result<u32, Refusal>
+        requires caller { caller < 64 }
+        requires count { n ≤ 128 }
+        requires each { each ≤ 3 }
+        ensures count { IfOk result (λ k. k ≡ min n (length (queue self.old.journal))) }
+        ensures room { IfOk result (λ k. each * k ≤ self.new.room) }
+        ensures free { OnOk result (no_pages (flight self.old.journal caller) ≡ true) }
+        ensures allowed { OnOk result (refusal self.old.shape self.old.journal (call.take caller) ≡ None) }
+        ensures legal { IsLegal self.old.shape self.old.journal }
+        ensures more { self.old.room ≤ self.new.room }
+        ensures same { self.new ≡ record self.old { room = self.new.room } }
+        ensures refused { IfErr result (Refused self.old self.new (refusal self.old.shape self.old.journal (call.take caller)) (each * length (take_events self.old.journal caller n))) }
     {
         if self.journal.flying(caller) != 0 {
             return Err(Refusal::HasBatch);
         }
         let count = n.min(self.blocks.queue().len());
-        if let Err(_) = self.journal.reserve(count as usize) {
+        if let Err(_) = self.journal.reserve((each * count) as usize) {
             return Err(Refusal::OutOfMemory);
         }
-        Ok(self.take_oldest(caller, count))
+        Ok(count)
     }
 
     // Takes the `count` oldest pages, for which there is room.
-    fn take_oldest(&mut self, caller: u32, count: u32) -> Batch
+    pub(super) fn take_oldest(&mut self, caller: u32, count: u32) -> Batch
         requires caller { caller < 64 }
         requires few { count ≤ 128 }
         requires queued { count ≤ length (queue self.old.journal) }
@@ -64,11 +87,13 @@ impl Node {
         requires queued { 0 < length (queue self.old.journal) }
         requires room { 0 < self.old.room }
         requires may_take { (no_pages (flight self.old.journal caller) || is_taking self.old.journal caller) ≡ true }
+        requires few { length (flight self.old.journal caller) < 255 }
         ensures oldest { slice_get (queue self.old.journal) 0 ≡ Some result }
         ensures did { Did self.old self.new caller (by caller (What.Taken result) ∷ []) }
     {
         let page = self.blocks.take_first(caller);
-        self.journal.record(caller, What::Taken { page }, None, 0);
+        self.journal
+            .record(caller, What::Taken { page }, Unsaid::Nothing);
         page
     }
 
@@ -125,6 +150,7 @@ impl Node {
         ensures none { IfNone result (has_page page (flight self.now.journal caller) ≡ false) }
         ensures flies { IfSome result (λ b. has_page page (flight self.now.journal caller) ≡ true) }
         ensures block { IfSome result (IsFlyingAt self.now.table caller page) }
+        ensures home { IfSome result (λ b. block_of self.now.journal page ≡ Some b) }
     {
         match self.blocks.find(page) {
             Some(block) => {
@@ -150,7 +176,8 @@ impl Node {
             self.split_page(caller, block, page);
             Tried::Split(page)
         } else {
-            self.journal.record(caller, What::Pinned { page }, None, 0);
+            self.journal
+                .record(caller, What::Pinned { page }, Unsaid::Nothing);
             Tried::Pinned(page)
         }
     }
@@ -163,13 +190,9 @@ impl Node {
         requires unpinned { IsUnpinnedAt self.old.table block }
         ensures did { Did self.old self.new caller (try_event self.old.shape self.old.journal caller page ∷ []) }
     {
-        let split_pmds = self.blocks.whole(block);
+        let mapped = Unsaid::Mapped(self.blocks.whole(block));
         let released = self.blocks.split(block);
-        self.journal.record(
-            caller,
-            What::Split { page, released },
-            Some(caller),
-            split_pmds,
-        );
+        self.journal
+            .record(caller, What::Split { page, released }, mapped);
     }
 }

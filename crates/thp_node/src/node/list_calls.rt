@@ -7,6 +7,7 @@ ghost use Rattle.thp_model.specs.Refusals as call;
 ghost use Rattle.thp_node.specs.Batches.{FrontsStay};
 ghost use Rattle.thp_node.specs.Calls.{Did, DidAlloc, Refused};
 
+use crate::journal::Unsaid;
 use crate::node::Node;
 use thp_model::{PageId, Refusal, What};
 
@@ -33,7 +34,7 @@ impl Node {
         let page = PageId(self.journal.next());
         let block = self.blocks.place(page);
         self.journal
-            .record(caller, What::Alloc { page, block }, None, 0);
+            .record(caller, What::Alloc { page, block }, Unsaid::Nothing);
         Ok(page)
     }
 
@@ -51,7 +52,7 @@ impl Node {
         if let Err(_) = self.journal.reserve(1) {
             return Err(Refusal::OutOfMemory);
         }
-        self.journal.record(caller, What::Close, None, 0);
+        self.journal.record(caller, What::Close, Unsaid::Nothing);
         Ok(())
     }
 }

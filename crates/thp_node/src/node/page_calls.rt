@@ -6,13 +6,13 @@ ghost use Rattle.thp_model.specs.Refusals.{refusal};
 ghost use Rattle.thp_model.specs.Refusals as call;
 ghost use Rattle.thp_node.specs.Batches.{FrontsStay};
 ghost use Rattle.thp_node.specs.Calls.{Did, Refused};
-ghost use Rattle.thp_node.specs.Homes.{block_of};
-ghost use Rattle.thp_node.specs.PageCalls.{gain_call, loss_call, page_call, gain_what, loss_what};
+ghost use Rattle.thp_places.specs.Homes.{block_of};
+ghost use Rattle.thp_places.specs.PageCalls.{gain_call, loss_call, page_call, gain_what, loss_what};
 
-use crate::answers::Done;
+use crate::journal::Unsaid;
 use crate::node::Node;
-use crate::page_call::{Gain, Loss, PageCall};
 use thp_model::{PageId, Refusal, What};
+use thp_places::{Done, Gain, Loss, PageCall};
 
 impl Node {
     /// One more mapping of the whole page, by a PMD entry. Refused as `NoPage`, `IsSplit` and `TooMany`.
@@ -126,7 +126,7 @@ impl Node {
         let block = self.admit(page, PageCall::Gain(gain))?;
         self.blocks.gain(block, gain);
         self.journal
-            .record(caller, gain.what(page), None, gain.split_pmds());
+            .record(caller, gain.what(page), Unsaid::Nothing);
         Ok(())
     }
 
@@ -143,7 +143,8 @@ impl Node {
         let block = self.admit(page, PageCall::Loss(loss))?;
         let closed = self.journal.is_closed();
         let (done, left) = self.blocks.lose(block, loss, closed);
-        self.journal.record(caller, loss.what(page, &done), left, 0);
+        self.journal
+            .record(caller, loss.what(page, &done), Unsaid::FreedFrom(left));
         Ok(done)
     }
 

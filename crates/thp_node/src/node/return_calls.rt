@@ -5,16 +5,20 @@ ghost use Rattle.thp_model.specs.Places.{flight};
 ghost use Rattle.thp_model.specs.Refusals.{refusal};
 ghost use Rattle.thp_model.specs.Refusals as call;
 ghost use Rattle.thp_model.specs.Runs.{take_events, put_back_events, scan_events, still_flying, try_event, return_event};
-ghost use Rattle.thp_node.specs.Batches.{back_reply, scan_reply, IsInFront, FrontsStay, OtherFrontsStay};
+ghost use Rattle.thp_node.specs.Batches.{back_reply, scan_reply, IsInFront, FrontsStay};
 ghost use Rattle.thp_node.specs.Calls.{Did, Refused};
+ghost use Rattle.thp_places.specs.Homes.{block_of};
 
 use crate::answers::{BackReply, ScanReply};
 use crate::batch::Batch;
+use crate::journal::Unsaid;
 use crate::node::Node;
+use arrayvec::ArrayVec;
 use thp_model::{PageId, Refusal, What};
 
 impl Node {
-    ghost use Rattle.thp_node.specs.Flying.{IsFlyingAt};
+    ghost use Rattle.thp_places.specs.Flying.{IsFlyingAt};
+    ghost use Rattle.thp_node.specs.Returning.{BeginsIn, return_first};
     ghost use Rattle.thp_node.specs.Scanning.{events_behind};
 
     /// Returns the pages of a batch that are still in the flight of the batch's caller, in the batch's order: to the tail of
@@ -30,12 +34,13 @@ impl Node {
         ensures handed_back { IfErr result (λ e. e.0 ≡ batch) }
         ensures fronts { FrontsStay self.old.journal self.new.journal }
     {
-        let count = self.count_flying(batch.caller(), batch.pages());
-        if let Err(_) = self.journal.reserve(count as usize) {
+        let blocks = self.flying_blocks(batch.caller(), batch.pages());
+        if let Err(_) = self.journal.reserve(blocks.len()) {
             return Err((batch, Refusal::OutOfMemory));
         }
+        let count = blocks.len() as u32;
         let closed = self.journal.is_closed();
-        self.return_all(&batch);
+        self.return_all(batch.caller(), &blocks);
         if closed {
             Ok(BackReply {
                 back: 0,
@@ -49,33 +54,44 @@ impl Node {
         }
     }
 
-    // How many pages of a batch are in a caller's flight.
-    fn count_flying(&self, caller: u32, pages: &[PageId]) -> u32
+    // The blocks of those pages of a batch that are in a caller's flight, in the batch's order.
+    fn flying_blocks(&self, caller: u32, pages: &[PageId]) -> ArrayVec<u32, 128>
         requires { length pages.now ≤ 128 }
-        ensures { result ≡ length (still_flying self.now.journal caller pages.now) }
+        ensures blocks { map (block_of self.now.journal) (still_flying self.now.journal caller pages.now) ≡ map (λ b. Some b) result.items }
+        ensures count { length result.items ≡ length (still_flying self.now.journal caller pages.now) }
+        ensures few { length result.items ≤ 128 }
     {
-        let mut count = 0;
+        let mut blocks = ArrayVec::new();
         for &page in pages {
-            if let Some(_) = self.flying_block(caller, page) {
-                count += 1;
+            if let Some(block) = self.flying_block(caller, page) {
+                blocks.push(block);
             }
         }
-        count
+        blocks
     }
 
-    // Returns the pages of a batch that are in flight, for which there is room.
-    fn return_all(&mut self, batch: &Batch)
+    // Returns the first pages of a caller's flight, which lie in these blocks and for which there is room.
+    fn return_all(&mut self, caller: u32, blocks: &[u32])
+        requires caller { caller < 64 }
         requires legal { IsLegal self.old.shape self.old.journal }
-        requires front { IsInFront self.old.journal batch.now }
-        requires room { length (still_flying self.old.journal batch.now.caller batch.now.pages) ≤ self.old.room }
-        ensures did { Did self.old self.new batch.now.caller (put_back_events self.old.journal batch.now.caller batch.now.pages) }
+        requires front { BeginsIn self.old.journal caller blocks.now }
+        requires room { length blocks.now ≤ self.old.room }
+        ensures did { Did self.old self.new caller (return_first self.old.journal caller (length blocks.now)) }
     {
-        let caller = batch.caller();
-        for &page in batch.pages() {
-            if let Some(block) = self.flying_block(caller, page) {
-                self.return_page(caller, block, page);
-            }
+        for &block in blocks {
+            self.return_first(caller, block);
         }
+    }
+
+    // Returns the first page of a caller's flight, which lies in this block.
+    fn return_first(&mut self, caller: u32, block: u32)
+        requires caller { caller < 64 }
+        requires room { 0 < self.old.room }
+        requires front { BeginsIn self.old.journal caller (block ∷ []) }
+        ensures did { Did self.old self.new caller (return_first self.old.journal caller 1) }
+    {
+        let page = self.blocks.number(block);
+        self.return_page(caller, block, page);
     }
 
     // Returns the page of a block, which is the first of the caller's flight.
@@ -89,11 +105,11 @@ impl Node {
         if self.journal.is_closed() {
             self.blocks.drop_out(block);
             self.journal
-                .record(caller, What::Dropped { page }, Some(caller), 0);
+                .record(caller, What::Dropped { page }, Unsaid::Nothing);
         } else {
             self.blocks.enqueue(block);
             self.journal
-                .record(caller, What::Back { page }, Some(caller), 0);
+                .record(caller, What::Back { page }, Unsaid::Nothing);
         }
     }
 
@@ -108,19 +124,11 @@ impl Node {
         ensures recorded { OnOk result (Did self.old self.new caller (scan_events self.old.shape self.old.journal caller n)) }
         ensures reply { IfOk result (λ r. r ≡ scan_reply (scan_events self.old.shape self.old.journal caller n)) }
         ensures refused { IfErr result (Refused self.old self.new (refusal self.old.shape self.old.journal (call.scan caller)) (3 * length (take_events self.old.journal caller n))) }
-        ensures fronts { OtherFrontsStay caller self.old.journal self.new.journal }
+        ensures fronts { FrontsStay self.old.journal self.new.journal }
     {
-        if self.journal.flying(caller) != 0 {
-            return Err(Refusal::HasBatch);
-        }
-        let count = n.min(self.blocks.queue().len());
-        if let Err(_) = self.journal.reserve(3 * count as usize) {
-            return Err(Refusal::OutOfMemory);
-        }
-        match self.take(caller, n) {
-            Ok(batch) => Ok(self.scan_batch(batch)),
-            Err(_) => unreachable!(),
-        }
+        let count = self.admit_take(caller, n, 3)?;
+        let batch = self.take_oldest(caller, count);
+        Ok(self.scan_batch(batch))
     }
 
     // Tries each page of a batch that was just taken, and returns those that are pinned, for which there is room.

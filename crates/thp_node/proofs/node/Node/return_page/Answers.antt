@@ -4,7 +4,7 @@ use Rattle.thp_model.specs.declared.events.What.TheVariants as what
 use Rattle.thp_model.specs.Counts.{is_closed}
 use Rattle.thp_model.specs.History.{by}
 use Rattle.thp_model.specs.Places.{flight}
-use Rattle.thp_node.specs.Flying.{IsFlyingAt}
+use Rattle.thp_places.specs.Flying.{IsFlyingAt}
 use Rattle.thp_node.specs.NodeState.{NodeState}
 use Rattle.thp_node.proofs.CallLemmas.{did_one}
 use Rattle.thp_node.proofs.ReturnLemmas.{dropped_all, back_all, did_return}

@@ -4,6 +4,7 @@ use Rattle.thp_model.specs.declared.events.What.TheVariants.{Split}
 use Rattle.thp_model.specs.History.{by}
 use Rattle.thp_model.specs.Runs.{try_event}
 use Rattle.thp_node.specs.Calls.{Did}
+use Rattle.thp_node.specs.declared.journal.Unsaid.TheVariants.{Mapped}
 use Rattle.thp_node.specs.contracts.node.Node.{the_view}
 use Rattle.thp_node.specs.NodeState.{NodeState}
 use Rattle.thp_node.proofs.BatchRuns.{flies_inside, unpinned_inside, node_recorded, ready_there, whole_there, SplitOff, split_off}
@@ -29,11 +30,11 @@ split-released-requires-clause-allowed c =
 pub record-requires-clause-fits : goal.record-requires-clause-fits
 record-requires-clause-fits c = (off (goal.at.record-requires-clause-fits c).After-split-released).fits
 
-pub record-requires-clause-split_pmds : goal.record-requires-clause-split_pmds
-record-requires-clause-split_pmds c =
+pub record-requires-clause-unsaid : goal.record-requires-clause-unsaid
+record-requires-clause-unsaid c =
     let j = c.self.inside.journal in
     let w = flies_inside _ c.args.self.now c.args.caller c.args.page c.args.block c.self.view_is c.requires.flies in
-    c.whole-split_pmds.ensures w.slot w.at ∙ sym (whole_there j.shape j.events c.args.caller c.args.page c.args.block c.self.inside.blocks c.self.invariant w)
+    ap (λ n. Mapped n) (c.whole.ensures w.slot w.at ∙ sym (whole_there j.shape j.events c.args.caller c.args.page c.args.block c.self.inside.blocks c.self.invariant w))
 
 pub invariant_of-self : goal.invariant_of-self
 invariant_of-self c =

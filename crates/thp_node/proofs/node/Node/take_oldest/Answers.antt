@@ -1,17 +1,26 @@
-use Rattle.std.proofs.Common.{ℕ, ◌<◌, List, ◌∷◌, [], ◌++◌, length, ap, sym, ◌∙◌, arith, refl, subst}
+use Rattle.std.proofs.Common.{true, true≢false, ◌≡◌, ◌+◌, ℕ, ◌<◌, List, ◌∷◌, [], ◌++◌, length, ap, sym, ◌∙◌, arith, refl, subst}
 use Rattle.std.specs.Prelude.{slice_get}
-use Rattle.thp_model.specs.Places.{queue}
+use Rattle.thp_model.specs.Places.{queue, flight, no_pages}
 use Rattle.thp_model.proofs.TakeRuns.{more_taken}
 use Rattle.thp_node.specs.Batches.{BatchState}
+use Rattle.thp_node.proofs.JournalLemmas.{flight_grows}
 use Rattle.thp_node.proofs.BatchRuns.{took_none, took_more, some_left}
 use Rattle.thp_node.proofs.node.Node.take_oldest.Goals as goal
+
+none_long : (ps : List ℕ) → no_pages ps ≡ true → length ps ≡ 0
+none_long [] e = refl
+none_long (p ∷ ps) e = absurd (true≢false (sym e))
 
 pub loop-taken-init : goal.loop-taken-init
 loop-taken-init c = record {
   took = took_none c.args.self.now c.args.self.now c.args.caller refl c.requires.legal c.requires.may_take;
   batch = c.new-batch.ensures;
   room = omega (arith, c.requires.room);
+  flying = none_long (flight c.args.self.now.journal c.args.caller) c.requires.may_take;
 }
+
+pub take_one-page-requires-clause-few : goal.take_one-page-requires-clause-few
+take_one-page-requires-clause-few c = omega (arith, c.loop-taken.invariant.flying, c.requires.few)
 
 pub take_one-page-requires-clause-queued : goal.take_one-page-requires-clause-queued
 take_one-page-requires-clause-queued c =
@@ -29,4 +38,7 @@ loop-taken-preserved c =
           ∙ ap (λ (b : BatchState). record b { pages = b.pages ++ c.take_one-page.result ∷ [] }) c.loop-taken.invariant.batch
           ∙ ap (λ (ps : List ℕ). let b : BatchState = record { caller = c.args.caller; pages = ps; place = 0 } in b) (sym more);
       room = omega (arith, c.loop-taken.invariant.room, c.take_one-page.ensures.did.room);
+      flying =
+          ap (λ h. length (flight h c.args.caller)) c.take_one-page.ensures.did.journal
+          ∙ (flight_grows c.loop-taken.self.journal c.args.caller c.take_one-page.result ∙ ap (λ n. n + 1) c.loop-taken.invariant.flying);
     }
