@@ -133,7 +133,7 @@ first_has p [] e = absurd (cc)
 first_has p (q ∷ qs) e = let same : q ≡ p = cc in rw same (ap (λ v. v || has_page p qs) (eq-eqb p p refl))
 
 -- the first of the queue, taken out
-times-drop : (p q : ℕ) (qs : List ℕ) → slice_get qs 0 ≡ Some p → times q qs ≡ cond (nat_eq p q) 1 0 + times q (drop 1 qs)
+pub times-drop : (p q : ℕ) (qs : List ℕ) → slice_get qs 0 ≡ Some p → times q qs ≡ cond (nat_eq p q) 1 0 + times q (drop 1 qs)
 times-drop p q [] e = absurd (cc)
 times-drop p q (x ∷ qs) e = let same : x ≡ p = cc in rw (times-cons q x qs, same)
 
@@ -238,7 +238,7 @@ by_outcome shape h k p q Freed s l e =
     (λ y. (ap (λ b. b && true) y, refl))
 
 -- a page that leaves the flight of c makes room for one entry
-moves : (p q c : ℕ) (fs : List (ℕ × ℕ)) → has_page p (pages (filter (λ (f : ℕ × ℕ). nat_eq f.0 c) fs)) ≡ true →
+pub moves : (p q c : ℕ) (fs : List (ℕ × ℕ)) → has_page p (pages (filter (λ (f : ℕ × ℕ). nat_eq f.0 c) fs)) ≡ true →
     cond (nat_eq p q) 1 0 + flying q (leaves c p fs) ≤ flying q fs
 moves p q c fs h =
     elim (eqb_tells p q) [
