@@ -104,7 +104,7 @@ closes_blind (Alloc q b) = refl
 closes_blind w = refl
 
 -- the queue doesn't look at the block
-queue_blind : (ps : List ℕ) (w : What) → queue_after ps (with_block 0 w) ≡ queue_after ps w
+queue_blind : (ps : List ℕ) (w : What) → queue_after shape ps (with_block 0 w) ≡ queue_after shape ps w
 queue_blind ps (Alloc q b) = refl
 queue_blind ps w = refl
 
@@ -126,7 +126,7 @@ pub record Alike (h k : History) : Type 0 where
   pub live : (p : ℕ) → is_live h p ≡ is_live k p
   pub split : (p : ℕ) → is_split h p ≡ is_split k p
   pub closed : is_closed h ≡ is_closed k
-  pub queue : queue h ≡ queue k
+  pub queue : queue shape h ≡ queue shape k
   pub flights : flights h ≡ flights k
   pub taking : (c : ℕ) → is_taking h c ≡ is_taking k c
   pub allocations : allocations h ≡ allocations k
@@ -144,9 +144,9 @@ pub fold_alike : {S : Type 0} (f : S → Event → S) → ((s : S) (e : Event) �
 fold_alike f g s h k e = sym (fold_bare f g s h) ∙ ap (λ x. fold f s x) e ∙ fold_bare f g s k
 
 -- both have one queue
-queue_alike : (h k : History) → SameButBlocks h k → queue h ≡ queue k
+queue_alike : (h k : History) → SameButBlocks h k → queue shape h ≡ queue shape k
 unfolding queue
-queue_alike h k e = fold_alike (λ ps (e : Event). queue_after ps e.what) (λ ps x. queue_blind ps x.what) [] h k e
+queue_alike h k e = fold_alike (λ ps (e : Event). queue_after shape ps e.what) (λ ps x. queue_blind ps x.what) [] h k e
 
 -- both have the same flights
 flights_alike : (h k : History) → SameButBlocks h k → flights h ≡ flights k
@@ -244,7 +244,7 @@ module _ (shape : Shape) (h k : History) (a : Alike h k) where
   unfolding refusal
   close_alike = one _ _ Closed a.closed
 
-  pub stands_alike : (p : ℕ) → stands h p ≡ stands k p
+  pub stands_alike : (p : ℕ) → stands shape h p ≡ stands shape k p
   stands_alike p = go _ _ _ _ a.queue a.flights where
     go : (q q' : List ℕ) (f f' : List (ℕ × ℕ)) → q ≡ q' → f ≡ f' →
         list_any (λ x. nat_eq x p) (q ++ map (λ (f : ℕ × ℕ). f.1) f) ≡ list_any (λ x. nat_eq x p) (q' ++ map (λ (f : ℕ × ℕ). f.1) f')
@@ -284,12 +284,12 @@ module _ (shape : Shape) (h k : History) (a : Alike h k) where
     pub fits_alike : (c : ℕ) (w : What) → is_alloc w ≡ false → FitsBy shape h h' c w → FitsBy shape k k' c w
     fits_alike c (Alloc p x) e f = absurd (cc)
     fits_alike c (MapWhole p) e f = sym (map_whole_alike p) ∙ f
-    fits_alike c (UnmapWhole p o r) e f = (sym (unmap_whole_alike p) ∙ f.0, gives_alike p o r f.1)
+    fits_alike c (UnmapWhole o p r) e f = (sym (unmap_whole_alike p) ∙ f.0, gives_alike p o r f.1)
     fits_alike c (MapSub p x m) e f = sym (map_sub_alike p x m) ∙ f
-    fits_alike c (UnmapSub p x m o r) e f = (sym (unmap_sub_alike p x m) ∙ f.0, gives_alike p o r f.1)
+    fits_alike c (UnmapSub o p x m r) e f = (sym (unmap_sub_alike p x m) ∙ f.0, gives_alike p o r f.1)
     fits_alike c (SplitPmd p) e f = sym (split_pmd_alike p) ∙ f
     fits_alike c (Pin p) e f = sym (pin_alike p) ∙ f
-    fits_alike c (Unpin p o r) e f = (sym (unpin_alike p) ∙ f.0, gives_alike p o r f.1)
+    fits_alike c (Unpin o p r) e f = (sym (unpin_alike p) ∙ f.0, gives_alike p o r f.1)
     fits_alike c (Taken p) e f =
         record { oldest = ap (λ q. slice_get q 0) (sym a.queue) ∙ f.oldest; may_take = sym (or _ _ _ _ (ap no_pages (flight_alike c)) (a.taking c)) ∙ f.may_take } where
           or : (b b' d d' : Bool) → b ≡ b' → d ≡ d' → (b || d) ≡ (b' || d')

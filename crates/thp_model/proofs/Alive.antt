@@ -56,7 +56,7 @@ stays_busy shape h e p t u b =
 -- an unmap or unpin that didn't free its page leaves it busy
 busy_after : (shape : Shape) (h k : History) (p : ℕ) (o : Outcome) → o ≡ outcome shape h k p → is_freed o ≡ false → idle shape k p ≡ false
 busy_after shape h k p o e f =
-    go (idle shape k p) (not (is_split h p) && (some_below (subpages shape) (λ i. nat_lt 0 (total h p i) && nat_eq (total k p i) 0) && (some_below (subpages shape) (λ i. nat_lt 0 (total k p i)) && (not (is_closed h) && not (stands h p))))) o e f where
+    go (idle shape k p) (not (is_split h p) && (some_below (subpages shape) (λ i. nat_lt 0 (total h p i) && nat_eq (total k p i) 0) && (some_below (subpages shape) (λ i. nat_lt 0 (total k p i)) && (not (is_closed h) && not (stands shape h p))))) o e f where
       go : (a q : Bool) (o : Outcome) → o ≡ cond a Freed (cond q Queued Stays) → is_freed o ≡ false → a ≡ false
       go true q o e f = absurd (let g : is_freed o ≡ true = ap is_freed e in cc)
       go false q o e f = refl
@@ -95,12 +95,12 @@ busy_step shape h c (Alloc p b) t s f q l =
       new : (x y : Bool) → x ≡ true → (not x && y) ≡ false
       new true y e = refl
       new false y e = absurd (cc)
-busy_step shape h c (UnmapWhole p o r) t s f q l =
-    unmapped shape h (by c (UnmapWhole p o r)) p q o refl refl f.1.outcome_is (λ y. (λ i. y, refl)) (s.busy q) l
-busy_step shape h c (UnmapSub p a m o r) t s f q l =
-    unmapped shape h (by c (UnmapSub p a m o r)) p q o refl refl f.1.outcome_is (λ y. (λ i. and_no _ _ y, refl)) (s.busy q) l
-busy_step shape h c (Unpin p o r) t s f q l =
-    unmapped shape h (by c (Unpin p o r)) p q o refl refl f.1.outcome_is (λ y. (λ i. refl, y)) (s.busy q) l
+busy_step shape h c (UnmapWhole o p r) t s f q l =
+    unmapped shape h (by c (UnmapWhole o p r)) p q o refl refl f.1.outcome_is (λ y. (λ i. y, refl)) (s.busy q) l
+busy_step shape h c (UnmapSub o p a m r) t s f q l =
+    unmapped shape h (by c (UnmapSub o p a m r)) p q o refl refl f.1.outcome_is (λ y. (λ i. and_no _ _ y, refl)) (s.busy q) l
+busy_step shape h c (Unpin o p r) t s f q l =
+    unmapped shape h (by c (Unpin o p r)) p q o refl refl f.1.outcome_is (λ y. (λ i. refl, y)) (s.busy q) l
 busy_step shape h c w t s f q l =
     stays_busy shape h (by c w) q (λ i. refl) refl (s.busy q (live_back h (by c w) q refl l))
 
@@ -143,7 +143,7 @@ alive_none shape = record { busy = λ p l. absurd (cc); unpinned = λ p s. refl 
 
 -- what holds of legal histories so far
 pub record Grown (shape : Shape) (h : History) : Type 0 where
-  pub sound : Sound h
+  pub sound : Sound shape h
   pub numbered : Numbered h
   pub alive : Alive shape h
 

@@ -61,7 +61,7 @@ fresh_held shape h p i f = go (nat_lt i (subpages shape)) (some_event (allocates
   go false a b v e = refl
 
 -- an event that fits gives a frame back exactly where it ends its being held, and an allocation begins it
-turn : (shape : Shape) (h : History) (c : ℕ) (w : What) (p i : ℕ) → shape.order ≤ 9 → i < subpages shape → Sound h → Numbered h → FitsBy shape h (h ++ by c w ∷ []) c w → Turns shape h (by c w) p i
+turn : (shape : Shape) (h : History) (c : ℕ) (w : What) (p i : ℕ) → shape.order ≤ 9 → i < subpages shape → Sound shape h → Numbered h → FitsBy shape h (h ++ by c w ∷ []) c w → Turns shape h (by c w) p i
 turn shape h c (Alloc q b) p i small below s t f =
     let e : Event = by c (Alloc q b) in
     let k : History = h ++ e ∷ [] in
@@ -86,8 +86,8 @@ turn shape h c (MapWhole q) p i small below s t f =
       | inl y ↦ same_turn shape h e p i (unsplit_same shape h e p i (let P : ℕ → Type 0 = λ x. is_split h x ≡ false in subst P (sym y.1) (allowed_map_whole shape h q f).1) refl refl refl) refl refl
       | inr y ↦ same_turn shape h e p i (held_still shape h e p i (record { no_maps = λ j. y.0; no_unmaps = λ j. refl; no_alloc = refl; no_free = refl; no_split = refl })) refl refl
     ]
-turn shape h c (UnmapWhole q o r) p i small below s t f =
-    let e : Event = by c (UnmapWhole q o r) in
+turn shape h c (UnmapWhole o q r) p i small below s t f =
+    let e : Event = by c (UnmapWhole o q r) in
     release_turn shape h e q r p i small below refl refl f.1.set_is (held_falls shape h e q i (λ j. refl) refl refl) (λ a. held_still shape h e p i (still_unmap_whole p q o r a))
 turn shape h c (MapSub q a d) p i small below s t f =
     let e : Event = by c (MapSub q a d) in
@@ -95,15 +95,15 @@ turn shape h c (MapSub q a d) p i small below s t f =
       | inl y ↦ same_turn shape h e p i (let P : ℕ → Type 0 = λ x. is_held shape (h ++ e ∷ []) x i ≡ is_held shape h x i in subst P (sym y.1) (kept_map_sub shape h c q a d i f)) refl refl
       | inr y ↦ same_turn shape h e p i (held_still shape h e p i (record { no_maps = λ j. and_no _ _ y.0; no_unmaps = λ j. refl; no_alloc = refl; no_free = refl; no_split = refl })) refl refl
     ]
-turn shape h c (UnmapSub q a d o r) p i small below s t f =
-    let e : Event = by c (UnmapSub q a d o r) in
+turn shape h c (UnmapSub o q a d r) p i small below s t f =
+    let e : Event = by c (UnmapSub o q a d r) in
     release_turn shape h e q r p i small below refl refl f.1.set_is (held_falls shape h e q i (λ j. refl) refl refl) (λ y. held_still shape h e p i (still_unmap_sub p q a d o r y))
-turn shape h c (Unpin q o r) p i small below s t f =
-    let e : Event = by c (Unpin q o r) in
+turn shape h c (Unpin o q r) p i small below s t f =
+    let e : Event = by c (Unpin o q r) in
     release_turn shape h e q r p i small below refl refl f.1.set_is (held_falls shape h e q i (λ j. refl) refl refl) (λ a. held_still shape h e p i (still_unpin p q o r a))
 turn shape h c (Split q r) p i small below s t f =
     let e : Event = by c (Split q r) in
-    let up : 0 < stand h q = omega (arith, flying-leaves q c (flights h) f.in_flight) in
+    let up : 0 < stand shape h q = omega (arith, flying-leaves q c (flights h) f.in_flight) in
     release_turn shape h e q r p i small below refl refl f.set_is (λ g. whole_held shape h q i (s.live q up) (s.whole_page q up) (and_both (nat_lt i (subpages shape)) _ g).0) (λ a. held_still shape h e p i (still_split p q r a))
 turn shape h c w p i small below s t f =
     let e : Event = by c w in
@@ -121,7 +121,7 @@ more_step shape h c w p f = ap (λ m. cond {A = ℕ} (nat_lt p m) 1 0) (count_sa
 
 -- each frame of each page allocated so far is held, or was given back once
 record Once (shape : Shape) (h : History) : Type 0 where
-  sound : Sound h
+  sound : Sound shape h
   numbered : Numbered h
   each : (p i : ℕ) → i < subpages shape → cond (is_held shape h p i) 1 0 + count_of (gives_frame p i) h ≡ cond (nat_lt p (allocations h)) 1 0
 

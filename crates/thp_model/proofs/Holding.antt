@@ -68,15 +68,15 @@ held_falls shape h e p i no_maps no_alloc no_split f =
     (sym (held-ap (subpages shape) i (is_live (h ++ e ∷ []) p) (is_live (h ++ e ∷ []) p) _ _ _ _ _ _ refl (some_same (splits p) h e no_split) (count_same (maps p i) h e (no_maps i)) (count_of_push (unmaps p i) h e)) ∙ f)
 
 -- an unmap of another page
-pub still_unmap_whole : (q p : ℕ) (o : Outcome) (r : List Bool) → (q ≢ p) → Still q (UnmapWhole p o r)
+pub still_unmap_whole : (q p : ℕ) (o : Outcome) (r : List Bool) → (q ≢ p) → Still q (UnmapWhole o p r)
 still_unmap_whole q p o r f = record { no_maps = λ i. refl; no_unmaps = λ i. apart q p f; no_alloc = refl; no_free = and_no _ _ (apart q p f); no_split = refl }
 
 -- an unmap of subpages of another page
-pub still_unmap_sub : (q p a m : ℕ) (o : Outcome) (r : List Bool) → (q ≢ p) → Still q (UnmapSub p a m o r)
+pub still_unmap_sub : (q p a m : ℕ) (o : Outcome) (r : List Bool) → (q ≢ p) → Still q (UnmapSub o p a m r)
 still_unmap_sub q p a m o r f = record { no_maps = λ i. refl; no_unmaps = λ i. and_no _ _ (apart q p f); no_alloc = refl; no_free = and_no _ _ (apart q p f); no_split = refl }
 
 -- an unpin of another page
-pub still_unpin : (q p : ℕ) (o : Outcome) (r : List Bool) → (q ≢ p) → Still q (Unpin p o r)
+pub still_unpin : (q p : ℕ) (o : Outcome) (r : List Bool) → (q ≢ p) → Still q (Unpin o p r)
 still_unpin q p o r f = record { no_maps = λ i. refl; no_unmaps = λ i. refl; no_alloc = refl; no_free = and_no _ _ (apart q p f); no_split = refl }
 
 -- a split of another page

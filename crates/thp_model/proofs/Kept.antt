@@ -125,7 +125,7 @@ kept_alloc shape h c p b t is m =
       new_live false false f b e g h = absurd (cc)
 
 -- an event that fits keeps the sum
-kept_step : (shape : Shape) (h : History) (c : ℕ) (w : What) → shape.order ≤ 9 → Sound h → Numbered h → FitsBy shape h (h ++ by c w ∷ []) c w →
+kept_step : (shape : Shape) (h : History) (c : ℕ) (w : What) → shape.order ≤ 9 → Sound shape h → Numbered h → FitsBy shape h (h ++ by c w ∷ []) c w →
     Balanced shape h → Balanced shape (h ++ by c w ∷ [])
 kept_step shape h c (Alloc p b) small s t f m = kept_alloc shape h c p b t f.number m
 kept_step shape h c (MapWhole p) small s t f m =
@@ -136,8 +136,8 @@ kept_step shape h c (MapWhole p) small s t f m =
       | inl y ↦ unsplit_same shape h e q i (let P : ℕ → Type 0 = λ x. is_split h x ≡ false in subst P (sym y.1) (allowed_map_whole shape h p f).1) refl refl refl
       | inr y ↦ held_still shape h e q i (record { no_maps = λ j. y.0; no_unmaps = λ j. refl; no_alloc = refl; no_free = refl; no_split = refl })
     ]) m
-kept_step shape h c (UnmapWhole p o r) small s t f m =
-    let e : Event = by c (UnmapWhole p o r) in
+kept_step shape h c (UnmapWhole o p r) small s t f m =
+    let e : Event = by c (UnmapWhole o p r) in
     release shape h e p r small (live_below h p t (allowed_unmap_whole shape h p f.0).0) refl refl f.1.set_is (λ i. held_falls shape h e p i (λ j. refl) refl refl)
     (λ q i a. held_still shape h e q i (still_unmap_whole q p o r a)) m
 kept_step shape h c (MapSub p a d) small s t f m =
@@ -148,24 +148,24 @@ kept_step shape h c (MapSub p a d) small s t f m =
       | inl y ↦ let P : ℕ → Type 0 = λ x. is_held shape (h ++ e ∷ []) x i ≡ is_held shape h x i in subst P (sym y.1) (kept_map_sub shape h c p a d i f)
       | inr y ↦ held_still shape h e q i (record { no_maps = λ j. and_no _ _ y.0; no_unmaps = λ j. refl; no_alloc = refl; no_free = refl; no_split = refl })
     ]) m
-kept_step shape h c (UnmapSub p a d o r) small s t f m =
-    let e : Event = by c (UnmapSub p a d o r) in
+kept_step shape h c (UnmapSub o p a d r) small s t f m =
+    let e : Event = by c (UnmapSub o p a d r) in
     release shape h e p r small (live_below h p t (allowed_unmap_sub shape h p a d f.0).0) refl refl f.1.set_is (λ i. held_falls shape h e p i (λ j. refl) refl refl)
     (λ q i y. held_still shape h e q i (still_unmap_sub q p a d o r y)) m
-kept_step shape h c (Unpin p o r) small s t f m =
-    let e : Event = by c (Unpin p o r) in
+kept_step shape h c (Unpin o p r) small s t f m =
+    let e : Event = by c (Unpin o p r) in
     release shape h e p r small (live_below h p t (allowed_unpin shape h p f.0).0) refl refl f.1.set_is (λ i. held_falls shape h e p i (λ j. refl) refl refl)
     (λ q i a. held_still shape h e q i (still_unpin q p o r a)) m
 kept_step shape h c (Split p r) small s t f m =
     let e : Event = by c (Split p r) in
-    let up : 0 < stand h p = omega (arith, flying-leaves p c (flights h) f.in_flight) in
+    let up : 0 < stand shape h p = omega (arith, flying-leaves p c (flights h) f.in_flight) in
     release shape h e p r small (live_below h p t (s.live p up)) refl refl f.set_is (λ i g. whole_held shape h p i (s.live p up) (s.whole_page p up) (and_both (nat_lt i (subpages shape)) _ g).0)
     (λ q i a. held_still shape h e q i (still_split q p r a)) m
 kept_step shape h c w small s t f m = quiet shape h (by c w) refl refl (λ q i. held_still shape h (by c w) q i (record { no_maps = λ j. refl; no_unmaps = λ j. refl; no_alloc = refl; no_free = refl; no_split = refl })) m
 
 -- what holds of each legal history on the way
 record All_of (shape : Shape) (h : History) : Type 0 where
-  sound : Sound h
+  sound : Sound shape h
   numbered : Numbered h
   balanced : Balanced shape h
 

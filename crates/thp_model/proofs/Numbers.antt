@@ -46,20 +46,20 @@ pub beyond : (h : History) (p q m : ℕ) → Numbered h → is_live h p ≡ true
 beyond h p q m t l e g = ne_eqb q p (λ z. let low : p < allocations h = live_below h p t l in omega (arith, z))
 
 -- an event that fits isn't about a page that is still to be allocated after it
-about_step : (shape : Shape) (h : History) (c : ℕ) (w : What) (q : ℕ) → Sound h → Numbered h → FitsBy shape h (h ++ by c w ∷ []) c w →
+about_step : (shape : Shape) (h : History) (c : ℕ) (w : What) (q : ℕ) → Sound shape h → Numbered h → FitsBy shape h (h ++ by c w ∷ []) c w →
     allocations (h ++ by c w ∷ []) ≤ q → is_about q w ≡ false
 about_step shape h c (Alloc p b) q s t f g =
     let more : allocations (h ++ by c (Alloc p b) ∷ []) ≡ allocations h + 1 = count_more is_alloc h _ refl in
     ne_eqb q p (λ z. omega (arith, z, f.number))
 about_step shape h c (MapWhole p) q s t f g = beyond h p q _ t (allowed_map_whole shape h p f).0 (count_same is_alloc h (by c (MapWhole p)) refl) g
-about_step shape h c (UnmapWhole p o r) q s t f g = beyond h p q _ t (allowed_unmap_whole shape h p f.0).0 (count_same is_alloc h (by c (UnmapWhole p o r)) refl) g
+about_step shape h c (UnmapWhole o p r) q s t f g = beyond h p q _ t (allowed_unmap_whole shape h p f.0).0 (count_same is_alloc h (by c (UnmapWhole o p r)) refl) g
 about_step shape h c (MapSub p a d) q s t f g = beyond h p q _ t (allowed_map_sub shape h p a d f).0 (count_same is_alloc h (by c (MapSub p a d)) refl) g
-about_step shape h c (UnmapSub p a d o r) q s t f g = beyond h p q _ t (allowed_unmap_sub shape h p a d f.0).0 (count_same is_alloc h (by c (UnmapSub p a d o r)) refl) g
+about_step shape h c (UnmapSub o p a d r) q s t f g = beyond h p q _ t (allowed_unmap_sub shape h p a d f.0).0 (count_same is_alloc h (by c (UnmapSub o p a d r)) refl) g
 about_step shape h c (SplitPmd p) q s t f g = beyond h p q _ t (allowed_split_pmd shape h p f).0 (count_same is_alloc h (by c (SplitPmd p)) refl) g
 about_step shape h c (Pin p) q s t f g = beyond h p q _ t (allowed_pin shape h p f).0 (count_same is_alloc h (by c (Pin p)) refl) g
-about_step shape h c (Unpin p o r) q s t f g = beyond h p q _ t (allowed_unpin shape h p f.0).0 (count_same is_alloc h (by c (Unpin p o r)) refl) g
+about_step shape h c (Unpin o p r) q s t f g = beyond h p q _ t (allowed_unpin shape h p f.0).0 (count_same is_alloc h (by c (Unpin o p r)) refl) g
 about_step shape h c (Split p r) q s t f g =
-    let up : 0 < stand h p = omega (arith, flying-leaves p c (flights h) f.in_flight) in
+    let up : 0 < stand shape h p = omega (arith, flying-leaves p c (flights h) f.in_flight) in
     beyond h p q _ t (s.live p up) (count_same is_alloc h (by c (Split p r)) refl) g
 about_step shape h c (Taken p) q s t f g = refl
 about_step shape h c (Pinned p) q s t f g = refl
@@ -82,7 +82,7 @@ fresh_push h e p u f = record {
 }
 
 -- one more event that fits keeps the numbers
-pub numbered_push : (shape : Shape) (h : History) (e : Event) → Sound h → Numbered h → Fits shape h e → Numbered (h ++ e ∷ [])
+pub numbered_push : (shape : Shape) (h : History) (e : Event) → Sound shape h → Numbered h → Fits shape h e → Numbered (h ++ e ∷ [])
 numbered_push shape h e s t f = record {
   fresh = λ q above.
       fresh_push h e q (untouched q e.what (about_step shape h e.caller e.what q s t f above))

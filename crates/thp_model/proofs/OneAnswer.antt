@@ -95,17 +95,17 @@ never m m' p p' e f g = omega arith
 pub one_answer : (shape : Shape) (h k : History) (c : ℕ) (v w : What) → SameButBlocks h k → asked v ≡ asked w →
     FitsBy shape h (h ++ by c v ∷ []) c v → FitsBy shape k (k ++ by c w ∷ []) c w → with_block 0 v ≡ with_block 0 w
 one_answer shape h k c (Alloc p b) (Alloc q d) s e f g = ap (λ x. Alloc x 0) (f.number ∙ (alike h k s).allocations ∙ sym g.number)
-one_answer shape h k c (UnmapWhole p o r) (UnmapWhole q u t) s e f g =
+one_answer shape h k c (UnmapWhole o p r) (UnmapWhole u q t) s e f g =
     let same : p ≡ q = cc in
-    let one : (o ≡ u) × (r ≡ t) = gives_one shape h k (by c (UnmapWhole p o r)) (by c (UnmapWhole q u t)) s p
+    let one : (o ≡ u) × (r ≡ t) = gives_one shape h k (by c (UnmapWhole o p r)) (by c (UnmapWhole u q t)) s p
     (record { maps_both = λ i. refl; unmaps_both = λ i. ap (λ x. nat_eq p x) same; pin = refl; unpin = refl }) q o u r t same refl refl (λ y. cc) f.1 g.1 in cc
-one_answer shape h k c (UnmapSub p a m o r) (UnmapSub q b l u t) s e f g =
+one_answer shape h k c (UnmapSub o p a m r) (UnmapSub u q b l t) s e f g =
     let same : p ≡ q = cc in
-    let one : (o ≡ u) × (r ≡ t) = gives_one shape h k (by c (UnmapSub p a m o r)) (by c (UnmapSub q b l u t)) s p
+    let one : (o ≡ u) × (r ≡ t) = gives_one shape h k (by c (UnmapSub o p a m r)) (by c (UnmapSub u q b l t)) s p
     (record { maps_both = λ i. refl; unmaps_both = λ i. cc; pin = refl; unpin = refl }) q o u r t same refl refl (λ y. cc) f.1 g.1 in cc
-one_answer shape h k c (Unpin p o r) (Unpin q u t) s e f g =
+one_answer shape h k c (Unpin o p r) (Unpin u q t) s e f g =
     let same : p ≡ q = cc in
-    let one : (o ≡ u) × (r ≡ t) = gives_one shape h k (by c (Unpin p o r)) (by c (Unpin q u t)) s p
+    let one : (o ≡ u) × (r ≡ t) = gives_one shape h k (by c (Unpin o p r)) (by c (Unpin u q t)) s p
     (record { maps_both = λ i. refl; unmaps_both = λ i. refl; pin = refl; unpin = ap (λ x. nat_eq p x) same }) q o u r t same refl refl (λ y. cc) f.1 g.1 in cc
 one_answer shape h k c (Taken p) (Taken q) s e f g = ap (λ x. Taken x) (first_one _ _ p q (alike h k s).queue f.oldest g.oldest)
 one_answer shape h k c (Split p r) (Split q t) s e f g =

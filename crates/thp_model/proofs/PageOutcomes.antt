@@ -32,9 +32,9 @@ loses_is shape h k p old new a b =
 
 -- the outcome of what makes of h the history k
 pub outcome_is : (shape : Shape) (h k : History) (p : ℕ) (old new : PageState) → Tallies shape h p old → Tallies shape k p new →
-    outcome shape h k p ≡ page_outcome old new (is_closed h) (stands h p)
+    outcome shape h k p ≡ page_outcome old new (is_closed h) (stands shape h p)
 outcome_is shape h k p old new a b =
-    parts _ _ _ _ _ _ _ _ (is_closed h) (stands h p) (mapped_is shape k p new b) (pins_is shape k p new b) (sym a.split) (loses_is shape h k p old new a b) where
+    parts _ _ _ _ _ _ _ _ (is_closed h) (stands shape h p) (mapped_is shape k p new b) (pins_is shape k p new b) (sym a.split) (loses_is shape h k p old new a b) where
       parts : (y y' : Bool) (n n' : ℕ) (s s' x x' c t : Bool) → y ≡ y' → n ≡ n' → s ≡ s' → x ≡ x' →
           cond (not y && nat_eq n 0) Freed (cond (not s && (x && (y && (not c && not t)))) Queued Stays)
           ≡ cond (not y' && nat_eq n' 0) Freed (cond (not s' && (x' && (y' && (not c && not t)))) Queued Stays)
@@ -101,7 +101,7 @@ lives_by h e p o l a f = lives_on h e p l a ∙ ap not (f ∙ ap (λ b. b && is_
 
 -- the outcome and the frames that an event must name
 pub gives_is : (shape : Shape) (h k : History) (p : ℕ) (o : Outcome) (old new : PageState) → Tallies shape h p old → Tallies shape k p new → is_live h p ≡ true →
-    is_live k p ≡ not (is_freed o) → o ≡ page_outcome old new (is_closed h) (stands h p) → Gives shape h k p o (page_released old new o)
+    is_live k p ≡ not (is_freed o) → o ≡ page_outcome old new (is_closed h) (stands shape h p) → Gives shape h k p o (page_released old new o)
 gives_is shape h k p o old new a b l after e = record {
   outcome_is = e ∙ sym (outcome_is shape h k p old new a b);
   set_is = sym (released_is shape h k p o old new a b l after);

@@ -26,9 +26,9 @@ some_event_push test h e =
     list_any-append (λ (x : Event). test x.what) h (e ∷ []) ∙ ap (λ b. some_event test h || b) (or-false (test e.what))
 
 -- the queue
-pub queue_push : (h : History) (e : Event) → queue (h ++ e ∷ []) ≡ queue_after (queue h) e.what
+pub queue_push : (h : History) (e : Event) → queue shape (h ++ e ∷ []) ≡ queue_after shape (queue shape h) e.what
 unfolding queue
-queue_push h e = fold_push (λ ps (x : Event). queue_after ps x.what) [] h e
+queue_push shape h e = fold_push (λ ps (x : Event). queue_after shape ps x.what) [] h e
 
 -- the flights
 pub flights_push : (h : History) (e : Event) → flights (h ++ e ∷ []) ≡ flights_after (flights h) e.caller e.what

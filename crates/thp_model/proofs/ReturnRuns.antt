@@ -31,7 +31,7 @@ return_fits shape h c p false y f = (f, y)
 -- the pages ps were returned, and qs are left in the flight
 pub record Returned (shape : Shape) (h k : History) (c : ℕ) (closed : Bool) (ps qs : List ℕ) : Type 0 where
   pub legal : IsLegal shape k
-  pub queue_is : queue k ≡ cond closed (queue h) (queue h ++ ps)
+  pub queue_is : queue shape k ≡ cond closed (queue shape h) (queue shape h ++ ps)
   pub left : flight k c ≡ qs
   pub closed_is : is_closed k ≡ closed
 
@@ -46,9 +46,9 @@ return_flight h c p true = flight_push h c c (Dropped p) ∙ ap (λ b. cond b (w
 return_flight h c p false = flight_push h c c (Back p) ∙ ap (λ b. cond b (without p (flight h c)) (flight h c)) (eq-eqb c c refl)
 
 -- the queue after a return
-return_queue : (h : History) (c p : ℕ) (b : Bool) → queue (h ++ return_as b c p ∷ []) ≡ cond b (queue h) (queue h ++ p ∷ [])
-return_queue h c p true = queue_push h (by c (Dropped p))
-return_queue h c p false = queue_push h (by c (Back p))
+return_queue : (h : History) (c p : ℕ) (b : Bool) → queue shape (h ++ return_as b c p ∷ []) ≡ cond b (queue shape h) (queue shape h ++ p ∷ [])
+return_queue h c p true = queue_push shape h (by c (Dropped p))
+return_queue h c p false = queue_push shape h (by c (Back p))
 
 -- the front of a flight can be returned page by page
 pub return_run : (shape : Shape) (h : History) (c : ℕ) (b : Bool) (ps qs : List ℕ) → IsLegal shape h → is_closed h ≡ b → flight h c ≡ ps ++ qs →
@@ -56,9 +56,9 @@ pub return_run : (shape : Shape) (h : History) (c : ℕ) (b : Bool) (ps qs : Lis
 return_run shape h c b [] qs l o f =
     let P : History → Type 0 = λ x. Returned shape h x c b [] qs in
     subst P (sym (append_none h)) (record { legal = l; queue_is = same b; left = f; closed_is = o }) where
-      same : (b : Bool) → queue h ≡ cond b (queue h) (queue h ++ [])
+      same : (b : Bool) → queue shape h ≡ cond b (queue shape h) (queue shape h ++ [])
       same true = refl
-      same false = sym (append_none (queue h))
+      same false = sym (append_none (queue shape h))
 return_run shape h c b (p ∷ ps) qs l o f =
     let e : Event = return_as b c p in
     let k : History = h ++ e ∷ [] in
@@ -70,14 +70,14 @@ return_run shape h c b (p ∷ ps) qs l o f =
     let P : History → Type 0 = λ x. Returned shape h x c b (p ∷ ps) qs in
     subst P (append_assoc h (e ∷ []) (map (return_as b c) ps))
     (record { legal = r.legal; queue_is = r.queue_is ∙ join b (return_queue h c p b); left = r.left; closed_is = r.closed_is }) where
-      join : (b : Bool) → queue (h ++ return_as b c p ∷ []) ≡ cond b (queue h) (queue h ++ p ∷ []) →
-          cond b (queue (h ++ return_as b c p ∷ [])) (queue (h ++ return_as b c p ∷ []) ++ ps) ≡ cond b (queue h) (queue h ++ p ∷ ps)
+      join : (b : Bool) → queue shape (h ++ return_as b c p ∷ []) ≡ cond b (queue shape h) (queue shape h ++ p ∷ []) →
+          cond b (queue shape (h ++ return_as b c p ∷ [])) (queue shape (h ++ return_as b c p ∷ []) ++ ps) ≡ cond b (queue shape h) (queue shape h ++ p ∷ ps)
       join true e = e
-      join false e = ap (λ x. x ++ ps) e ∙ append_assoc (queue h) (p ∷ []) ps
+      join false e = ap (λ x. x ++ ps) e ∙ append_assoc (queue shape h) (p ∷ []) ps
 
 -- the same by the events' own definition
 pub returns_run : (shape : Shape) (h : History) (c : ℕ) (ps qs : List ℕ) → IsLegal shape h → flight h c ≡ ps ++ qs →
-    Returned shape h (h ++ map (return_event h c) ps) c (is_closed h) ps qs
+    Returned shape h (h ++ map (return_event shape h c) ps) c (is_closed h) ps qs
 returns_run shape h c ps qs l f = return_run shape h c (is_closed h) ps qs l refl f
 
 -- what is put back of a batch so far, and what is left of it
@@ -87,14 +87,14 @@ still_flying-split h c i ps =
 
 -- a batch whose pages still in flight are the flight's front can be put back page by page: here its first i pages were
 pub put_back_run : (shape : Shape) (h : History) (c i : ℕ) (ps qs : List ℕ) → IsLegal shape h → flight h c ≡ still_flying h c ps ++ qs →
-    Returned shape h (h ++ put_back_events h c (take i ps)) c (is_closed h) (still_flying h c (take i ps)) (still_flying h c (drop i ps) ++ qs)
+    Returned shape h (h ++ put_back_events shape h c (take i ps)) c (is_closed h) (still_flying h c (take i ps)) (still_flying h c (drop i ps) ++ qs)
 put_back_run shape h c i ps qs l f =
     returns_run shape h c (still_flying h c (take i ps)) (still_flying h c (drop i ps) ++ qs) l
     (f ∙ ap (λ x. x ++ qs) (still_flying-split h c i ps) ∙ append_assoc (still_flying h c (take i ps)) (still_flying h c (drop i ps)) qs)
 
 -- a whole batch put back
 pub put_back_all : (shape : Shape) (h : History) (c : ℕ) (ps qs : List ℕ) → IsLegal shape h → flight h c ≡ still_flying h c ps ++ qs →
-    Returned shape h (h ++ put_back_events h c ps) c (is_closed h) (still_flying h c ps) qs
+    Returned shape h (h ++ put_back_events shape h c ps) c (is_closed h) (still_flying h c ps) qs
 put_back_all shape h c ps qs l f = returns_run shape h c (still_flying h c ps) qs l f
 
 -- a page behind a front

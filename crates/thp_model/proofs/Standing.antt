@@ -136,13 +136,13 @@ times-drop p q (x ∷ qs) e = let same : x ≡ p = cc in rw (times-cons q x qs, 
 
 -- how often a page stands
 abbrev pub stand : History → ℕ → ℕ
-stand h p = times p (queue h) + flying p (flights h)
+stand shape h p = times p (queue shape h) + flying p (flights h)
 
 -- no page stands twice, and each that stands is live and not split
-pub record Sound (h : History) : Type 0 where
-  pub once : (p : ℕ) → stand h p ≤ 1
-  pub live : (p : ℕ) → 0 < stand h p → is_live h p ≡ true
-  pub whole_page : (p : ℕ) → 0 < stand h p → is_split h p ≡ false
+pub record Sound shape (h : History) : Type 0 where
+  pub once : (p : ℕ) → stand shape h p ≤ 1
+  pub live : (p : ℕ) → 0 < stand shape h p → is_live h p ≡ true
+  pub whole_page : (p : ℕ) → 0 < stand shape h p → is_split h p ≡ false
 
 -- a page of some flight
 pub any-pages : (p : ℕ) (fs : List (ℕ × ℕ)) → has_page p (pages fs) ≡ list_any (λ (f : ℕ × ℕ). nat_eq f.1 p) fs
@@ -150,12 +150,12 @@ any-pages p [] = refl
 any-pages p (f ∷ fs) = ap (λ b. nat_eq f.1 p || b) (any-pages p fs)
 
 -- a page that stands nowhere is counted nowhere
-pub stands_not : (h : History) (p : ℕ) → has_page p (queue h ++ pages (flights h)) ≡ false → stand h p ≡ 0
+pub stands_not : (h : History) (p : ℕ) → has_page p (queue shape h ++ pages (flights h)) ≡ false → stand shape h p ≡ 0
 unfolding times flying
 stands_not h p e =
-    let split : (has_page p (queue h) || has_page p (pages (flights h))) ≡ false = sym (list_any-append (λ q. nat_eq q p) (queue h) (pages (flights h))) ∙ e in
-    let apart : (has_page p (queue h) ≡ false) × (has_page p (pages (flights h)) ≡ false) = or_none _ _ split in
-    omega (arith, (count_any (λ q. nat_eq q p) (queue h)).0 apart.0, (count_any (λ (f : ℕ × ℕ). nat_eq f.1 p) (flights h)).0 (sym (any-pages p (flights h)) ∙ apart.1))
+    let split : (has_page p (queue shape h) || has_page p (pages (flights h))) ≡ false = sym (list_any-append (λ q. nat_eq q p) (queue shape h) (pages (flights h))) ∙ e in
+    let apart : (has_page p (queue shape h) ≡ false) × (has_page p (pages (flights h)) ≡ false) = or_none _ _ split in
+    omega (arith, (count_any (λ q. nat_eq q p) (queue shape h)).0 apart.0, (count_any (λ (f : ℕ × ℕ). nat_eq f.1 p) (flights h)).0 (sym (any-pages p (flights h)) ∙ apart.1))
 
 -- a page lives on through an event that doesn't free it
 pub live_push : (h : History) (e : Event) (p : ℕ) → is_live h p ≡ true → frees p e.what ≡ false → is_live (h ++ e ∷ []) p ≡ true
@@ -180,7 +180,7 @@ record Next (h : History) (q n : ℕ) (freed parted : Bool) : Type 0 where
   good : 0 < n → (is_live h q ≡ true) × (is_split h q ≡ false) × (freed ≡ false) × (parted ≡ false)
 
 -- a page that stands no more often than before
-less : (h : History) (q n : ℕ) (a b : Bool) → Sound h → n ≤ stand h q → a ≡ false → b ≡ false → Next h q n a b
+less : (h : History) (q n : ℕ) (a b : Bool) → Sound shape h → n ≤ stand shape h q → a ≡ false → b ≡ false → Next h q n a b
 less h q n a b s le f g = record { few = omega (arith, s.once q); good = λ up. (s.live q (omega arith), s.whole_page q (omega arith), f, g) }
 
 -- a page that stands nowhere any more
@@ -188,13 +188,13 @@ gone : (h : History) (q n : ℕ) (a b : Bool) → n ≡ 0 → Next h q n a b
 gone h q n a b e = record { few = omega arith; good = λ up. absurd (omega arith) }
 
 -- a page that joined, and stood nowhere
-entered : (h : History) (p q n : ℕ) (a b : Bool) → Sound h → is_live h p ≡ true → is_split h p ≡ false → stand h p ≡ 0 →
-    n ≡ stand h q + cond (nat_eq p q) 1 0 → a ≡ false → b ≡ false → Next h q n a b
+entered : (h : History) (p q n : ℕ) (a b : Bool) → Sound shape h → is_live h p ≡ true → is_split h p ≡ false → stand shape h p ≡ 0 →
+    n ≡ stand shape h q + cond (nat_eq p q) 1 0 → a ≡ false → b ≡ false → Next h q n a b
 entered h p q n a b s l w none e f g =
     elim (eqb_tells p q) [
       | inl y ↦
           let one : cond {A = ℕ} (nat_eq p q) 1 0 ≡ 1 = one_if (nat_eq p q) y.0 in
-          let here : stand h q ≡ 0 = ap (stand h) (sym y.1) ∙ none in
+          let here : stand shape h q ≡ 0 = ap (stand shape h) (sym y.1) ∙ none in
           record { few = omega arith; good = λ up. (ap (is_live h) (sym y.1) ∙ l, ap (is_split h) (sym y.1) ∙ w, f, g) }
       | inr y ↦
           let none : cond {A = ℕ} (nat_eq p q) 1 0 ≡ 0 = none_if (nat_eq p q) y.0 in
@@ -206,7 +206,7 @@ flip : (p q : ℕ) → nat_eq p q ≡ nat_eq q p
 flip p q = elim (eqb_tells p q) [ inl y ↦ y.0 ∙ sym (eq-eqb q p (sym y.1)) | inr y ↦ y.0 ∙ sym (ne_eqb q p (λ e. y.1 (sym e))) ]
 
 -- a page that is p, or isn't
-unless_same : (h : History) (p q n : ℕ) (a b : Bool) → Sound h → n ≤ stand h q → (q ≡ p → n ≡ 0) →
+unless_same : (h : History) (p q n : ℕ) (a b : Bool) → Sound shape h → n ≤ stand shape h q → (q ≡ p → n ≡ 0) →
     (nat_eq q p ≡ false → (a ≡ false) × (b ≡ false)) → Next h q n a b
 unless_same h p q n a b s le f g =
     elim (eqb_tells q p) [ inl y ↦ gone h q n a b (f y.1) | inr y ↦ less h q n a b s le (g y.0).0 (g y.0).1 ]
@@ -217,21 +217,21 @@ at q p f e y = ap f y ∙ e
 
 -- a page is queued only where it isn't split, stands nowhere, the node is open and some subpage is in use
 pub outcome_queued : (shape : Shape) (h k : History) (p : ℕ) → Queued ≡ outcome shape h k p →
-    (is_split h p ≡ false) × (stands h p ≡ false) × (is_closed h ≡ false) × (some_below (subpages shape) (λ i. nat_lt 0 (total k p i)) ≡ true)
+    (is_split h p ≡ false) × (stands shape h p ≡ false) × (is_closed h ≡ false) × (some_below (subpages shape) (λ i. nat_lt 0 (total k p i)) ≡ true)
 outcome_queued shape h k p e =
     queued_is (not (some_below (subpages shape) (λ i. nat_lt 0 (total k p i))) && nat_eq (pins k p) 0) (is_split h p)
-    (some_below (subpages shape) (λ i. nat_lt 0 (total h p i) && nat_eq (total k p i) 0)) (some_below (subpages shape) (λ i. nat_lt 0 (total k p i))) (is_closed h) (stands h p) e
+    (some_below (subpages shape) (λ i. nat_lt 0 (total h p i) && nat_eq (total k p i) 0)) (some_below (subpages shape) (λ i. nat_lt 0 (total k p i))) (is_closed h) (stands shape h p) e
 
 -- an outcome of a live page keeps this
-by_outcome : (shape : Shape) (h k : History) (p q : ℕ) (o : Outcome) → Sound h → is_live h p ≡ true → o ≡ outcome shape h k p →
-    Next h q (times q (queue_by (queue h) p o) + flying q (flights_by (flights h) p o)) (nat_eq q p && is_freed o) false
+by_outcome : (shape : Shape) (h k : History) (p q : ℕ) (o : Outcome) → Sound shape h → is_live h p ≡ true → o ≡ outcome shape h k p →
+    Next h q (times q (queue_by (queue shape h) p o) + flying q (flights_by (flights h) p o)) (nat_eq q p && is_freed o) false
 by_outcome shape h k p q Stays s l e = less h q _ _ _ s (omega arith) (and-false (nat_eq q p)) refl
 by_outcome shape h k p q Queued s l e =
-    let why : (is_split h p ≡ false) × (stands h p ≡ false) × (is_closed h ≡ false) × (some_below (subpages shape) (λ i. nat_lt 0 (total k p i)) ≡ true) = outcome_queued shape h k p e in
-    entered h p q _ _ _ s l why.0 (stands_not h p why.1) (omega (arith, times_push q p (queue h))) (and-false (nat_eq q p)) refl
+    let why : (is_split h p ≡ false) × (stands shape h p ≡ false) × (is_closed h ≡ false) × (some_below (subpages shape) (λ i. nat_lt 0 (total k p i)) ≡ true) = outcome_queued shape h k p e in
+    entered h p q _ _ _ s l why.0 (stands_not h p why.1) (omega (arith, times_push q p (queue shape h))) (and-false (nat_eq q p)) refl
 by_outcome shape h k p q Freed s l e =
-    unless_same h p q _ _ _ s (omega (arith, times-filter (λ x. not (nat_eq x p)) q (queue h), flying-filter (λ (f : ℕ × ℕ). not (nat_eq f.1 p)) q (flights h)))
-    (λ y. at q p (λ x. times x (without p (queue h)) + flying x (filter (λ (f : ℕ × ℕ). not (nat_eq f.1 p)) (flights h))) (omega (arith, times-without p (queue h), flying-without p (flights h))) y)
+    unless_same h p q _ _ _ s (omega (arith, times-filter (λ x. not (nat_eq x p)) q (queue shape h), flying-filter (λ (f : ℕ × ℕ). not (nat_eq f.1 p)) q (flights h)))
+    (λ y. at q p (λ x. times x (without p (queue shape h)) + flying x (filter (λ (f : ℕ × ℕ). not (nat_eq f.1 p)) (flights h))) (omega (arith, times-without p (queue shape h), flying-without p (flights h))) y)
     (λ y. (ap (λ b. b && true) y, refl))
 
 -- a page that leaves the flight of c makes room for one entry
@@ -250,28 +250,28 @@ moves p q c fs h =
     ]
 
 -- an event that fits keeps this
-step : (shape : Shape) (h k : History) (c : ℕ) (w : What) (q : ℕ) → Sound h → FitsBy shape h k c w →
-    Next h q (times q (queue_after (queue h) w) + flying q (flights_after (flights h) c w)) (frees q w) (splits q w)
-step shape h k c (UnmapWhole p o r) q s f = by_outcome shape h k p q o s (allowed_unmap_whole shape h p f.0).0 f.1.outcome_is
-step shape h k c (UnmapSub p a m o r) q s f = by_outcome shape h k p q o s (allowed_unmap_sub shape h p a m f.0).0 f.1.outcome_is
-step shape h k c (Unpin p o r) q s f = by_outcome shape h k p q o s (allowed_unpin shape h p f.0).0 f.1.outcome_is
+step : (shape : Shape) (h k : History) (c : ℕ) (w : What) (q : ℕ) → Sound shape h → FitsBy shape h k c w →
+    Next h q (times q (queue_after shape (queue shape h) w) + flying q (flights_after (flights h) c w)) (frees q w) (splits q w)
+step shape h k c (UnmapWhole o p r) q s f = by_outcome shape h k p q o s (allowed_unmap_whole shape h p f.0).0 f.1.outcome_is
+step shape h k c (UnmapSub o p a m r) q s f = by_outcome shape h k p q o s (allowed_unmap_sub shape h p a m f.0).0 f.1.outcome_is
+step shape h k c (Unpin o p r) q s f = by_outcome shape h k p q o s (allowed_unpin shape h p f.0).0 f.1.outcome_is
 step shape h k c (Taken p) q s f =
-    less h q _ _ _ s (omega (arith, times-drop p q (queue h) f.oldest, flying_push q p c (flights h))) refl refl
+    less h q _ _ _ s (omega (arith, times-drop p q (queue shape h) f.oldest, flying_push q p c (flights h))) refl refl
 step shape h k c (Split p r) q s f =
     unless_same h p q _ _ _ s (omega (arith, flying-filter (λ (x : ℕ × ℕ). not (nat_eq x.0 c && nat_eq x.1 p)) q (flights h)))
-    (λ y. at q p (λ x. times x (queue h) + flying x (leaves c p (flights h))) (omega (arith, flying-leaves p c (flights h) f.in_flight, s.once p)) y)
+    (λ y. at q p (λ x. times x (queue shape h) + flying x (leaves c p (flights h))) (omega (arith, flying-leaves p c (flights h) f.in_flight, s.once p)) y)
     (λ y. (refl, y))
 step shape h k c (Back p) q s f =
-    less h q _ _ _ s (omega (arith, times_push q p (queue h), moves p q c (flights h) (first_has p (flight h c) f.0))) refl refl
+    less h q _ _ _ s (omega (arith, times_push q p (queue shape h), moves p q c (flights h) (first_has p (flight h c) f.0))) refl refl
 step shape h k c (Dropped p) q s f =
     less h q _ _ _ s (omega (arith, flying-filter (λ (x : ℕ × ℕ). not (nat_eq x.0 c && nat_eq x.1 p)) q (flights h))) refl refl
 step shape h k c w q s f = less h q _ _ _ s (omega arith) refl refl
 
 -- one more event that fits
-pub sound_push : (shape : Shape) (h : History) (e : Event) → Sound h → Fits shape h e → Sound (h ++ e ∷ [])
+pub sound_push : (shape : Shape) (h : History) (e : Event) → Sound shape h → Fits shape h e → Sound shape (h ++ e ∷ [])
 sound_push shape h e s f =
-    let stands_as : (q : ℕ) → stand (h ++ e ∷ []) q ≡ times q (queue_after (queue h) e.what) + flying q (flights_after (flights h) e.caller e.what) =
-    λ q. ap (λ ps. times q ps + flying q (flights (h ++ e ∷ []))) (queue_push h e) ∙ ap (λ fs. times q (queue_after (queue h) e.what) + flying q fs) (flights_push h e) in
+    let stands_as : (q : ℕ) → stand shape (h ++ e ∷ []) q ≡ times q (queue_after shape (queue shape h) e.what) + flying q (flights_after (flights h) e.caller e.what) =
+    λ q. ap (λ ps. times q ps + flying q (flights (h ++ e ∷ []))) (queue_push shape h e) ∙ ap (λ fs. times q (queue_after shape (queue shape h) e.what) + flying q fs) (flights_push h e) in
     let next = λ (q : ℕ). step shape h (h ++ e ∷ []) e.caller e.what q s f in
     record {
       once = λ q. rw (stands_as q) (next q).few;
@@ -285,8 +285,8 @@ unfolding times flying queue flights
 sound_none = record { once = λ p. omega arith; live = λ p up. absurd (omega arith); whole_page = λ p up. absurd (omega arith) }
 
 -- so it holds of every legal history
-pub legal_sound : (shape : Shape) (h : History) → IsLegal shape h → Sound h
-legal_sound shape h l = legal_all shape Sound sound_none (sound_push shape) h l
+pub legal_sound : (shape : Shape) (h : History) → IsLegal shape h → Sound shape h
+legal_sound shape h l = legal_all shape Sound shape sound_none (sound_push shape) h l
 
 -- the pages of the flights, counted as a list
 flying_as : (p : ℕ) (fs : List (ℕ × ℕ)) → times p (pages fs) ≡ flying p fs
@@ -295,7 +295,7 @@ flying_as p [] = refl
 flying_as p (f ∷ fs) = times-cons p f.1 (pages fs) ∙ ap (λ n. cond (nat_eq f.1 p) 1 0 + n) (flying_as p fs) ∙ sym (flying-cons p f.0 f.1 fs)
 
 -- in a legal history no page stands twice
-pub once_of_legal : (shape : Shape) (h : History) → IsLegal shape h → (p : ℕ) → count_by (λ q. nat_eq q p) (standing h) ≤ 1
+pub once_of_legal : (shape : Shape) (h : History) → IsLegal shape h → (p : ℕ) → count_by (λ q. nat_eq q p) (standing shape h) ≤ 1
 unfolding times
 once_of_legal shape h l p =
-    omega (arith, (legal_sound shape h l).once p, flying_as p (flights h), sum_by-append (λ q. cond (nat_eq q p) 1 0) (queue h) (pages (flights h)))
+    omega (arith, (legal_sound shape h l).once p, flying_as p (flights h), sum_by-append (λ q. cond (nat_eq q p) 1 0) (queue shape h) (pages (flights h)))

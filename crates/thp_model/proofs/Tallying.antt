@@ -93,9 +93,9 @@ tallies_map_whole shape h c p old new t s w =
 
 -- one mapping of the whole page less
 pub tallies_unmap_whole : (shape : Shape) (h : History) (c p : ℕ) (o : Outcome) (r : List Bool) (old new : PageState) → Tallies shape h p old → WholeMapped new old →
-    Tallies shape (h ++ by c (UnmapWhole p o r) ∷ []) p new
+    Tallies shape (h ++ by c (UnmapWhole o p r) ∷ []) p new
 tallies_unmap_whole shape h c p o r old new t w =
-    let e : Event = by c (UnmapWhole p o r) in
+    let e : Event = by c (UnmapWhole o p r) in
     record {
       order = sym w.order ∙ t.order;
       totals = λ i below. omega (arith, count_same (maps p i) h e refl, count_more (unmaps p i) h e (eq-eqb p p refl), t.totals i below, w.whole, w.own i (omega (arith, in_size shape h p old t i below, same_size old new w.order)));
@@ -122,9 +122,9 @@ tallies_map_sub shape h c p first count old new t u =
 
 -- one mapping of each subpage of a range less
 pub tallies_unmap_sub : (shape : Shape) (h : History) (c p first count : ℕ) (o : Outcome) (r : List Bool) (old new : PageState) → Tallies shape h p old → RangeMapped first count new old →
-    Tallies shape (h ++ by c (UnmapSub p first count o r) ∷ []) p new
+    Tallies shape (h ++ by c (UnmapSub o p first count r) ∷ []) p new
 tallies_unmap_sub shape h c p first count o r old new t u =
-    let e : Event = by c (UnmapSub p first count o r) in
+    let e : Event = by c (UnmapSub o p first count r) in
     record {
       order = sym u.order ∙ t.order;
       totals = λ i below.
@@ -164,9 +164,9 @@ tallies_pin shape h c p old new t w =
 
 -- one pin less
 pub tallies_unpin : (shape : Shape) (h : History) (c p : ℕ) (o : Outcome) (r : List Bool) (old new : PageState) → Tallies shape h p old → Pinned new old →
-    Tallies shape (h ++ by c (Unpin p o r) ∷ []) p new
+    Tallies shape (h ++ by c (Unpin o p r) ∷ []) p new
 tallies_unpin shape h c p o r old new t w =
-    let e : Event = by c (Unpin p o r) in
+    let e : Event = by c (Unpin o p r) in
     record {
       order = sym w.order ∙ t.order;
       totals = λ i below. omega (arith, count_same (maps p i) h e refl, count_same (unmaps p i) h e refl, t.totals i below, w.whole, w.own i (omega (arith, in_size shape h p old t i below, same_size old new w.order)));

@@ -68,7 +68,7 @@ try_kept shape h e c p u =
     ap₂ (λ n s. by c (cond (nat_eq n 0) (Split p s) (Pinned p))) pinned set
 
 -- and whether it is pinned
-pub pinned_kept : (h : History) (e : Event) (p : ℕ) → Untouched p e.what → is_pinned (h ++ e ∷ []) p ≡ is_pinned h p
+pub pinned_kept : (h : History) (e : Event) (p : ℕ) → Untouched p e.what → is_pinned shape (h ++ e ∷ []) p ≡ is_pinned shape h p
 pinned_kept h e p u = ap₂ (λ a b. nat_lt 0 (a - b)) (count_same (pins_page p) h e u.no_pin) (count_same (unpins_page p) h e u.no_unpin)
 
 -- a try is about its page alone
@@ -86,19 +86,19 @@ try_closes shape h c p = go (nat_eq (pins h p) 0) where
   go false = refl
 
 -- a try leaves the queue
-try_queue : (shape : Shape) (h k : History) (c p : ℕ) → queue (k ++ try_event shape h c p ∷ []) ≡ queue k
+try_queue : (shape : Shape) (h k : History) (c p : ℕ) → queue shape (k ++ try_event shape h c p ∷ []) ≡ queue shape k
 try_queue shape h k c p = go (nat_eq (pins h p) 0) where
-  go : (b : Bool) → queue (k ++ by c (cond b (Split p (unused shape h p)) (Pinned p)) ∷ []) ≡ queue k
-  go true = queue_push k (by c (Split p (unused shape h p)))
-  go false = queue_push k (by c (Pinned p))
+  go : (b : Bool) → queue shape (k ++ by c (cond b (Split p (unused shape h p)) (Pinned p)) ∷ []) ≡ queue shape k
+  go true = queue_push shape k (by c (Split p (unused shape h p)))
+  go false = queue_push shape k (by c (Pinned p))
 
 -- a page without pins isn't pinned
 none_pinned : (n : ℕ) → nat_eq n 0 ≡ not (nat_lt 0 n)
 none_pinned n = grind (arith, nat_tests)
 
 -- after a try its page is left in the flight where it is pinned
-pub try_flight : (shape : Shape) (h : History) (c p : ℕ) → flight (h ++ try_event shape h c p ∷ []) c ≡ cond (is_pinned h p) (flight h c) (without p (flight h c))
-try_flight shape h c p = go (nat_eq (pins h p) 0) (is_pinned h p) (none_pinned (pins h p)) where
+pub try_flight : (shape : Shape) (h : History) (c p : ℕ) → flight (h ++ try_event shape h c p ∷ []) c ≡ cond (is_pinned shape h p) (flight h c) (without p (flight h c))
+try_flight shape h c p = go (nat_eq (pins h p) 0) (is_pinned shape h p) (none_pinned (pins h p)) where
   go : (b d : Bool) → b ≡ not d → flight (h ++ by c (cond b (Split p (unused shape h p)) (Pinned p)) ∷ []) c ≡ cond d (flight h c) (without p (flight h c))
   go true false e = flight_push h c c (Split p (unused shape h p)) ∙ ap (λ b. cond b (without p (flight h c)) (flight h c)) (eq-eqb c c refl)
   go false true e = flight_push h c c (Pinned p)
@@ -108,11 +108,11 @@ try_flight shape h c p = go (nat_eq (pins h p) 0) (is_pinned h p) (none_pinned (
 -- the pages ps of a flight were tried: those that are pinned are left, and qs behind them
 pub record Tried (shape : Shape) (h k : History) (c : ℕ) (fs ps qs : List ℕ) : Type 0 where
   pub legal : IsLegal shape k
-  pub queue_same : queue k ≡ queue h
-  pub left : flight k c ≡ fs ++ (filter (is_pinned h) ps ++ qs)
+  pub queue_same : queue shape k ≡ queue shape h
+  pub left : flight k c ≡ fs ++ (filter (is_pinned shape h) ps ++ qs)
   pub closed_same : is_closed k ≡ is_closed h
   pub others : (q : ℕ) → has_page q ps ≡ false → try_event shape k c q ≡ try_event shape h c q
-  pub others_pinned : (q : ℕ) → has_page q ps ≡ false → is_pinned k q ≡ is_pinned h q
+  pub others_pinned : (q : ℕ) → has_page q ps ≡ false → is_pinned shape k q ≡ is_pinned shape h q
 
 -- a page that stands once behind a front isn't behind itself
 later_apart : (p q : ℕ) (fs ps qs : List ℕ) → times p (fs ++ p ∷ (ps ++ qs)) ≤ 1 → has_page q ps ≡ true → nat_eq q p ≡ false
@@ -135,7 +135,7 @@ in_middle p (x ∷ fs) ps = ap (λ b. nat_eq x p || b) (in_middle p fs ps) ∙ o
 
 -- the pages of a flight behind a front can be tried one by one, as they would be at once
 tries_from : (shape : Shape) (h k : History) (c : ℕ) (fs ps qs : List ℕ) → IsLegal shape k → flight k c ≡ fs ++ (ps ++ qs) →
-    ((q : ℕ) → has_page q ps ≡ true → try_event shape k c q ≡ try_event shape h c q) → ((q : ℕ) → has_page q ps ≡ true → is_pinned k q ≡ is_pinned h q) →
+    ((q : ℕ) → has_page q ps ≡ true → try_event shape k c q ≡ try_event shape h c q) → ((q : ℕ) → has_page q ps ≡ true → is_pinned shape k q ≡ is_pinned shape h q) →
     Tried shape k (k ++ map (try_event shape h c) ps) c fs ps qs
 tries_from shape h k c fs [] qs l f same pinned =
     let P : History → Type 0 = λ x. Tried shape k x c fs [] qs in
@@ -149,23 +149,23 @@ tries_from shape h k c fs (p ∷ ps) qs l f same pinned =
     let more : IsLegal shape n = legal_push shape k e l (subst F is (try_fits shape k c p l flies)) in
     let T : List ℕ → Type 0 = λ x. times p x ≤ 1 in
     let once : times p (fs ++ p ∷ (ps ++ qs)) ≤ 1 = subst T f (once_flies shape k c p l) in
-    let G : Event → Type 0 = λ x. flight (k ++ x ∷ []) c ≡ cond (is_pinned k p) (flight k c) (without p (flight k c)) in
-    let now : flight n c ≡ cond (is_pinned k p) (fs ++ p ∷ (ps ++ qs)) (fs ++ (ps ++ qs)) =
-    subst G is (try_flight shape k c p) ∙ ap₂ (λ a b. cond (is_pinned k p) a b) f (ap (without p) f ∙ without_middle p fs (ps ++ qs) once) in
+    let G : Event → Type 0 = λ x. flight (k ++ x ∷ []) c ≡ cond (is_pinned shape k p) (flight k c) (without p (flight k c)) in
+    let now : flight n c ≡ cond (is_pinned shape k p) (fs ++ p ∷ (ps ++ qs)) (fs ++ (ps ++ qs)) =
+    subst G is (try_flight shape k c p) ∙ ap₂ (λ a b. cond (is_pinned shape k p) a b) f (ap (without p) f ∙ without_middle p fs (ps ++ qs) once) in
     let untouched_by : (q : ℕ) → nat_eq q p ≡ false → Untouched q e.what = λ q y. untouched_try shape h c p q y in
     let other : (q : ℕ) → nat_eq q p ≡ false → try_event shape n c q ≡ try_event shape k c q = λ q y. try_kept shape k e c q (untouched_by q y) in
-    let other_pinned : (q : ℕ) → nat_eq q p ≡ false → is_pinned n q ≡ is_pinned k q = λ q y. pinned_kept k e q (untouched_by q y) in
+    let other_pinned : (q : ℕ) → nat_eq q p ≡ false → is_pinned shape n q ≡ is_pinned shape k q = λ q y. pinned_kept k e q (untouched_by q y) in
     let apart_of : (q : ℕ) → has_page q ps ≡ true → nat_eq q p ≡ false = λ q g. later_apart p q fs ps qs once g in
     let in_rest : (q : ℕ) → has_page q ps ≡ true → has_page q (p ∷ ps) ≡ true = λ q g. or_second (nat_eq p q) _ g in
-    let r : Tried shape n (n ++ map (try_event shape h c) ps) c (cond (is_pinned k p) (fs ++ p ∷ []) fs) ps qs =
-    tries_from shape h n c (cond (is_pinned k p) (fs ++ p ∷ []) fs) ps qs more (now ∙ shift (is_pinned k p))
+    let r : Tried shape n (n ++ map (try_event shape h c) ps) c (cond (is_pinned shape k p) (fs ++ p ∷ []) fs) ps qs =
+    tries_from shape h n c (cond (is_pinned shape k p) (fs ++ p ∷ []) fs) ps qs more (now ∙ shift (is_pinned shape k p))
     (λ q g. other q (apart_of q g) ∙ same q (in_rest q g)) (λ q g. other_pinned q (apart_of q g) ∙ pinned q (in_rest q g)) in
     let P : History → Type 0 = λ x. Tried shape k x c fs (p ∷ ps) qs in
     subst P (append_assoc k (e ∷ []) (map (try_event shape h c) ps))
     (record {
       legal = r.legal;
       queue_same = r.queue_same ∙ try_queue shape h k c p;
-      left = r.left ∙ join (is_pinned k p) _ _ (filter_in (is_pinned n) (is_pinned k) ps (λ q g. other_pinned q (apart_of q g)));
+      left = r.left ∙ join (is_pinned shape k p) _ _ (filter_in (is_pinned shape n) (is_pinned shape k) ps (λ q g. other_pinned q (apart_of q g)));
       closed_same = r.closed_same ∙ some_same closes k e (try_closes shape h c p);
       others = λ q g. let w = or_none (nat_eq p q) (has_page q ps) g in r.others q w.1 ∙ other q (turned p q w.0);
       others_pinned = λ q g. let w = or_none (nat_eq p q) (has_page q ps) g in r.others_pinned q w.1 ∙ other_pinned q (turned p q w.0);

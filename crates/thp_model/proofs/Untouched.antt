@@ -21,12 +21,12 @@ pub record Untouched (p : ℕ) (w : What) : Type 0 where
 abbrev pub is_about : ℕ → What → Bool
 is_about p (Alloc q block) = nat_eq p q
 is_about p (MapWhole q) = nat_eq p q
-is_about p (UnmapWhole q outcome set) = nat_eq p q
+is_about p (UnmapWhole outcome q set) = nat_eq p q
 is_about p (MapSub q first count) = nat_eq p q
-is_about p (UnmapSub q first count outcome set) = nat_eq p q
+is_about p (UnmapSub outcome q first count set) = nat_eq p q
 is_about p (SplitPmd q) = nat_eq p q
 is_about p (Pin q) = nat_eq p q
-is_about p (Unpin q outcome set) = nat_eq p q
+is_about p (Unpin outcome q set) = nat_eq p q
 is_about p (Taken q) = false
 is_about p (Split q set) = nat_eq p q
 is_about p (Pinned q) = false
@@ -38,12 +38,12 @@ is_about p Close = false
 pub untouched : (p : ℕ) (w : What) → is_about p w ≡ false → Untouched p w
 untouched p (Alloc q block) e = record { no_maps = λ i. e; no_unmaps = λ i. refl; no_maps_whole = e; no_unmaps_whole = refl; no_pin = refl; no_unpin = refl; no_alloc = e; no_free = refl; no_split = refl }
 untouched p (MapWhole q) e = record { no_maps = λ i. e; no_unmaps = λ i. refl; no_maps_whole = e; no_unmaps_whole = refl; no_pin = refl; no_unpin = refl; no_alloc = refl; no_free = refl; no_split = refl }
-untouched p (UnmapWhole q outcome set) e = record { no_maps = λ i. refl; no_unmaps = λ i. e; no_maps_whole = refl; no_unmaps_whole = e; no_pin = refl; no_unpin = refl; no_alloc = refl; no_free = and_no _ _ e; no_split = refl }
+untouched p (UnmapWhole outcome q set) e = record { no_maps = λ i. refl; no_unmaps = λ i. e; no_maps_whole = refl; no_unmaps_whole = e; no_pin = refl; no_unpin = refl; no_alloc = refl; no_free = and_no _ _ e; no_split = refl }
 untouched p (MapSub q first count) e = record { no_maps = λ i. and_no _ _ e; no_unmaps = λ i. refl; no_maps_whole = refl; no_unmaps_whole = refl; no_pin = refl; no_unpin = refl; no_alloc = refl; no_free = refl; no_split = refl }
-untouched p (UnmapSub q first count outcome set) e = record { no_maps = λ i. refl; no_unmaps = λ i. and_no _ _ e; no_maps_whole = refl; no_unmaps_whole = refl; no_pin = refl; no_unpin = refl; no_alloc = refl; no_free = and_no _ _ e; no_split = refl }
+untouched p (UnmapSub outcome q first count set) e = record { no_maps = λ i. refl; no_unmaps = λ i. and_no _ _ e; no_maps_whole = refl; no_unmaps_whole = refl; no_pin = refl; no_unpin = refl; no_alloc = refl; no_free = and_no _ _ e; no_split = refl }
 untouched p (SplitPmd q) e = record { no_maps = λ i. refl; no_unmaps = λ i. refl; no_maps_whole = refl; no_unmaps_whole = e; no_pin = refl; no_unpin = refl; no_alloc = refl; no_free = refl; no_split = refl }
 untouched p (Pin q) e = record { no_maps = λ i. refl; no_unmaps = λ i. refl; no_maps_whole = refl; no_unmaps_whole = refl; no_pin = e; no_unpin = refl; no_alloc = refl; no_free = refl; no_split = refl }
-untouched p (Unpin q outcome set) e = record { no_maps = λ i. refl; no_unmaps = λ i. refl; no_maps_whole = refl; no_unmaps_whole = refl; no_pin = refl; no_unpin = e; no_alloc = refl; no_free = and_no _ _ e; no_split = refl }
+untouched p (Unpin outcome q set) e = record { no_maps = λ i. refl; no_unmaps = λ i. refl; no_maps_whole = refl; no_unmaps_whole = refl; no_pin = refl; no_unpin = e; no_alloc = refl; no_free = and_no _ _ e; no_split = refl }
 untouched p (Split q set) e = record { no_maps = λ i. refl; no_unmaps = λ i. refl; no_maps_whole = refl; no_unmaps_whole = refl; no_pin = refl; no_unpin = refl; no_alloc = refl; no_free = refl; no_split = e }
 untouched p w e = record { no_maps = λ i. refl; no_unmaps = λ i. refl; no_maps_whole = refl; no_unmaps_whole = refl; no_pin = refl; no_unpin = refl; no_alloc = refl; no_free = refl; no_split = refl }
 

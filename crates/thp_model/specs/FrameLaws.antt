@@ -12,9 +12,9 @@ use Rattle.thp_model.specs.Shapes.{subpages, IsShape}
 
 -- the event gave back the frame of subpage i of page p
 abbrev pub gives_frame : ℕ → ℕ → What → Bool
-gives_frame p i (UnmapWhole q outcome released) = nat_eq p q && has released i
-gives_frame p i (UnmapSub q first count outcome released) = nat_eq p q && has released i
-gives_frame p i (Unpin q outcome released) = nat_eq p q && has released i
+gives_frame p i (UnmapWhole outcome q released) = nat_eq p q && has released i
+gives_frame p i (UnmapSub outcome q first count released) = nat_eq p q && has released i
+gives_frame p i (Unpin outcome q released) = nat_eq p q && has released i
 gives_frame p i (Split q released) = nat_eq p q && has released i
 gives_frame p i _ = false
 

@@ -1,5 +1,5 @@
 -- Worked histories, event by event, with what they come to.
-use Rattle.std.specs.Prelude.{◌≡◌, ℕ, ◌++◌, Bool, false, List, [], ◌∷◌, length}
+use Rattle.std.specs.Prelude.{◌≡◌, ℕ, None, ◌++◌, Bool, false, List, [], ◌∷◌, length}
 use Rattle.thp_model.specs.declared.events.Outcome.TheVariants.{Queued, Stays}
 use Rattle.thp_model.specs.declared.events.What.TheVariants.{Alloc, UnmapSub, SplitPmd, Pin, Unpin, Taken, Split, Pinned, Back}
 use Rattle.thp_model.specs.declared.shape.Shape.{Shape}
@@ -12,10 +12,10 @@ use Rattle.thp_model.specs.Counters.{thp_split_page, thp_split_page_failed, thp_
 
 -- a node of 16 blocks whose pages have 512 subpages, and one whose pages have 4
 abbrev pub large_pages : Shape
-large_pages = record { blocks = 16; order = 9 }
+large_pages = record { blocks = 16; order = 9; underused = None }
 
 abbrev pub small_pages : Shape
-small_pages = record { blocks = 16; order = 2 }
+small_pages = record { blocks = 16; order = 2; underused = None }
 
 -- the `count` subpages from `first` on, and none
 abbrev pub subpages_of : ℕ → ℕ → List Bool
@@ -26,12 +26,12 @@ nothing = set_of (λ i. false)
 
 -- page p is allocated in block p, its PMD mapping is split, and its first subpages are unmapped, which queues it
 abbrev pub queue_page : ℕ → ℕ → History
-queue_page p count = by 0 (Alloc p p) ∷ by 0 (SplitPmd p) ∷ by 0 (UnmapSub p 0 count Queued nothing) ∷ []
+queue_page p count = by 0 (Alloc p p) ∷ by 0 (SplitPmd p) ∷ by 0 (UnmapSub Queued p 0 count nothing) ∷ []
 
 -- what a history comes to
 pub record HasTotals (s : Shape) (h : History) (pages queued held given split failed deferred pmds : ℕ) : Type 0 where
   pub pages_are : allocations h ≡ pages
-  pub queue_is : length (queue h) ≡ queued
+  pub queue_is : length (queue s h) ≡ queued
   pub held_are : frames_held s h ≡ held
   pub given_are : frames_given h ≡ given
   pub split_are : thp_split_page h ≡ split
@@ -49,7 +49,7 @@ pinned_goes_to_the_tail =
     queue_page 0 1 ++ queue_page 1 1 ++ queue_page 2 1 ++ by 0 (Pin 1)
     ∷ by 0 (Taken 0) ∷ by 0 (Taken 1) ∷ by 0 (Taken 2)
     ∷ by 0 (Split 0 (subpages_of 0 1)) ∷ by 0 (Pinned 1) ∷ by 0 (Split 2 (subpages_of 0 1)) ∷ by 0 (Back 1)
-    ∷ by 0 (Unpin 1 Stays nothing)
+    ∷ by 0 (Unpin Stays 1 nothing)
     ∷ by 0 (Taken 1) ∷ by 0 (Split 1 (subpages_of 0 1)) ∷ []
 
 -- three of the four subpages of a small page are unmapped, and a scan splits the page
