@@ -4,7 +4,7 @@ use Rattle.std.specs.Prelude.{slice_get, Some}
 use Rattle.std.specs.List.{list_any, IsDistinct, AllByRecursion}
 use Rattle.thp_model.specs.declared.events.Event.{Event}
 use Rattle.thp_model.specs.declared.events.What.{What}
-use Rattle.thp_model.specs.declared.events.What.TheVariants.{Alloc, MapWhole, UnmapWhole, MapSub, UnmapSub, SplitPmd, Pin, Unpin, Taken, Split, Pinned, Back, Dropped, Close}
+use Rattle.thp_model.specs.declared.events.What.TheVariants.{Alloc, MapWhole, UnmapWhole, MapSub, UnmapSub, SplitPmd, Pin, Unpin, Write, Zero, Taken, Split, Pinned, Used, Back, Dropped, Close}
 use Rattle.thp_model.specs.declared.shape.Shape.{Shape}
 use Rattle.thp_model.specs.History.{History, some_event, by}
 use Rattle.thp_model.specs.Counts.{allocates, is_live}
@@ -35,9 +35,12 @@ placed_by p b (UnmapSub o q f m r) e = absurd (cc)
 placed_by p b (SplitPmd q) e = absurd (cc)
 placed_by p b (Pin q) e = absurd (cc)
 placed_by p b (Unpin o q r) e = absurd (cc)
+placed_by p b (Write q x m) e = absurd (cc)
+placed_by p b (Zero q x m) e = absurd (cc)
 placed_by p b (Taken q) e = absurd (cc)
 placed_by p b (Split q r) e = absurd (cc)
 placed_by p b (Pinned q) e = absurd (cc)
+placed_by p b (Used q) e = absurd (cc)
 placed_by p b (Back q) e = absurd (cc)
 placed_by p b (Dropped q) e = absurd (cc)
 placed_by p b Close e = absurd (cc)
@@ -64,9 +67,12 @@ user_by h b k c (UnmapSub o q f m r) g e = absurd (cc)
 user_by h b k c (SplitPmd q) g e = absurd (cc)
 user_by h b k c (Pin q) g e = absurd (cc)
 user_by h b k c (Unpin o q r) g e = absurd (cc)
+user_by h b k c (Write q x m) g e = absurd (cc)
+user_by h b k c (Zero q x m) g e = absurd (cc)
 user_by h b k c (Taken q) g e = absurd (cc)
 user_by h b k c (Split q r) g e = absurd (cc)
 user_by h b k c (Pinned q) g e = absurd (cc)
+user_by h b k c (Used q) g e = absurd (cc)
 user_by h b k c (Back q) g e = absurd (cc)
 user_by h b k c (Dropped q) g e = absurd (cc)
 user_by h b k c Close g e = absurd (cc)
@@ -97,9 +103,12 @@ block_by h p k c (UnmapSub o q f m r) g e = absurd (cc)
 block_by h p k c (SplitPmd q) g e = absurd (cc)
 block_by h p k c (Pin q) g e = absurd (cc)
 block_by h p k c (Unpin o q r) g e = absurd (cc)
+block_by h p k c (Write q x m) g e = absurd (cc)
+block_by h p k c (Zero q x m) g e = absurd (cc)
 block_by h p k c (Taken q) g e = absurd (cc)
 block_by h p k c (Split q r) g e = absurd (cc)
 block_by h p k c (Pinned q) g e = absurd (cc)
+block_by h p k c (Used q) g e = absurd (cc)
 block_by h p k c (Back q) g e = absurd (cc)
 block_by h p k c (Dropped q) g e = absurd (cc)
 block_by h p k c Close g e = absurd (cc)

@@ -8,7 +8,7 @@ use Rattle.thp_model.specs.declared.events.Event.{Event}
 use Rattle.thp_model.specs.declared.events.Outcome.{Outcome}
 use Rattle.thp_model.specs.declared.events.Outcome.TheVariants.{Freed, Queued}
 use Rattle.thp_model.specs.declared.events.What.{What}
-use Rattle.thp_model.specs.declared.events.What.TheVariants.{Alloc, MapWhole, UnmapWhole, MapSub, UnmapSub, SplitPmd, Pin, Unpin, Taken, Split, Pinned, Back, Dropped, Close}
+use Rattle.thp_model.specs.declared.events.What.TheVariants.{Alloc, MapWhole, UnmapWhole, MapSub, UnmapSub, SplitPmd, Pin, Unpin, Write, Zero, Taken, Split, Pinned, Used, Back, Dropped, Close}
 use Rattle.thp_model.specs.declared.shape.Shape.{Shape}
 use Rattle.thp_model.specs.History.{History, by, some_event}
 use Rattle.thp_model.specs.Counts.{is_live, is_split, is_closed, is_queued, is_freed, allocates, frees}
@@ -19,7 +19,7 @@ use Rattle.thp_model.specs.PlaceLaws.{enters, takes_of, is_others, acts_on}
 use Rattle.thp_model.specs.Places.{queue, flight, flights, has_page, stands}
 use Rattle.thp_model.specs.Runs.{still_flying}
 use Rattle.thp_model.proofs.Alive.{legal_grown}
-use Rattle.thp_model.proofs.Allowed.{allowed_alloc, allowed_map_whole, allowed_unmap_whole, allowed_map_sub, allowed_unmap_sub, allowed_split_pmd, allowed_pin, allowed_unpin}
+use Rattle.thp_model.proofs.Allowed.{allowed_alloc, allowed_map_whole, allowed_unmap_whole, allowed_map_sub, allowed_unmap_sub, allowed_split_pmd, allowed_pin, allowed_unpin, allowed_write, allowed_zero}
 use Rattle.thp_model.proofs.Blocks.{filter-filter}
 use Rattle.thp_model.proofs.Bools.{by_bool, or_first, and_both, and-true, and-false, not_true}
 use Rattle.thp_model.proofs.Counting.{count_any}
@@ -31,9 +31,9 @@ use Rattle.thp_model.proofs.Pushes.{queue_push}
 use Rattle.thp_model.proofs.Standing.{Sound, legal_sound, stand, times, flying, outcome_queued, any-pages, pages, first_has}
 
 -- a page that stands is live and not split
-up_by : (h : History) (p : ℕ) → stands shape h p ≡ true → 0 < stand shape h p
+pub up_by : (shape : Shape) (h : History) (p : ℕ) → stands shape h p ≡ true → 0 < stand shape h p
 unfolding times flying
-up_by h p e =
+up_by shape h p e =
     by_bool (has_page p (queue shape h)) _
     (λ y. omega (arith, (count_any (λ q. nat_eq q p) (queue shape h)).1 y))
     (λ y. omega (arith, (count_any (λ (f : ℕ × ℕ). nat_eq f.1 p) (flights h)).1 (sym (any-pages p (flights h)) ∙ second _ _ y (sym (list_any-append (λ q. nat_eq q p) (queue shape h) (pages (flights h))) ∙ e)))) where
@@ -43,7 +43,7 @@ up_by h p e =
 
 -- a page that stands is live and not split
 pub stands_whole : (shape : Shape) (h : History) → IsLegal shape h → (p : ℕ) → stands shape h p ≡ true → (is_live h p ≡ true) × (is_split h p ≡ false)
-stands_whole shape h l p e = let s : Sound shape h = legal_sound shape h l in (s.live p (up_by h p e), s.whole_page p (up_by h p e))
+stands_whole shape h l p e = let s : Sound shape h = legal_sound shape h l in (s.live p (up_by shape h p e), s.whole_page p (up_by shape h p e))
 
 -- nothing enters after a close
 not_queued : (shape : Shape) (h k : History) (p : ℕ) (o : Outcome) → is_closed h ≡ true → o ≡ outcome shape h k p → is_queued o ≡ false
@@ -103,6 +103,7 @@ after_other c d ps (UnmapSub o p f n r) e = by_free ps p o
 after_other c d ps (Unpin o p r) e = by_free ps p o
 after_other c d ps (Taken p) e = skip _ _ _ e ∙ sym (filter_all ps)
 after_other c d ps (Split p r) e = skip _ _ _ e ∙ sym (filter_all ps)
+after_other c d ps (Used p) e = skip _ _ _ e ∙ sym (filter_all ps)
 after_other c d ps (Back p) e = skip _ _ _ e ∙ sym (filter_all ps)
 after_other c d ps (Dropped p) e = skip _ _ _ e ∙ sym (filter_all ps)
 after_other c d ps w e = sym (filter_all ps)
@@ -179,12 +180,15 @@ acts_live shape h k c (UnmapSub o q a d r) p l f y = ap (is_live h) (eqb-true p 
 acts_live shape h k c (SplitPmd q) p l f y = ap (is_live h) (eqb-true p q y) ∙ (allowed_split_pmd shape h q f).0
 acts_live shape h k c (Pin q) p l f y = ap (is_live h) (eqb-true p q y) ∙ (allowed_pin shape h q f).0
 acts_live shape h k c (Unpin o q r) p l f y = ap (is_live h) (eqb-true p q y) ∙ (allowed_unpin shape h q f.0).0
+acts_live shape h k c (Write q a d) p l f y = ap (is_live h) (eqb-true p q y) ∙ (allowed_write shape h q a d f).0
+acts_live shape h k c (Zero q a d) p l f y = ap (is_live h) (eqb-true p q y) ∙ (allowed_zero shape h q a d f).0
 acts_live shape h k c (Taken q) p l f y = ap (is_live h) (eqb-true p q y) ∙ (stands_whole shape h l q (first_stands (queue shape h) (pages (flights h)) q f.oldest)).0 where
   first_stands : (xs ys : List ℕ) (q : ℕ) → slice_get xs 0 ≡ Some q → has_page q (xs ++ ys) ≡ true
   first_stands [] ys q e = absurd (cc)
   first_stands (x ∷ xs) ys q e = let same : x ≡ q = cc in or_first _ _ (eq-eqb x q same)
 acts_live shape h k c (Split q r) p l f y = ap (is_live h) (eqb-true p q y) ∙ (flies_live shape h c q l f.in_flight).0
 acts_live shape h k c (Pinned q) p l f y = ap (is_live h) (eqb-true p q y) ∙ (flies_live shape h c q l f.0).0
+acts_live shape h k c (Used q) p l f y = ap (is_live h) (eqb-true p q y) ∙ (flies_live shape h c q l f.0).0
 acts_live shape h k c (Back q) p l f y = ap (is_live h) (eqb-true p q y) ∙ (flies_live shape h c q l (first_has q (flight h c) f.0)).0
 acts_live shape h k c (Dropped q) p l f y = ap (is_live h) (eqb-true p q y) ∙ (flies_live shape h c q l (first_has q (flight h c) f.0)).0
 acts_live shape h k c Close p l f y = absurd (cc)
@@ -203,9 +207,12 @@ alloc_new shape h k c (UnmapSub o q a d r) p l f y = absurd (cc)
 alloc_new shape h k c (SplitPmd q) p l f y = absurd (cc)
 alloc_new shape h k c (Pin q) p l f y = absurd (cc)
 alloc_new shape h k c (Unpin o q r) p l f y = absurd (cc)
+alloc_new shape h k c (Write q a d) p l f y = absurd (cc)
+alloc_new shape h k c (Zero q a d) p l f y = absurd (cc)
 alloc_new shape h k c (Taken q) p l f y = absurd (cc)
 alloc_new shape h k c (Split q r) p l f y = absurd (cc)
 alloc_new shape h k c (Pinned q) p l f y = absurd (cc)
+alloc_new shape h k c (Used q) p l f y = absurd (cc)
 alloc_new shape h k c (Back q) p l f y = absurd (cc)
 alloc_new shape h k c (Dropped q) p l f y = absurd (cc)
 alloc_new shape h k c Close p l f y = absurd (cc)
@@ -221,6 +228,6 @@ unfolding flights
 flight_none c = refl
 
 -- the queue starts empty
-pub queue_none : queue [] ≡ []
+pub queue_none : (shape : Shape) → queue shape [] ≡ []
 unfolding queue
-queue_none = refl
+queue_none shape = refl

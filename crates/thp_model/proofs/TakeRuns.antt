@@ -57,12 +57,12 @@ more_taken (suc i) (q ∷ qs) p e =
     (ap (λ k. take k (q ∷ qs)) n ∙ ap (λ xs. q ∷ xs) w.0, ap (λ k. drop k (q ∷ qs)) n ∙ w.1)
 
 -- one more take
-pub take_events_more : (h : History) (c i p : ℕ) → slice_get (drop i (queue shape h)) 0 ≡ Some p → take_events shape h c (i + 1) ≡ take_events shape h c i ++ by c (Taken p) ∷ []
-take_events_more h c i p e = ap (takes_of c) (more_taken i (queue shape h) p e).0 ∙ map-append (λ q. by c (Taken q)) (take i (queue shape h)) (p ∷ [])
+pub take_events_more : (shape : Shape) (h : History) (c i p : ℕ) → slice_get (drop i (queue shape h)) 0 ≡ Some p → take_events shape h c (i + 1) ≡ take_events shape h c i ++ by c (Taken p) ∷ []
+take_events_more shape h c i p e = ap (takes_of c) (more_taken i (queue shape h) p e).0 ∙ map-append (λ q. by c (Taken q)) (take i (queue shape h)) (p ∷ [])
 
 -- a take of more pages than there are is one of all
-pub take_events_short : (h : History) (c n : ℕ) → length (queue shape h) ≤ n → take_events shape h c n ≡ take_events shape h c (length (queue shape h))
-take_events_short h c n l = ap (takes_of c) (take_all n (queue shape h) l ∙ sym (take_all (length (queue shape h)) (queue shape h) (omega arith)))
+pub take_events_short : (shape : Shape) (h : History) (c n : ℕ) → length (queue shape h) ≤ n → take_events shape h c n ≡ take_events shape h c (length (queue shape h))
+take_events_short shape h c n l = ap (takes_of c) (take_all n (queue shape h) l ∙ sym (take_all (length (queue shape h)) (queue shape h) (omega arith)))
 
 -- a caller has nothing in flight exactly where its flight's length is 0
 pub none_flies : (ps : List ℕ) → length ps ≡ 0 → no_pages ps ≡ true

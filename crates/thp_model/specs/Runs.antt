@@ -48,6 +48,10 @@ tries_of s h c (Some p) = try_event s h c p ∷ []
 abbrev pub split_next_events : Shape → History → ℕ → List ℕ → List Event
 split_next_events s h c rest = tries_of s h c (next_page h c rest)
 
+-- page p goes back to the queue when it leaves its batch
+abbrev pub goes_back : Shape → History → ℕ → Bool
+goes_back s h p = not (is_dropped s h p)
+
 -- page p leaves its batch: back to the tail of the queue, or nowhere
 abbrev pub return_event : Shape → History → ℕ → ℕ → Event
 return_event s h c p = by c (if is_dropped s h p then Dropped p else Back p)

@@ -25,6 +25,9 @@ pub use laws::{
     others_only_free, requests_decide,
 };
 pub use refusal::Refusal;
-pub use rows::{first_run_is_legal, pinned_goes_to_the_tail_is_legal, small_page_split_is_legal};
+pub use rows::{
+    first_run_is_legal, pinned_goes_to_the_tail_is_legal, small_page_split_is_legal, underused_pinned_is_legal,
+    underused_scan_is_legal,
+};
 pub use shape::Shape;
 pub use sub_set::SubSet;
