@@ -133,7 +133,7 @@ first_has p [] e = absurd (cc)
 first_has p (q ∷ qs) e = let same : q ≡ p = cc in rw same (ap (λ v. v || has_page p qs) (eq-eqb p p refl))
 
 -- the first of the queue, taken out
-times-drop : (p q : ℕ) (qs : List ℕ) → slice_get qs 0 ≡ Some p → times q qs ≡ cond (nat_eq p q) 1 0 + times q (drop 1 qs)
+pub times-drop : (p q : ℕ) (qs : List ℕ) → slice_get qs 0 ≡ Some p → times q qs ≡ cond (nat_eq p q) 1 0 + times q (drop 1 qs)
 times-drop p q [] e = absurd (cc)
 times-drop p q (x ∷ qs) e = let same : x ≡ p = cc in rw (times-cons q x qs, same)
 
@@ -238,7 +238,7 @@ by_outcome shape h k p q Freed s l e =
     (λ y. (ap (λ b. b && true) y, refl))
 
 -- a page that leaves the flight of c makes room for one entry
-moves : (p q c : ℕ) (fs : List (ℕ × ℕ)) → has_page p (pages (filter (λ (f : ℕ × ℕ). nat_eq f.0 c) fs)) ≡ true →
+pub moves : (p q c : ℕ) (fs : List (ℕ × ℕ)) → has_page p (pages (filter (λ (f : ℕ × ℕ). nat_eq f.0 c) fs)) ≡ true →
     cond (nat_eq p q) 1 0 + flying q (leaves c p fs) ≤ flying q fs
 moves p q c fs h =
     elim (eqb_tells p q) [
@@ -312,7 +312,7 @@ sound_alloc shape h c p b s t is =
     let fresh : Fresh h p = t.fresh p (omega (arith, is)) in
     let more : (q : ℕ) → stand shape k q ≡ stand shape h q + cond (on && nat_eq p q) 1 0 =
     λ q. ap (λ ps. times q ps + flying q (flights k)) (queue_push shape h e) ∙ ap (λ fs. times q (queue_after shape (queue shape h) (Alloc p b)) + flying q fs) (flights_push h e)
-        ∙ omega (arith, new_stands on q p (queue shape h)) in
+    ∙ omega (arith, new_stands on q p (queue shape h)) in
     let none : stand shape h p ≡ 0 = nothing (stand shape h p) (λ up. let l : p < allocations h = live_below h p t (s.live p up) in omega (arith, is)) in
     let was : (q : ℕ) → nat_eq p q ≡ false → 0 < stand shape k q → 0 < stand shape h q = λ q y up. up_or (on && nat_eq p q) _ _ (more q) up (and_none on _ y) in
     record {

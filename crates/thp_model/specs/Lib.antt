@@ -18,3 +18,4 @@ pub mod PlaceLaws
 pub mod FrameLaws
 pub mod BlockLaws
 pub mod RequestLaws
+pub mod UnderusedLaws

@@ -1,6 +1,7 @@
 //! How large a node is.
 ghost use Rattle.std.specs.Prelude.{◌≡◌, ◌≤◌, IsTrue, ◌↔◌};
 ghost use Rattle.thp_model.specs.Shapes.{subpages, IsShape};
+ghost use Rattle.thp_model.specs.Underused.{shrinks_underused};
 
 /// How many blocks a node has, and the order of its pages: each page has `2 ^ order` subpages, and each block as many
 /// frames. On x86-64 a THP that one PMD entry maps has order 9.
@@ -34,6 +35,13 @@ impl Shape {
             Some(threshold) => threshold < self.subpages(),
         };
         has_low_threshold && 1 <= self.blocks && self.blocks <= Shape::MAX_BLOCKS
+    }
+
+    /// Whether the shrinker looks for underused pages: the switch is on.
+    pub fn shrinks_underused(&self) -> bool
+        ensures { result ≡ shrinks_underused self.now }
+    {
+        self.underused.is_some()
     }
 
     /// How many subpages a page has.

@@ -58,3 +58,21 @@ fn shapes(rt: HostRuntime) {
         assert!(rt; !shape.is_valid(), "{blocks} blocks of order {order}");
     }
 }
+
+#[test]
+fn thresholds(rt: HostRuntime) {
+    for (underused, is_valid, is_on) in [
+        (None, true, false),
+        (Some(0), true, true),
+        (Some(3), true, true),
+        (Some(4), false, true),
+    ] {
+        let shape = Shape {
+            blocks: 1,
+            order: 2,
+            underused,
+        };
+        assert_eq!(rt; shape.is_valid(), is_valid);
+        assert_eq!(rt; shape.shrinks_underused(), is_on);
+    }
+}
