@@ -5,9 +5,9 @@ use Rattle.std.proofs.lemmas.Bool.Decides.{nat_tests}
 use Rattle.std.proofs.lemmas.Bool.{cases_lt}
 use Rattle.thp_model.specs.Sets.{covers, set_of, has, set_size, some_below, count_below}
 use Rattle.thp_model.specs.Words.{get_or-set_of}
-use Rattle.thp_model.specs.Pages.{PageState, size, own_at, total_at, zero_at, holds, zero_set, zero_count, some_in_range, RangeWritten, RangeZeroed}
+use Rattle.thp_model.specs.Pages.{PageState, size, own_at, zero_at, holds, zero_set, zero_count, some_in_range, RangeWritten, RangeZeroed}
 use Rattle.thp_model.proofs.Below.{some_no, some_none}
-use Rattle.thp_model.proofs.SumsBelow.{set_size-set_of, sum_below-stop, sum_below-ext}
+use Rattle.thp_model.proofs.SumsBelow.{set_size-set_of, sum_below-stop}
 use Rattle.thp_page.proofs.SubSets.{set_of-ext}
 use Rattle.thp_page.proofs.SomeBelow.{same_if_false}
 use Rattle.thp_page.proofs.RangeCounts.{count_below-ext}
@@ -72,7 +72,7 @@ some_zero t first count range others rest empty inside most is_range is_others i
       by true told =
           sym (some_no (size t) (λ i. covers first count i && zero_at t i)
           (λ i below. let short : i < 512 = omega arith in
-              sym (left i short) ∙ ap (λ s. has s i) (told.0 refl) ∙ get_or-set_of (λ j. false) i short))
+          sym (left i short) ∙ ap (λ s. has s i) (told.0 refl) ∙ get_or-set_of (λ j. false) i short))
       by false told = never (some_in_range t first count (zero_at t)) (λ failing. told.1 (none failing))
 
 -- one of two tests passes somewhere where one of them does, or a third that says just that

@@ -115,19 +115,19 @@ returns c =
     let inside = (unmap_sub_allowed s 0 first count (allowed_as s _ (call.unmap_sub 0 first count) c.self.view_is c.requires)).0 in
     let before : Bool = partly_after s (with_own s own) in
     let unused : c.if-self-eq0.unused ≡ drops_use s (with_own s own) =
-        elim c.if-self-eq0.branch [
-          | then-self-eq0 w ↦
-              w.unused-is ∙ ap (λ n. nat_lt 0 n) c.unmap_range-gone.ensures.ones
-              ∙ sym (drops_use-range s (after s own before) first count c.self.invariant.page.most_order (made s own first count before c.unmap_range-gone.ensures.taken refl) inside w.if-self-eq0.true)
-          | else-self-eq0 w ↦ w.unused-is ∙ ne_eqb s.whole 0 w.if-self-eq0.false ∙ sym (drops_use-mapped s (with_own s own) (omega arith))
-        ] in
+    elim c.if-self-eq0.branch [
+      | then-self-eq0 w ↦
+          w.unused-is ∙ ap (λ n. nat_lt 0 n) c.unmap_range-gone.ensures.ones
+          ∙ sym (drops_use-range s (after s own before) first count c.self.invariant.page.most_order (made s own first count before c.unmap_range-gone.ensures.taken refl) inside w.if-self-eq0.true)
+      | else-self-eq0 w ↦ w.unused-is ∙ ne_eqb s.whole 0 w.if-self-eq0.false ∙ sym (drops_use-mapped s (with_own s own) (omega arith))
+    ] in
     let joined : c.if-unused.self ≡ (c.if-self-eq0.unused && c.has_use-used_left.result) =
-        elim c.if-unused.branch [
-          | then-unused w ↦ w.self-is ∙ ap (λ b. b && c.has_use-used_left.result) (sym w.if-unused.true)
-          | else-unused w ↦ w.self-is ∙ not_both c.if-self-eq0.unused c.has_use-used_left.result w.if-unused.false
-        ] in
+    elim c.if-unused.branch [
+      | then-unused w ↦ w.self-is ∙ ap (λ b. b && c.has_use-used_left.result) (sym w.if-unused.true)
+      | else-unused w ↦ w.self-is ∙ not_both c.if-self-eq0.unused c.has_use-used_left.result w.if-unused.false
+    ] in
     let r : RangeUnmapped first count s (after s own partly) =
-        made s own first count partly c.unmap_range-gone.ensures.taken (told s own _ _ c.if-unused.self unused c.has_use-used_left.ensures joined) in
+    made s own first count partly c.unmap_range-gone.ensures.taken (told s own _ _ c.if-unused.self unused c.has_use-used_left.ensures joined) in
     let Q : PageState → Type 0 = λ t. RangeUnmapped first count t (after s own partly) in
     let P : PageState → Type 0 = λ t. IsChange t (after s own partly) (record { unused = c.if-self-eq0.unused; used_left = c.has_use-used_left.result; released = c.if-self.released }) in
     record {

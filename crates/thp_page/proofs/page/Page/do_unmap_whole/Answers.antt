@@ -69,17 +69,17 @@ returns c =
     let facts = unmap_whole_allowed s 0 (allowed_as s _ (call.unmap_whole 0) c.self.view_is c.requires) in
     let partly : Bool = s.partly || c.if-unused.self in
     let unused : c.if-self-eq1.unused ≡ drops_use s (less s) =
-        elim c.if-self-eq1.branch [
-          | then-self-eq1 w ↦
-              w.unused-is ∙ ap₂ (λ m n. nat_lt m n) c.self.invariant.mapped (w.subpages.ensures.size ∙ ap size (sym c.self.view_is))
-              ∙ sym (drops_use-last s (after s (partly_after s (less s))) (unmapped s (partly_after s (less s)) facts.1 refl) w.if-self-eq1.true)
-          | else-self-eq1 w ↦ w.unused-is ∙ ne_eqb s.whole 1 w.if-self-eq1.false ∙ sym (drops_use-mapped s (less s) (more s.whole facts.1 w.if-self-eq1.false))
-        ] in
+    elim c.if-self-eq1.branch [
+      | then-self-eq1 w ↦
+          w.unused-is ∙ ap₂ (λ m n. nat_lt m n) c.self.invariant.mapped (w.subpages.ensures.size ∙ ap size (sym c.self.view_is))
+          ∙ sym (drops_use-last s (after s (partly_after s (less s))) (unmapped s (partly_after s (less s)) facts.1 refl) w.if-self-eq1.true)
+      | else-self-eq1 w ↦ w.unused-is ∙ ne_eqb s.whole 1 w.if-self-eq1.false ∙ sym (drops_use-mapped s (less s) (more s.whole facts.1 w.if-self-eq1.false))
+    ] in
     let joined : c.if-unused.self ≡ (c.if-self-eq1.unused && c.has_use-used_left.result) =
-        elim c.if-unused.branch [
-          | then-unused w ↦ w.self-is ∙ ap (λ b. b && c.has_use-used_left.result) (sym w.if-unused.true)
-          | else-unused w ↦ w.self-is ∙ not_both c.if-self-eq1.unused c.has_use-used_left.result w.if-unused.false
-        ] in
+    elim c.if-unused.branch [
+      | then-unused w ↦ w.self-is ∙ ap (λ b. b && c.has_use-used_left.result) (sym w.if-unused.true)
+      | else-unused w ↦ w.self-is ∙ not_both c.if-self-eq1.unused c.has_use-used_left.result w.if-unused.false
+    ] in
     let r : WholeUnmapped s (after s partly) = unmapped s partly facts.1 (told s _ _ c.if-unused.self unused c.has_use-used_left.ensures joined) in
     let Q : PageState → Type 0 = λ t. WholeUnmapped t (after s partly) in
     let P : PageState → Type 0 = λ t. IsChange t (after s partly) (record { unused = c.if-self-eq1.unused; used_left = c.has_use-used_left.result; released = c.empty.result }) in

@@ -1,4 +1,4 @@
-use Rattle.std.proofs.Common.{◌+◌, ◌≤◌, ℕ, List, Bool, ap, sym, ◌∙◌, arith, subst, refl}
+use Rattle.std.proofs.Common.{List, Bool, sym, ◌∙◌, arith, subst, refl}
 use Rattle.thp_model.specs.Refusals as call
 use Rattle.thp_model.specs.Pages.{PageState, RangeZeroed}
 use Rattle.thp_page.specs.PageView.{state_of}
@@ -22,7 +22,7 @@ invariant_of-self c =
     record {
       page = IsPage-counts s (record s { zero = new }) c.self.invariant.page r.kept;
       mapped = c.self.invariant.mapped ∙ sym (mapped_count-same s (record s { zero = new }) refl (λ i below. refl));
-      zero_inside = 
+      zero_inside =
           zeroed_inside s c.args.first c.args.count c.range.result new c.self.invariant.zero_inside
           (zero_fill_allowed s 0 c.args.first c.args.count (allowed_as s _ (call.zero_fill 0 c.args.first c.args.count) c.self.view_is c.requires)) c.range.ensures c.union-self-inside.ensures;
     }

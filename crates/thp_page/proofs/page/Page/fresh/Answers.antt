@@ -1,4 +1,4 @@
-use Rattle.std.proofs.Common.{◌≡◌, ◌≤◌, ℕ, ◌^◌, Bool, List, nat_lt, ap, sym, ◌∙◌, subst}
+use Rattle.std.proofs.Common.{◌≡◌, ℕ, ◌^◌, Bool, List, nat_lt, ap, sym, ◌∙◌, subst}
 use Rattle.thp_model.specs.Sets.{set_of}
 use Rattle.thp_model.specs.Pages.{PageState, zero_set, IsPage, IsFresh}
 use Rattle.thp_page.specs.Fresh.{fresh_page}

@@ -1,8 +1,7 @@
 use Rattle.std.proofs.Common.{◌≡◌, ◌≢◌, ◌+◌, ◌&&◌, ℕ, Bool, false, nat_eq, ap, sym, ◌∙◌, arith, ne_eqb}
 use Rattle.std.proofs.lemmas.Bool.Decides.{nat_tests}
 use Rattle.thp_model.specs.Sets.{covers}
-use Rattle.thp_model.specs.Pages.{PageState, size, own_at, total_at, some_in_range}
-use Rattle.thp_page.specs.PageView.{state_of}
+use Rattle.thp_model.specs.Pages.{PageState, size, own_at, total_at}
 use Rattle.thp_model.proofs.Below.{some_below-ext, some_no}
 use Rattle.thp_page.proofs.page.Page.has_unused.Goals as goal
 

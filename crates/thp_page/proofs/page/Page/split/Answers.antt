@@ -67,15 +67,15 @@ returns c =
     let whole = ap (λ (t : PageState). t.split) c.self.view_is ∙ c.requires.whole in
     let r : PageSplit give s (divided give s own) = made give s own c.subpages-subpages.result long c.add_to_range.ensures in
     let unused : c.if-self-eq0.mapped.1 ≡ unused_set s =
-        elim c.if-self-eq0.branch [
-          | then-self-eq0 w ↦ ap (λ m. m.1) w.mapped-is ∙ w.subpages_with_count.ensures ∙ unused_set-unmapped s c.subpages-subpages.result long w.if-self-eq0.true
-          | else-self-eq0 w ↦ ap (λ m. m.1) w.mapped-is ∙ w.empty.ensures ∙ unused_set-mapped s w.if-self-eq0.false
-        ] in
+    elim c.if-self-eq0.branch [
+      | then-self-eq0 w ↦ ap (λ m. m.1) w.mapped-is ∙ w.subpages_with_count.ensures ∙ unused_set-unmapped s c.subpages-subpages.result long w.if-self-eq0.true
+      | else-self-eq0 w ↦ ap (λ m. m.1) w.mapped-is ∙ w.empty.ensures ∙ unused_set-mapped s w.if-self-eq0.false
+    ] in
     let given : c.if-give_zero.result ≡ split_set give s =
-        elim c.if-give_zero.branch [
-          | then-give_zero w ↦ w.result-is ∙ w.union.ensures ∙ split_set-zeros s _ unused c.self.invariant.zero_inside ∙ ap (λ b. split_set b s) (sym w.if-give_zero.true)
-          | else-give_zero w ↦ w.result-is ∙ unused ∙ split_set-none s ∙ ap (λ b. split_set b s) (sym w.if-give_zero.false)
-        ] in
+    elim c.if-give_zero.branch [
+      | then-give_zero w ↦ w.result-is ∙ w.union.ensures ∙ split_set-zeros s _ unused c.self.invariant.zero_inside ∙ ap (λ b. split_set b s) (sym w.if-give_zero.true)
+      | else-give_zero w ↦ w.result-is ∙ unused ∙ split_set-none s ∙ ap (λ b. split_set b s) (sym w.if-give_zero.false)
+    ] in
     let P : PageState → Type 0 = λ t. PageSplit give t (divided give s own) in
     record {
       counts = subst P c.self.view_is r;
