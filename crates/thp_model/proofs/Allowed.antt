@@ -137,18 +137,17 @@ pub refused_gone : (shape : Shape) (h : History) (p : ℕ) → is_live h p ≡ f
     × ((first count : ℕ) → refusal shape h (call.write p first count) ≡ Some reason.NoPage)
     × ((first count : ℕ) → refusal shape h (call.zero_fill p first count) ≡ Some reason.NoPage)
 unfolding refusal
-refused_gone shape h p e =
-    (
-      go _ _ e,
-      go _ _ e,
-      λ first count. go _ _ e,
-      λ first count. go _ _ e,
-      go _ _ e,
-      go _ _ e,
-      go _ _ e,
-      λ first count. go _ _ e,
-      λ first count. go _ _ e,
-    ) where
+refused_gone shape h p e = (
+  go _ _ e,
+  go _ _ e,
+  λ first count. go _ _ e,
+  λ first count. go _ _ e,
+  go _ _ e,
+  go _ _ e,
+  go _ _ e,
+  λ first count. go _ _ e,
+  λ first count. go _ _ e,
+) where
   go : (l : Bool) (r : Option Refusal) → l ≡ false → cond (not l) (Some reason.NoPage) r ≡ Some reason.NoPage
   go true r e = absurd (cc)
   go false r e = refl

@@ -8,7 +8,7 @@ use Rattle.thp_model.specs.declared.events.What.{What}
 use Rattle.thp_model.specs.declared.events.What.TheVariants.{Alloc, MapWhole, UnmapWhole, MapSub, UnmapSub, SplitPmd, Pin, Unpin, Write, Zero, Taken, Split, Pinned, Used, Back, Dropped, Close}
 use Rattle.thp_model.specs.declared.shape.Shape.{Shape}
 use Rattle.thp_model.specs.BlockLaws.{with_block, SameButBlocks}
-use Rattle.thp_model.specs.Counts.{maps, unmaps, pins_page, unpins_page, allocates, frees, splits, total, pins, is_closed}
+use Rattle.thp_model.specs.Counts.{maps, unmaps, pins_page, unpins_page, allocates, frees, splits, total, pins}
 use Rattle.thp_model.specs.Frames.{is_held, released, outcome}
 use Rattle.thp_model.specs.History.{History, by, count_of, some_event}
 use Rattle.thp_model.specs.Legal.{FitsBy, Gives, is_dropped}

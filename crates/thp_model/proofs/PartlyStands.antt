@@ -1,5 +1,5 @@
 -- While the switch is off each page that stands is partly mapped, so none is found in use or split as underused.
-use Rattle.std.proofs.Common.{◌≡◌, ℕ, ◌+◌, ◌-◌, ◌<◌, ◌≤◌, Bool, true, false, cond, not, ◌&&◌, ◌||◌, [], ◌∷◌, ◌++◌, Some, take, refl, ap, ap₂, sym, ◌∙◌, subst, arith, nat_eq, nat_lt, eq-eqb, inl, inr, ◌⊎◌}
+use Rattle.std.proofs.Common.{◌≡◌, ℕ, ◌+◌, ◌-◌, ◌<◌, ◌≤◌, Bool, true, false, cond, not, ◌&&◌, ◌||◌, [], ◌∷◌, ◌++◌, Some, take, refl, ap, ap₂, sym, ◌∙◌, arith, nat_eq, nat_lt, eq-eqb, inl, inr, ◌⊎◌}
 use Rattle.std.specs.Prelude.{slice_get}
 use Rattle.std.proofs.lemmas.Bool.Decides.{eqb_tells, nat_tests}
 use Rattle.thp_model.specs.declared.events.Event.{Event}
@@ -15,7 +15,7 @@ use Rattle.thp_model.specs.History.{History, by}
 use Rattle.thp_model.specs.Legal.{IsLegal, Fits, FitsBy}
 use Rattle.thp_model.specs.Places.{queue, queue_after, queue_by, flights, flights_after, flights_by, flight, stands, has_page}
 use Rattle.thp_model.specs.Shapes.{subpages}
-use Rattle.thp_model.specs.Underused.{shrinks_underused, unmaps_some, unmaps_part, is_partly_mapped, is_worth_split}
+use Rattle.thp_model.specs.Underused.{shrinks_underused, unmaps_some, unmaps_part, is_partly_mapped}
 use Rattle.thp_model.specs.UnderusedLaws.{finds_used}
 use Rattle.thp_model.proofs.Below.{some_no}
 use Rattle.thp_model.proofs.Bools.{or-true}

@@ -312,7 +312,7 @@ sound_alloc shape h c p b s t is =
     let fresh : Fresh h p = t.fresh p (omega (arith, is)) in
     let more : (q : ℕ) → stand shape k q ≡ stand shape h q + cond (on && nat_eq p q) 1 0 =
     λ q. ap (λ ps. times q ps + flying q (flights k)) (queue_push shape h e) ∙ ap (λ fs. times q (queue_after shape (queue shape h) (Alloc p b)) + flying q fs) (flights_push h e)
-        ∙ omega (arith, new_stands on q p (queue shape h)) in
+    ∙ omega (arith, new_stands on q p (queue shape h)) in
     let none : stand shape h p ≡ 0 = nothing (stand shape h p) (λ up. let l : p < allocations h = live_below h p t (s.live p up) in omega (arith, is)) in
     let was : (q : ℕ) → nat_eq p q ≡ false → 0 < stand shape k q → 0 < stand shape h q = λ q y up. up_or (on && nat_eq p q) _ _ (more q) up (and_none on _ y) in
     record {

@@ -200,7 +200,7 @@ tallies_unmap_sub shape h c p first count o r old new t u =
     let e : Event = by c (UnmapSub o p first count r) in
     let totals : (i : ℕ) → i < subpages shape → count_of (maps p i) (h ++ e ∷ []) ≡ count_of (unmaps p i) (h ++ e ∷ []) + total_at new i =
     λ i below.
-        omega (arith, count_same (maps p i) h e refl, count_of_push (unmaps p i) h e ∙ ap (λ b. count_of (unmaps p i) h + cond b 1 0) (covered p first count i), t.totals i below, u.whole, u.own i (in_size shape h p old t i below)) in
+    omega (arith, count_same (maps p i) h e refl, count_of_push (unmaps p i) h e ∙ ap (λ b. count_of (unmaps p i) h + cond b 1 0) (covered p first count i), t.totals i below, u.whole, u.own i (in_size shape h p old t i below)) in
     record {
       order = u.order ∙ t.order;
       totals = totals;
