@@ -10,7 +10,7 @@ use Rattle.thp_model.specs.History.{History, by, some_event}
 use Rattle.thp_model.specs.Counts.{is_alloc, is_live, frees, closes, is_closed, allocations}
 use Rattle.thp_model.specs.Frames.{block_in_use}
 use Rattle.thp_model.specs.Legal.{Fits, FitsAlloc, IsLegal}
-use Rattle.thp_model.specs.Pages.{PageState, IsFresh, Tallies, page_refusal}
+use Rattle.thp_model.specs.Pages.{PageState, Tallies, page_refusal}
 use Rattle.thp_model.specs.Places.{flight, has_page}
 use Rattle.thp_model.specs.Refusals.{refusal}
 use Rattle.thp_model.specs.Refusals as call
@@ -20,7 +20,6 @@ use Rattle.thp_model.proofs.Bools.{by_bool}
 use Rattle.thp_model.proofs.Flights.{flight_push}
 use Rattle.thp_model.proofs.OnePlace.{flies_live}
 use Rattle.thp_model.proofs.Pushes.{count_same, count_more, some_same, some_event_push}
-use Rattle.thp_page.specs.declared.standing.Standing.TheVariants.{Nowhere}
 use Rattle.thp_page.specs.Slots.{slot_at, HoldsPage}
 use Rattle.thp_page.specs.Table.{Slot}
 use Rattle.thp_places.specs.declared.page_call.Done.{Done}

@@ -102,6 +102,7 @@ fn check_large(alloc: Global, events: &[Event]) -> Result<(), CheckFault> {
         Shape {
             blocks: 16,
             order: 9,
+            underused: None,
         },
         events,
     )
@@ -209,6 +210,7 @@ fn small_page_split_is_legal(rt: HostRuntime) {
     let shape = Shape {
         blocks: 16,
         order: 2,
+        underused: None,
     };
     let events = [
         alloc_in(ZERO, 3),
