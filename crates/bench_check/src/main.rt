@@ -4,8 +4,6 @@
 //! each with what the check answered.
 #![tactic(auto)]
 
-ghost use Rattle.std.specs.Prelude.{◌<◌, ◌≤◌};
-
 mod histories;
 
 use anyhow::{Context, Result};
@@ -38,6 +36,12 @@ fn main(rt: HostRuntime) -> Result<()> {
             blocks,
             &histories::batches(rt.alloc(), blocks, count)?,
         )?;
+        time_check(
+            &rt,
+            "a batch of one caller",
+            blocks,
+            &histories::one_caller(rt.alloc(), blocks, count)?,
+        )?;
     }
     Ok(())
 }
@@ -56,12 +60,14 @@ fn time_check<R: CpuClock + Eprint + AllocGlobal>(
     what: &str,
     blocks: u32,
     events: &[Event],
-) -> Result<()>
-    requires some { 0 < blocks }
-    requires few { blocks ≤ 4096 }
-{
+) -> Result<()> {
     let start = rt.thread_cpu_time()?;
-    let answer = check(rt.alloc(), Shape { blocks, order: 9 }, events);
+    let shape = Shape {
+        blocks,
+        order: 9,
+        underused: None,
+    };
+    let answer = check(rt.alloc(), shape, events);
     let spent = rt.thread_cpu_time()?.saturating_sub(start);
     let nanos = spent.as_nanos() / events.len().max(1) as u128;
     let count = events.len();

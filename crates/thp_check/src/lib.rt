@@ -5,10 +5,8 @@
 #![tactic(auto)]
 
 mod checking;
-mod entries;
 mod flights;
-mod page_call;
-mod pages;
+mod links;
 mod replay;
 
 pub use checking::{CheckFault, check};
