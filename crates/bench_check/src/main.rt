@@ -62,7 +62,12 @@ fn time_check<R: CpuClock + Eprint + AllocGlobal>(
     events: &[Event],
 ) -> Result<()> {
     let start = rt.thread_cpu_time()?;
-    let answer = check(rt.alloc(), Shape { blocks, order: 9 }, events);
+    let shape = Shape {
+        blocks,
+        order: 9,
+        underused: None,
+    };
+    let answer = check(rt.alloc(), shape, events);
     let spent = rt.thread_cpu_time()?.saturating_sub(start);
     let nanos = spent.as_nanos() / events.len().max(1) as u128;
     let count = events.len();

@@ -3,10 +3,16 @@ use crate::batches::{
     expect_has_batch, expect_put_back, expect_scan, expect_tries, scanned, take_these,
 };
 use crate::calls::{
-    Answer, Call, changed, expect, freed, node_of, node_with_queued, queue_page, stays,
+    Answer, Call, changed, expect, expect_frames, expect_queued, freed, node_of, node_with_queued,
+    queue_page, stays,
 };
+use std::process::Abort;
 use thp_model::{Outcome, PageId, Refusal, SubSet};
-use thp_node::Tried;
+use thp_node::{Node, Tried};
+
+fn expect_none_split(rt: &impl Abort, node: &Node) {
+    assert_eq!(rt; node.counters().split_page, 0);
+}
 
 #[test]
 fn freed_from_a_batch_and_block_reused(rt: HostRuntime) {
@@ -21,10 +27,9 @@ fn freed_from_a_batch_and_block_reused(rt: HostRuntime) {
     expect(&rt, &mut node, 0, &reused);
     expect_tries(&rt, &mut node, &mut batch, &[Tried::Done]);
     expect_put_back(&rt, &mut node, batch, 0, 0);
-    assert_eq!(rt; node.queue_len(), 0);
-    assert_eq!(rt; node.frames_held(), 512);
-    assert_eq!(rt; node.frames_given(), 512);
-    assert_eq!(rt; node.counters().split_page, 0);
+    expect_queued(&rt, &node, 0);
+    expect_frames(&rt, &node, 512, 512);
+    expect_none_split(&rt, &node);
 }
 
 #[test]
@@ -48,7 +53,7 @@ fn closed_node_drops(rt: HostRuntime) {
         (Call::UnmapSub(zero, 1, 1), stays()),
     ];
     expect(&rt, &mut node, 0, &closed);
-    assert_eq!(rt; node.queue_len(), 0);
+    expect_queued(&rt, &node, 0);
 }
 
 #[test]
@@ -98,7 +103,7 @@ fn batches_of_two_callers(rt: HostRuntime) {
     expect_put_back(&rt, &mut node, first, 1, 0);
     let third = take_these(&rt, &mut node, 1, 3, &[two, one, zero]);
     third.abandon();
-    assert_eq!(rt; node.queue_len(), 0);
+    expect_queued(&rt, &node, 0);
     expect_has_batch(&rt, &mut node, 1, 1);
 }
 
@@ -121,7 +126,17 @@ fn freed_around_a_batch(rt: HostRuntime) {
     expect_scan(&rt, &mut node, 2, 3, scanned(1, 1, 0, 0, 0));
     let last = changed(Outcome::Freed, SubSet::range(1, 511));
     expect(&rt, &mut node, 1, &[(Call::UnmapSub(one, 1, 511), last)]);
-    assert_eq!(rt; node.frames_held(), 0);
+    expect_frames(&rt, &node, 0, 1536);
+}
+
+fn block_of(node: &Node, page: PageId) -> Option<u32> {
+    node.table().block_of(page)
+}
+
+// The oldest block of a queue of one page.
+fn only_block(rt: &impl Abort, node: &Node) -> Option<u32> {
+    assert_eq!(rt; node.queue().len(), 1);
+    node.queue().front()
 }
 
 // The queue stands in the table's links, by the blocks of its pages.
@@ -129,7 +144,7 @@ fn freed_around_a_batch(rt: HostRuntime) {
 fn queue_stands_in_the_table(rt: HostRuntime) {
     let mut node = node_with_queued(&rt, rt.alloc(), 2);
     let (zero, one) = (PageId(0), PageId(1));
-    let block = node.table().block_of(one);
+    let block = block_of(&node, one);
     assert!(rt; block.is_some());
     expect(
         &rt,
@@ -137,7 +152,6 @@ fn queue_stands_in_the_table(rt: HostRuntime) {
         0,
         &[(Call::UnmapSub(zero, 1, 511), freed())],
     );
-    assert_eq!(rt; node.queue().len(), 1);
-    assert_eq!(rt; node.queue().front(), block);
-    assert_eq!(rt; node.table().block_of(zero), None);
+    assert_eq!(rt; only_block(&rt, &node), block);
+    assert_eq!(rt; block_of(&node, zero), None);
 }

@@ -50,7 +50,11 @@ pub(crate) fn changed(outcome: Outcome, released: SubSet) -> Answer {
 
 // A node of order 9 with these blocks.
 pub(crate) fn node_of(rt: &impl Abort, alloc: Global, blocks: u32) -> Node {
-    Node::new(alloc, Shape { blocks, order: 9 }).expect(rt, "a node of this shape")
+    node_of_shape(rt, alloc, Shape { blocks, order: 9 })
+}
+
+pub(crate) fn node_of_shape(rt: &impl Abort, alloc: Global, shape: Shape) -> Node {
+    Node::new(alloc, shape).expect(rt, "a node of this shape")
 }
 
 // A caller makes these calls one after the other, each with its answer.
@@ -118,6 +122,22 @@ pub(crate) fn node_with_queued(rt: &impl Abort, alloc: Global, pages: u64) -> No
         queue_page(rt, &mut node, PageId(number));
     }
     node
+}
+
+// How many pages the node's queue has.
+pub(crate) fn expect_queued(rt: &impl Abort, node: &Node, pages: u32) {
+    assert_eq!(rt; node.queue_len(), pages);
+}
+
+// How many frames the node's pages hold, and how many were given back.
+pub(crate) fn expect_frames(rt: &impl Abort, node: &Node, held: u128, given: u128) {
+    assert_eq!(rt; node.frames_held(), held);
+    assert_eq!(rt; node.frames_given(), given);
+}
+
+// How many events the node's journal has.
+pub(crate) fn event_count(node: &Node) -> usize {
+    node.journal().len()
 }
 
 pub(crate) fn last_event(node: &Node) -> Option<Event> {

@@ -1,13 +1,12 @@
 //! A batch of the most pages, all of them pinned.
-ghost use Rattle.std.specs.Prelude.{◌≡◌};
-ghost use Rattle.thp_node.specs.Batches.{IsInFront, FrontsStay};
 
-use crate::batches::{expect_put_back, expect_scan, expect_tries, scanned, take};
-use crate::calls::{Answer, Call, expect, node_of, queue_page};
-use std::alloc::Global;
+use crate::batches::{expect_put_back, expect_scan, expect_tries, scanned, take_these};
+use crate::calls::{Answer, Call, event_count, expect, expect_queued, node_of, queue_page};
+use std::alloc::{AllocError, Global};
 use std::process::Abort;
+use std::test::Fail;
 use thp_model::{PageId, What};
-use thp_node::{Batch, Node, Tried};
+use thp_node::{Node, Tried};
 
 // The most pages of a batch.
 const MOST: u64 = 128;
@@ -46,40 +45,37 @@ fn expect_round(rt: &impl Abort, node: &Node, from: usize) {
 #[test]
 fn scan_of_a_full_batch(rt: HostRuntime) {
     let mut node = node_of_pinned(&rt, rt.alloc());
-    assert_eq!(rt; node.queue_len(), 128);
-    let from = node.journal().len();
+    expect_queued(&rt, &node, 128);
+    let from = event_count(&node);
     assert_eq!(rt; node.reserve(384), Ok(()));
     expect_scan(&rt, &mut node, 0, 128, scanned(128, 0, 128, 128, 0));
-    assert_eq!(rt; node.queue_len(), 128);
+    expect_queued(&rt, &node, 128);
     expect_round(&rt, &node, from);
 }
 
-// Tries each page of a full batch.
-fn try_all(rt: &impl Abort, node: &mut Node, batch: &mut Batch)
-    requires { IsInFront node.old.journal batch.old }
-    ensures front { IsInFront node.new.journal batch.new }
-    ensures fronts { FrontsStay node.old.journal node.new.journal }
-    ensures same_caller { batch.new.caller ≡ batch.old.caller }
-{
+// The pages 0 to 127, and what a try of each answers before the last try finds none left.
+fn pages_and_tries(alloc: Global) -> Result<(Vec<PageId>, Vec<Tried>), AllocError> {
+    let mut pages = Vec::new(alloc);
+    let mut tries = Vec::new(alloc);
     for number in 0..MOST {
-        expect_tries(rt, node, batch, &[Tried::Pinned(PageId(number))]);
+        pages.push(PageId(number))?;
+        tries.push(Tried::Pinned(PageId(number)))?;
     }
-    expect_tries(rt, node, batch, &[Tried::Done]);
+    tries.push(Tried::Done)?;
+    Ok((pages, tries))
 }
 
 #[test]
-fn tries_of_a_full_batch(rt: HostRuntime) {
+fn tries_of_a_full_batch(rt: HostRuntime) -> Result<(), Fail> {
+    let (pages, tries) = pages_and_tries(rt.alloc())?;
     let mut node = node_of_pinned(&rt, rt.alloc());
-    let from = node.journal().len();
+    let from = event_count(&node);
     assert_eq!(rt; node.reserve(384), Ok(()));
-    let mut batch = take(&rt, &mut node, 5, 128);
-    assert_eq!(rt; batch.pages().len(), 128);
-    for (number, &page) in (0..MOST).zip(batch.pages()) {
-        assert_eq!(rt; page, PageId(number));
-    }
-    assert_eq!(rt; node.queue_len(), 0);
-    try_all(&rt, &mut node, &mut batch);
+    let mut batch = take_these(&rt, &mut node, 5, 128, &pages);
+    expect_queued(&rt, &node, 0);
+    expect_tries(&rt, &mut node, &mut batch, &tries);
     expect_put_back(&rt, &mut node, batch, 128, 0);
-    assert_eq!(rt; node.queue_len(), 128);
+    expect_queued(&rt, &node, 128);
     expect_round(&rt, &node, from);
+    Ok(())
 }

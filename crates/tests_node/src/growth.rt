@@ -4,7 +4,9 @@ ghost use Rattle.std.specs.Prelude.{◌<◌, ◌≤◌};
 ghost use Rattle.thp_node.specs.Batches.{IsInFront, FrontsStay};
 
 use crate::batches::scanned;
-use crate::calls::{Answer, Call, answer_of, expect, queued, stays};
+use crate::calls::{
+    Answer, Call, answer_of, event_count, expect, expect_queued, node_of_shape, queued, stays,
+};
 use std::alloc::Global;
 use std::process::Abort;
 use thp_model::{PageId, Refusal, Shape};
@@ -22,7 +24,7 @@ struct View {
 
 fn view_of(node: &Node) -> View {
     View {
-        events: node.journal().len(),
+        events: event_count(node),
         queued: node.queue_len(),
         held: node.frames_held(),
         given: node.frames_given(),
@@ -41,7 +43,7 @@ fn node_at_last(rt: &impl Abort, alloc: Global, shape: Shape) -> Node {
         Ok(node) => return node,
         Err(fault) => assert_eq!(rt; fault, NewFault::OutOfMemory),
     }
-    Node::new(alloc, shape).expect(rt, "a node at the second try")
+    node_of_shape(rt, alloc, shape)
 }
 
 // Makes these calls one after the other, each with its answer at the second try at the latest.
@@ -144,7 +146,7 @@ fn put_back_after_pins(rt: &impl Abort, alloc: Global, pins: usize) {
     let mut batch = take_at_last(rt, &mut node, 1);
     let tried = try_at_last(rt, &mut node, &mut batch);
     assert_eq!(rt; tried, Tried::Pinned(page));
-    assert_eq!(rt; node.journal().len(), pins.saturating_add(5));
+    assert_eq!(rt; event_count(&node), pins.saturating_add(5));
     let reply = return_at_last(rt, &mut node, batch);
     assert_eq!(rt;
         reply,
@@ -153,7 +155,7 @@ fn put_back_after_pins(rt: &impl Abort, alloc: Global, pins: usize) {
             dropped: 0
         }
     );
-    assert_eq!(rt; node.queue_len(), 1);
+    expect_queued(rt, &node, 1);
 }
 
 // The growth that is refused falls into the put-back for some of these numbers of pins.
@@ -203,7 +205,7 @@ fn each_growth_refused(rt: HostRuntime) {
         }
     );
     expect_at_last(&rt, &mut node, 0, &[(Call::Close, Answer::Done)]);
-    assert_eq!(rt; node.queue_len(), 4);
+    expect_queued(&rt, &node, 4);
 }
 
 // A `reserve` that succeeds leaves room for what it was asked for.

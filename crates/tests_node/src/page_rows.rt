@@ -1,6 +1,8 @@
 //! Rows on the calls about one page: refusals, limits and ranges.
 use crate::batches::{expect_scan, scanned};
-use crate::calls::{Answer, Call, changed, expect, freed, last_event, node_of, queued, stays};
+use crate::calls::{
+    Answer, Call, changed, expect, expect_frames, freed, last_event, node_of, queued, stays,
+};
 use std::process::Abort;
 use thp_model::{Event, Outcome, PageId, Refusal, SubSet, What};
 use thp_node::Node;
@@ -34,8 +36,7 @@ fn refusals_after_a_split(rt: HostRuntime) {
         (Call::UnmapSub(page, 0, 1), Answer::Refused(Refusal::NoPage)),
     ];
     expect(&rt, &mut node, 0, &refused);
-    assert_eq!(rt; node.frames_held(), 0);
-    assert_eq!(rt; node.frames_given(), 512);
+    expect_frames(&rt, &node, 0, 512);
 }
 
 #[test]
@@ -62,8 +63,7 @@ fn refusals_before_a_split(rt: HostRuntime) {
     assert_eq!(rt; last_event(&node), Some(Event { caller: 0, what }));
     let two = changed(Outcome::Stays, SubSet::range(5, 2));
     expect(&rt, &mut node, 0, &[(Call::UnmapSub(page, 5, 2), two)]);
-    assert_eq!(rt; node.frames_held(), 508);
-    assert_eq!(rt; node.frames_given(), 4);
+    expect_frames(&rt, &node, 508, 4);
 }
 
 #[test]
@@ -152,8 +152,7 @@ fn no_free_block(rt: HostRuntime) {
         (Call::Alloc, Answer::Page(PageId(1))),
     ];
     expect(&rt, &mut node, 0, &steps);
-    assert_eq!(rt; node.frames_held(), 512);
-    assert_eq!(rt; node.frames_given(), 512);
+    expect_frames(&rt, &node, 512, 512);
 }
 
 #[test]

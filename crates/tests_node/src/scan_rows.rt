@@ -1,6 +1,9 @@
 //! Rows on scans, with the events that they record.
 use crate::batches::{expect_scan, scanned};
-use crate::calls::{Answer, Call, expect, freed, node_of, node_with_queued, queue_page, stays};
+use crate::calls::{
+    Answer, Call, expect, expect_frames, expect_queued, freed, node_of, node_with_queued,
+    queue_page, stays,
+};
 use std::process::Abort;
 use thp_model::{Event, Outcome, PageId, Shape, SubSet, What};
 use thp_node::{Counters, NewFault, Node};
@@ -12,6 +15,10 @@ fn expect_since(rt: &impl Abort, node: &Node, from: usize, whats: &[What]) {
     for (place, (event, &what)) in events.iter().skip(from).zip(whats).enumerate() {
         assert_eq!(rt; *event, Event { caller: 0, what }, "event {place}");
     }
+}
+
+fn expect_counters(rt: &impl Abort, node: &Node, counters: Counters) {
+    assert_eq!(rt; node.counters(), counters);
 }
 
 fn taken(page: PageId) -> What {
@@ -41,16 +48,15 @@ fn two_of_three_oldest(rt: HostRuntime) {
     expect_scan(&rt, &mut node, 0, 2, scanned(2, 2, 0, 0, 0));
     let events = [taken(zero), taken(one), split(zero), split(one)];
     expect_since(&rt, &node, 9, &events);
-    assert_eq!(rt; node.queue_len(), 1);
-    assert_eq!(rt; node.frames_held(), 1534);
-    assert_eq!(rt; node.frames_given(), 2);
+    expect_queued(&rt, &node, 1);
+    expect_frames(&rt, &node, 1534, 2);
     let counters = Counters {
         split_page: 2,
         split_page_failed: 0,
         deferred_split_page: 3,
         split_pmd: 3,
     };
-    assert_eq!(rt; node.counters(), counters);
+    expect_counters(&rt, &node, counters);
 }
 
 #[test]
@@ -69,7 +75,7 @@ fn freed_while_queued(rt: HostRuntime) {
     let last = [(Call::UnmapSub(PageId(0), 1, 511), freed())];
     expect(&rt, &mut node, 0, &last);
     queue_page(&rt, &mut node, PageId(1));
-    assert_eq!(rt; node.queue_len(), 1);
+    expect_queued(&rt, &node, 1);
     expect_scan(&rt, &mut node, 0, 8, scanned(1, 1, 0, 0, 0));
 }
 
@@ -79,7 +85,7 @@ fn pinned_goes_to_the_tail(rt: HostRuntime) {
     let (zero, one, two) = (PageId(0), PageId(1), PageId(2));
     expect(&rt, &mut node, 0, &[(Call::Pin(one), Answer::Done)]);
     expect_scan(&rt, &mut node, 0, 3, scanned(3, 2, 1, 1, 0));
-    assert_eq!(rt; node.queue_len(), 1);
+    expect_queued(&rt, &node, 1);
     expect(&rt, &mut node, 0, &[(Call::Unpin(one), stays())]);
     expect_scan(&rt, &mut node, 0, 3, scanned(1, 1, 0, 0, 0));
     let unpin = What::Unpin {
@@ -135,8 +141,13 @@ fn all_pinned_rotate(rt: HostRuntime) {
         back(one),
     ];
     expect_since(&rt, &node, 18, &second);
-    assert_eq!(rt; node.counters().split_page_failed, 5);
-    assert_eq!(rt; node.counters().deferred_split_page, 3);
+    let counters = Counters {
+        split_page: 0,
+        split_page_failed: 5,
+        deferred_split_page: 3,
+        split_pmd: 3,
+    };
+    expect_counters(&rt, &node, counters);
 }
 
 #[test]
@@ -145,9 +156,14 @@ fn split_of_a_mapped_page(rt: HostRuntime) {
     let mapped = [(Call::MapWhole(PageId(0)), Answer::Done)];
     expect(&rt, &mut node, 0, &mapped);
     expect_scan(&rt, &mut node, 0, 1, scanned(1, 1, 0, 0, 0));
-    assert_eq!(rt; node.frames_held(), 512);
-    assert_eq!(rt; node.frames_given(), 0);
-    assert_eq!(rt; node.counters().split_pmd, 2);
+    expect_frames(&rt, &node, 512, 0);
+    let counters = Counters {
+        split_page: 1,
+        split_page_failed: 0,
+        deferred_split_page: 1,
+        split_pmd: 2,
+    };
+    expect_counters(&rt, &node, counters);
 }
 
 #[test]

@@ -14,8 +14,11 @@ pub(crate) enum Call {
     SplitPmd,
     Pin,
     Unpin,
-    // of a page that the row knows can be split
-    Split,
+    // of `count` subpages from `first` on
+    Write(u32, u32),
+    Zero(u32, u32),
+    // of a page that the row knows can be split, with the frames of its zero-filled subpages or without
+    Split(bool),
 }
 
 // What a call answers.
@@ -53,14 +56,16 @@ fn answer_of(rt: &impl Abort, page: &mut Page, call: Call) -> Answer {
         Call::SplitPmd => done(page.split_pmd()),
         Call::Pin => done(page.pin()),
         Call::Unpin => done(page.unpin()),
-        Call::Split => split(rt, page),
+        Call::Write(first, count) => done(page.write(first, count)),
+        Call::Zero(first, count) => done(page.zero(first, count)),
+        Call::Split(give_zero) => split(rt, page, give_zero),
     }
 }
 
-fn split(rt: &impl Abort, page: &mut Page) -> Answer {
+fn split(rt: &impl Abort, page: &mut Page, give_zero: bool) -> Answer {
     assert!(rt; !page.is_split());
     assert_eq!(rt; page.pins(), 0);
-    Answer::GaveBack(page.split())
+    Answer::GaveBack(page.split(give_zero))
 }
 
 fn done(reply: Result<(), Refusal>) -> Answer {

@@ -14,3 +14,5 @@ mod page_rows;
 mod sets;
 #[cfg(test)]
 mod table;
+#[cfg(test)]
+mod zero_rows;

@@ -64,7 +64,7 @@ fn refusals_after_a_split_at(rt: &impl Abort, order: u32, last: u32)
     let steps = [
         (Call::SplitPmd, Answer::Done),
         (Call::UnmapSub(1, last), change(true, true)),
-        (Call::Split, Answer::GaveBack(SubSet::range(1, last))),
+        (Call::Split(false), Answer::GaveBack(SubSet::range(1, last))),
         (Call::MapSub(1, 1), Answer::Refused(Refusal::Gone)),
         (Call::UnmapSub(1, 1), Answer::Refused(Refusal::NotMapped)),
         (Call::MapSub(0, 1), Answer::Done),
@@ -111,7 +111,7 @@ fn refusals_before_a_split_at(rt: &impl Abort, order: u32, first: u32)
         (Call::UnmapWhole, Answer::Refused(Refusal::NotMapped)),
         (Call::UnmapSub(0, 1), change(true, true)),
         (Call::UnmapSub(3, 1), change(true, true)),
-        (Call::Split, Answer::GaveBack(unused)),
+        (Call::Split(false), Answer::GaveBack(unused)),
         (Call::UnmapSub(first, 2), given_back),
     ];
     expect(rt, &mut page, &steps);
@@ -187,7 +187,7 @@ fn split_of_a_mapped_page_at(rt: &impl Abort, order: u32, last: u32)
     assert_eq!(rt; page.in_use_set(), SubSet::range(1, last));
     let split = [
         (Call::MapWhole, Answer::Done),
-        (Call::Split, Answer::GaveBack(SubSet::empty())),
+        (Call::Split(false), Answer::GaveBack(SubSet::empty())),
     ];
     expect(rt, &mut page, &split);
     assert_eq!(rt; page.whole(), 0);

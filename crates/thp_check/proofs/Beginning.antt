@@ -30,9 +30,10 @@ not_taking c = refl
 
 -- an empty replay means the empty history
 pub means_none : (s : Shape) (r : Replay) → length r.places.table.slots ≡ s.blocks → r.places.table.order ≡ s.order → ((b : ℕ) → slot_at r.places.table b ≡ None) → r.places.queue ≡ [] →
-    ((c : ℕ) → blocks_in r.flights c ≡ []) → length r.flights.callers ≡ s.blocks → r.next ≡ 0 → r.closed ≡ false → r.taker ≡ None → Means s [] r
-means_none s r size order empty none fs room next closed taker = record {
+    ((c : ℕ) → blocks_in r.flights c ≡ []) → length r.flights.callers ≡ s.blocks → r.shape ≡ s → r.next ≡ 0 → r.closed ≡ false → r.taker ≡ None → Means s [] r
+means_none s r size order empty none fs room shape next closed taker = record {
   kept = record {
+    shape_is = shape;
     node = node_none s r.places.table r.places.queue size order empty none;
     flying = λ c. ap (map (block_of [])) (flight_none c) ∙ ap (map (λ b. Some b)) (sym (fs c));
     room = room;
@@ -43,10 +44,11 @@ means_none s r size order empty none fs room next closed taker = record {
 }
 
 -- a replay that notes whether the event was a take
-pub means_after : (s : Shape) (h : History) (e : Event) (r t : Replay) → Keeps s (h ++ e ∷ []) r → t.places ≡ r.places → t.flights ≡ r.flights → t.next ≡ r.next → t.closed ≡ r.closed →
+pub means_after : (s : Shape) (h : History) (e : Event) (r t : Replay) → Keeps s (h ++ e ∷ []) r → t.shape ≡ r.shape → t.places ≡ r.places → t.flights ≡ r.flights → t.next ≡ r.next → t.closed ≡ r.closed →
     ((c : ℕ) → takes_by c e.caller e.what ≡ is_taker t.taker c) → Means s (h ++ e ∷ []) t
-means_after s h e r t k pages fs next closed taker = record {
+means_after s h e r t k shape pages fs next closed taker = record {
   kept = record {
+    shape_is = shape ∙ k.shape_is;
     node = rw pages k.node;
     flying = λ c. k.flying c ∙ ap (λ f. map (λ b. Some b) (blocks_in f c)) (sym fs);
     room = ap (λ (f : FlightsState). length f.callers) fs ∙ k.room;

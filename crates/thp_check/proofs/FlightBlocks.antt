@@ -110,6 +110,8 @@ gain_home h c p gain.MapWhole r = block_push h (by c (gain_what gain.MapWhole p)
 gain_home h c p (gain.MapSub f n) r = block_push h (by c (gain_what (gain.MapSub f n) p)) r
 gain_home h c p gain.SplitPmd r = block_push h (by c (gain_what gain.SplitPmd p)) r
 gain_home h c p gain.Pin r = block_push h (by c (gain_what gain.Pin p)) r
+gain_home h c p (gain.Write f n) r = block_push h (by c (gain_what (gain.Write f n) p)) r
+gain_home h c p (gain.Zero f n) r = block_push h (by c (gain_what (gain.Zero f n) p)) r
 
 -- a loss leaves every page that it doesn't free
 loss_home : (h : History) (c p : ℕ) (l : Loss) (o : Outcome) (set : List Bool) (r : ℕ) → (nat_eq r p && is_freed o) ≡ false → block_of (h ++ by c (loss_what l p o set) ∷ []) r ≡ block_of h r

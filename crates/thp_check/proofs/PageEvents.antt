@@ -39,6 +39,8 @@ gain_allowed s h c p gain.MapWhole f = f
 gain_allowed s h c p (gain.MapSub first n) f = f
 gain_allowed s h c p gain.SplitPmd f = f
 gain_allowed s h c p gain.Pin f = f
+gain_allowed s h c p (gain.Write first n) f = f
+gain_allowed s h c p (gain.Zero first n) f = f
 
 -- a gain leaves each flight
 pub gain_flight : (h : History) (c p : ℕ) (g : Gain) (d : ℕ) → flight (h ++ by c (gain_what g p) ∷ []) d ≡ flight h d
@@ -46,6 +48,8 @@ gain_flight h c p gain.MapWhole d = flight_push h d c (gain_what gain.MapWhole p
 gain_flight h c p (gain.MapSub f n) d = flight_push h d c (gain_what (gain.MapSub f n) p)
 gain_flight h c p gain.SplitPmd d = flight_push h d c (gain_what gain.SplitPmd p)
 gain_flight h c p gain.Pin d = flight_push h d c (gain_what gain.Pin p)
+gain_flight h c p (gain.Write f n) d = flight_push h d c (gain_what (gain.Write f n) p)
+gain_flight h c p (gain.Zero f n) d = flight_push h d c (gain_what (gain.Zero f n) p)
 
 -- what the fitting event of a loss says
 pub loss_allowed : (s : Shape) (h : History) (c p : ℕ) (l : Loss) (o : Outcome) (r : List Bool) → Fits s h (by c (loss_what l p o r)) → refusal s h (loss_call l p) ≡ None
@@ -64,7 +68,7 @@ pub loss_told : (s : Shape) (h : History) (c b : ℕ) (x : Slot) (l : Loss) (clo
 loss_told s h c b x l closed old new done left o set homed was shut lost f =
     let w : What = loss_what l x.id o set in
     let e : Event = by c w in
-    let by : ByOutcome w x.id o = by_outcome l x.id o set in
+    let by : ByOutcome s w x.id o = by_outcome s l x.id o set in
     let live : is_live h x.id ≡ true = (homed.from x.id b was.home).live in
     let gives : Gives s h (h ++ e ∷ []) x.id o set = loss_gives s h c x.id l o set f in
     let after : Tallies s (h ++ e ∷ []) x.id lost.page = tallies_loss s h c x.id l o set x.page lost.page was.tallies lost.how in
@@ -81,11 +85,11 @@ loss_flight_by h c p (loss.UnmapSub f n) o r d = flight_push h d c (loss_what (l
 loss_flight_by h c p loss.Unpin o r d = flight_push h d c (loss_what loss.Unpin p o r)
 
 -- a freed page leaves the flight in which it stands, and no other
-freed_leaves : (h : History) (p d : ℕ) → Sound h → without p (flight h d) ≡ flight_left (batch_of (standing_of h p)) p d (flight h d)
-freed_leaves h p d sound =
+freed_leaves : (s : Shape) (h : History) (p d : ℕ) → Sound s h → without p (flight h d) ≡ flight_left (batch_of (standing_of s h p)) p d (flight h d)
+freed_leaves s h p d sound =
     by_bool (has_page p (flight h d)) _
-    (λ y. sym (ap (λ w. flight_left (batch_of w) p d (flight h d)) (standing_flying h p d sound y) ∙ ap (λ b. cond b (without p (flight h d)) (flight h d)) (eq-eqb d d refl)))
-    (λ y. let same : without p (flight h d) ≡ flight h d = without_none p (flight h d) (times_hasnt p (flight h d) y) in go (batch_of (standing_of h p)) same) where
+    (λ y. sym (ap (λ w. flight_left (batch_of w) p d (flight h d)) (standing_flying s h p d sound y) ∙ ap (λ b. cond b (without p (flight h d)) (flight h d)) (eq-eqb d d refl)))
+    (λ y. let same : without p (flight h d) ≡ flight h d = without_none p (flight h d) (times_hasnt p (flight h d) y) in go (batch_of (standing_of s h p)) same) where
       go : (o : Option ℕ) → without p (flight h d) ≡ flight h d → without p (flight h d) ≡ flight_left o p d (flight h d)
       go None e = e
       go (Some c) e = both (nat_eq c d) where
@@ -98,7 +102,7 @@ pub loss_flight : (s : Shape) (h : History) (c b : ℕ) (x : Slot) (l : Loss) (c
     Lost l closed x old new b done left → flight (h ++ by c (loss_what l x.id done.outcome r) ∷ []) d ≡ flight_left left x.id d (flight h d)
 loss_flight s h c b x l closed old new done left r d homed was lost =
     loss_flight_by h c x.id l done.outcome r d ∙ go done.outcome ∙ ap (λ o. flight_left o x.id d (flight h d)) (sym (lost.left_is ∙ ap (left_by done.outcome) was.stands)) where
-      go : (o : Outcome) → flight_by (flight h d) x.id o ≡ flight_left (left_by o (standing_of h x.id)) x.id d (flight h d)
-      go outcome.Freed = freed_leaves h x.id d homed.grown.sound
+      go : (o : Outcome) → flight_by (flight h d) x.id o ≡ flight_left (left_by o (standing_of s h x.id)) x.id d (flight h d)
+      go outcome.Freed = freed_leaves s h x.id d homed.grown.sound
       go outcome.Queued = refl
       go outcome.Stays = refl

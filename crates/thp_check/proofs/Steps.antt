@@ -10,20 +10,20 @@ use Rattle.thp_model.specs.History.{History, by, some_event}
 use Rattle.thp_model.specs.Counts.{is_alloc, is_live, frees, closes, is_closed, allocations}
 use Rattle.thp_model.specs.Frames.{block_in_use}
 use Rattle.thp_model.specs.Legal.{Fits, FitsAlloc, IsLegal}
-use Rattle.thp_model.specs.Pages.{PageState, IsFresh, Tallies, page_refusal}
+use Rattle.thp_model.specs.Pages.{PageState, Tallies, page_refusal}
 use Rattle.thp_model.specs.Places.{flight, has_page}
 use Rattle.thp_model.specs.Refusals.{refusal}
 use Rattle.thp_model.specs.Refusals as call
+use Rattle.thp_model.specs.Underused.{shrinks_underused}
 use Rattle.thp_model.proofs.Allowed.{allowed_alloc as closed_alloc, allowed_close as closed_close}
 use Rattle.thp_model.proofs.Bools.{by_bool}
 use Rattle.thp_model.proofs.Flights.{flight_push}
 use Rattle.thp_model.proofs.OnePlace.{flies_live}
 use Rattle.thp_model.proofs.Pushes.{count_same, count_more, some_same, some_event_push}
-use Rattle.thp_page.specs.declared.standing.Standing.TheVariants.{Nowhere}
 use Rattle.thp_page.specs.Slots.{slot_at, HoldsPage}
 use Rattle.thp_page.specs.Table.{Slot}
 use Rattle.thp_places.specs.declared.page_call.Done.{Done}
-use Rattle.thp_places.specs.PlacesState.{PlacesState, AtSlot, Edits, Lost}
+use Rattle.thp_places.specs.PlacesState.{PlacesState, AtSlot, Edits, Lost, Placed}
 use Rattle.thp_places.specs.Holding.{IsNode}
 use Rattle.thp_places.proofs.Admitting.{Found, found, not_live}
 use Rattle.thp_places.proofs.Closing.{allowed_alloc, allowed_close, next_is_new}
@@ -52,8 +52,9 @@ some_none r o e f = cc
 -- the numbers of a replay are the same after an event that neither allocates a page nor closes the node
 pub goes_on : (s : Shape) (h : History) (e : Event) (old new : Replay) → Means s h old → IsNode s (h ++ e ∷ []) new.places.table new.places.queue →
     ((d : ℕ) → LieIn (h ++ e ∷ []) (flight (h ++ e ∷ []) d) (blocks_in new.flights d)) → length new.flights.callers ≡ length old.flights.callers → is_alloc e.what ≡ false → closes e.what ≡ false →
-    new.next ≡ old.next → new.closed ≡ old.closed → Keeps s (h ++ e ∷ []) new
-goes_on s h e old new m node fs size a k next closed = record {
+    new.shape ≡ old.shape → new.next ≡ old.next → new.closed ≡ old.closed → Keeps s (h ++ e ∷ []) new
+goes_on s h e old new m node fs size a k shape next closed = record {
+  shape_is = shape ∙ m.kept.shape_is;
   node = node;
   flying = fs;
   room = size ∙ m.kept.room;
@@ -70,6 +71,8 @@ plain_gain gain.MapWhole p = (refl, refl)
 plain_gain (gain.MapSub f n) p = (refl, refl)
 plain_gain gain.SplitPmd p = (refl, refl)
 plain_gain gain.Pin p = (refl, refl)
+plain_gain (gain.Write f n) p = (refl, refl)
+plain_gain (gain.Zero f n) p = (refl, refl)
 
 plain_loss : (l : Loss) (p : ℕ) (o : Outcome) (r : List Bool) → (is_alloc (loss_what l p o r) ≡ false) × (closes (loss_what l p o r) ≡ false)
 plain_loss loss.UnmapWhole p o r = (refl, refl)
@@ -114,8 +117,8 @@ module _ (s : Shape) (h : History) (c p b : ℕ) (old : Replay) (m : Means s h o
   -- a page that gained
   pub gain_goes : (g : Gain) (new : Replay) → AtSlot old.places.table b (λ x. (q : ℕ) → None ≡ page_refusal x.page (gain_call g q)) →
       AtSlot old.places.table b (λ x. (t : PageState) × Gains g x.page t × Edits old.places new.places b (Some (record x { page = t })) old.places.queue 0) →
-      new.flights ≡ old.flights → new.next ≡ old.next → new.closed ≡ old.closed → Fits s h (by c (gain_what g p)) × Keeps s (h ++ by c (gain_what g p) ∷ []) new
-  gain_goes g new told did fs next closed =
+      new.shape ≡ old.shape → new.flights ≡ old.flights → new.next ≡ old.next → new.closed ≡ old.closed → Fits s h (by c (gain_what g p)) × Keeps s (h ++ by c (gain_what g p) ∷ []) new
+  gain_goes g new told did shape fs next closed =
       let x : Slot = there.slot in
       let gives = did x there.at in
       let allowed : refusal s h (gain_call g x.id) ≡ None = ap (λ q. refusal s h (gain_call g q)) there.id_is ∙ gain_refusal g ∙ sym (told x there.at p) in
@@ -124,14 +127,14 @@ module _ (s : Shape) (h : History) (c p b : ℕ) (old : Replay) (m : Means s h o
       subst P there.id_is (
         w.0,
         goes_on s h (by c (gain_what g x.id)) old new m w.1 (λ d. unmoved h (h ++ by c (gain_what g x.id) ∷ []) d (blocks_in new.flights d) (gain_flight h c x.id g d) (λ r y. gain_home h c x.id g r) (kept_blocks s h old new m fs d))
-            (ap (λ (f : FlightsState). length f.callers) fs) (plain_gain g x.id).0 (plain_gain g x.id).1 next closed,
+            (ap (λ (f : FlightsState). length f.callers) fs) (plain_gain g x.id).0 (plain_gain g x.id).1 shape next closed,
       )
 
   -- a page that lost, where the event tells what came of it
   pub loss_goes : (l : Loss) (o : Outcome) (set : List Bool) (new : Replay) (done : Done) (left : Option ℕ) → ((x : Slot) → slot_at old.places.table b ≡ Some x → (q : ℕ) → None ≡ page_refusal x.page (loss_call l q)) →
-      AtSlot old.places.table b (λ x. Lost l old.closed x old.places new.places b done left) → ((d : ℕ) → blocks_in new.flights d ≡ flight_left left b d (blocks_in old.flights d)) → length new.flights.callers ≡ length old.flights.callers → new.next ≡ old.next → new.closed ≡ old.closed →
+      AtSlot old.places.table b (λ x. Lost l old.closed x old.places new.places b done left) → ((d : ℕ) → blocks_in new.flights d ≡ flight_left left b d (blocks_in old.flights d)) → length new.flights.callers ≡ length old.flights.callers → new.shape ≡ old.shape → new.next ≡ old.next → new.closed ≡ old.closed →
       done.outcome ≡ o → done.released ≡ set → Fits s h (by c (loss_what l p o set)) × Keeps s (h ++ by c (loss_what l p o set) ∷ []) new
-  loss_goes l o set new done left refuses did fs size next closed same given =
+  loss_goes l o set new done left refuses did fs size shape next closed same given =
       let x : Slot = there.slot in
       let lost : Lost l old.closed x old.places new.places b done left = did x there.at in
       let allowed : refusal s h (loss_call l x.id) ≡ None = ap (λ q. refusal s h (loss_call l q)) there.id_is ∙ loss_refusal l ∙ sym (refuses x there.at p) in
@@ -143,7 +146,7 @@ module _ (s : Shape) (h : History) (c p b : ℕ) (old : Replay) (m : Means s h o
       (loss_flying_home h c x.id l done.outcome done.released d) (there.is.home, λ q y. homed.once q x.id b y there.is.home) (m.kept.flying d) ∙ ap (map (λ n. Some n)) (sym (fs d)) in
       let P : ℕ → Outcome → List Bool → Type 0 = λ q u t. Fits s h (by c (loss_what l q u t)) × Keeps s (h ++ by c (loss_what l q u t) ∷ []) new in
       let here : P x.id done.outcome done.released =
-      (fits.fits, goes_on s h (by c (loss_what l x.id done.outcome done.released)) old new m node flown size (plain_loss l x.id done.outcome done.released).0 (plain_loss l x.id done.outcome done.released).1 next closed) in
+      (fits.fits, goes_on s h (by c (loss_what l x.id done.outcome done.released)) old new m node flown size (plain_loss l x.id done.outcome done.released).0 (plain_loss l x.id done.outcome done.released).1 shape next closed) in
       subst (λ t. P p o t) given (subst (λ u. P p u done.released) same (subst (λ q. P q done.outcome done.released) there.id_is here))
 
   -- where the event fits, it tells what came of the page
@@ -164,11 +167,10 @@ new_dead s h p legal number =
 pub alloc_new : (s : Shape) (h : History) (p : ℕ) (old : Replay) → Means s h old → p ≡ old.next → (b : ℕ) → HoldsPage (slot_at old.places.table b) p → ⊥
 alloc_new s h p old m e = next_is_new s h old.places.table old.places.queue p m.kept.node (e ∙ m.kept.next_is)
 
-pub alloc_goes : (s : Shape) (h : History) (c p b : ℕ) (old new : Replay) → Means s h old → old.closed ≡ false → p ≡ old.next → b < length old.places.table.slots →
-    slot_at old.places.table b ≡ None → (page : PageState) → IsFresh old.places.table.order page →
-    Edits old.places new.places b (Some (record { id = p; page = page; standing = Nowhere })) old.places.queue 0 → new.flights ≡ old.flights → new.next ≡ old.next + 1 → new.closed ≡ old.closed →
-    Fits s h (by c (what.Alloc p b)) × Keeps s (h ++ by c (what.Alloc p b) ∷ []) new
-alloc_goes s h c p b old new m unclosed number inside empty page fresh did fs next closed =
+pub alloc_goes : (s : Shape) (h : History) (c p b : ℕ) (queued : Bool) (old new : Replay) → Means s h old → old.closed ≡ false → p ≡ old.next → b < length old.places.table.slots →
+    slot_at old.places.table b ≡ None → queued ≡ shrinks_underused old.shape → Placed p queued old.places new.places b → new.shape ≡ old.shape → new.flights ≡ old.flights → new.next ≡ old.next + 1 →
+    new.closed ≡ old.closed → Fits s h (by c (what.Alloc p b)) × Keeps s (h ++ by c (what.Alloc p b) ∷ []) new
+alloc_goes s h c p b queued old new m unclosed number inside empty switch did shape fs next closed =
     let t = old.places.table in
     let q = old.places.queue in
     let e : Event = by c (what.Alloc p b) in
@@ -177,7 +179,8 @@ alloc_goes s h c p b old new m unclosed number inside empty page fresh did fs ne
     let fits : Fits s h e = placed_fits s h c p b t q homed m.kept.node allowed (number ∙ m.kept.next_is) inside empty in (
       fits,
       record {
-        node = placed_node s h c p b page old.places new.places homed m.kept.node fits inside fresh did;
+        shape_is = shape ∙ m.kept.shape_is;
+        node = placed_node s h c p b homed fits queued old.places new.places m.kept.node inside (switch ∙ ap shrinks_underused m.kept.shape_is) did;
         flying = λ d. unmoved h (h ++ e ∷ []) d (blocks_in new.flights d) (flight_push h d c e.what) (λ r y. block_other h e r (other d r y)) (kept_blocks s h old new m fs d);
         room = ap (λ (f : FlightsState). length f.callers) fs ∙ m.kept.room;
         next_is = next ∙ ap (λ n. n + 1) m.kept.next_is ∙ sym (count_more is_alloc h e refl);
@@ -204,14 +207,15 @@ alloc_taken s h p b old m taken f = go (slot_at old.places.table b) refl (taken 
       no_both (block_in_use h b) f.free (block_taken s h x.id b (legal_homed s h m.kept.node.legal) (slot_is s h old.places.table old.places.queue b x m.kept.node e).home)
 
 -- a close
-pub close_goes : (s : Shape) (h : History) (c : ℕ) (old new : Replay) → Means s h old → old.closed ≡ false → new.places ≡ old.places → new.flights ≡ old.flights → new.next ≡ old.next →
+pub close_goes : (s : Shape) (h : History) (c : ℕ) (old new : Replay) → Means s h old → old.closed ≡ false → new.shape ≡ old.shape → new.places ≡ old.places → new.flights ≡ old.flights → new.next ≡ old.next →
     new.closed ≡ true → Fits s h (by c what.Close) × Keeps s (h ++ by c what.Close ∷ []) new
-close_goes s h c old new m unclosed pages fs next closed =
+close_goes s h c old new m unclosed shape pages fs next closed =
     let e : Event = by c what.Close in
     let fits : Fits s h e = allowed_close s h (sym m.kept.closed_is ∙ unclosed) in
     let P : PlacesState → Type 0 = λ k. IsNode s (h ++ e ∷ []) k.table k.queue in (
       fits,
       record {
+        shape_is = shape ∙ m.kept.shape_is;
         node = subst P (sym pages) (closed_node s h c old.places.table old.places.queue m.kept.node fits);
         flying = λ d. unmoved h (h ++ e ∷ []) d (blocks_in new.flights d) (flight_push h d c e.what) (λ r y. block_push h e r) (kept_blocks s h old new m fs d);
         room = ap (λ (f : FlightsState). length f.callers) fs ∙ m.kept.room;

@@ -1,5 +1,5 @@
 -- What a replay means after a take, a try, a put-back and a drop.
-use Rattle.std.proofs.Common.{◌≡◌, ◌≢◌, ℕ, ◌<◌, Bool, true, false, cond, nat_eq, ◌||◌, List, [], ◌∷◌, ◌++◌, Option, Some, length, map, Contains, refl, ap, ap₂, sym, ◌∙◌, subst, arith, inl, inr}
+use Rattle.std.proofs.Common.{◌≡◌, ◌≢◌, ℕ, ◌<◌, Bool, true, false, cond, not, nat_eq, ◌||◌, List, [], ◌∷◌, ◌++◌, Option, Some, length, map, Contains, refl, ap, ap₂, sym, ◌∙◌, subst, arith, inl, inr}
 use Rattle.std.specs.Prelude.{slice_get}
 use Rattle.thp_model.specs.declared.events.Event.{Event}
 use Rattle.thp_model.specs.declared.events.Outcome.{Outcome}
@@ -8,10 +8,11 @@ use Rattle.thp_model.specs.declared.events.What.{What}
 use Rattle.thp_model.specs.declared.events.What.TheVariants as what
 use Rattle.thp_model.specs.declared.shape.Shape.{Shape}
 use Rattle.thp_model.specs.History.{History, by}
-use Rattle.thp_model.specs.Counts.{is_live, pins}
-use Rattle.thp_model.specs.Legal.{Fits, FitsTaken, FitsSplit, IsLegal}
-use Rattle.thp_model.specs.Pages.{PageState, PageSplit, gives_frames}
+use Rattle.thp_model.specs.Counts.{is_live, is_closed, pins}
+use Rattle.thp_model.specs.Legal.{Fits, FitsTaken, FitsSplit, IsLegal, is_dropped}
+use Rattle.thp_model.specs.Pages.{PageState, PageSplit, gives_frames, is_worth}
 use Rattle.thp_model.specs.Places.{queue, flight, has_page, no_pages, is_taking}
+use Rattle.thp_model.specs.Underused.{is_partly_mapped, is_worth_split, shrinks_underused}
 use Rattle.thp_model.proofs.Flights.{flight_push}
 use Rattle.thp_model.proofs.OnePlace.{has_times}
 use Rattle.thp_model.proofs.PageOutcomes.{released_alive}
@@ -29,7 +30,8 @@ use Rattle.thp_places.specs.Homes.{block_of, standing_of}
 use Rattle.thp_places.proofs.Admitting.{Found, found, not_live, flies_not_there, flies_nowhere}
 use Rattle.thp_places.proofs.Homing.{Homed, legal_homed, block_push}
 use Rattle.thp_places.proofs.Keeping.{blocks_same, blocks_pushed}
-use Rattle.thp_places.proofs.ListEvents.{first_is, taken_fits, taken_node, in_flight, flying_live, flying_whole, split_fits, split_node, pinned_fits, pinned_node, back_node, dropped_node}
+use Rattle.thp_places.proofs.ListEvents.{first_is, taken_fits, taken_node, in_flight, flying_live, flying_whole, split_fits, split_node, pinned_fits, pinned_node, used_fits, used_node, back_fits, back_node, dropped_node}
+use Rattle.thp_places.proofs.Worth.{worth_is}
 use Rattle.thp_places.proofs.PageEvents.{slot_is}
 use Rattle.thp_places.proofs.Standings.{standing_queued, standing_flying}
 use Rattle.thp_places.specs.declared.page_call.Done.{Done}
@@ -43,6 +45,11 @@ use Rattle.thp_check.proofs.Steps.{goes_on}
 no_both : (z : Bool) → z ≡ false → z ≡ true → ⊥
 no_both z e f = cc
 
+neither : (a z : Bool) → (a || not z) ≡ false → (a ≡ false) × (z ≡ true)
+neither true z e = absurd (cc)
+neither false true e = (refl, refl)
+neither false false e = absurd (cc)
+
 -- whether a caller may take
 may_is : (s : Shape) (h : History) (c : ℕ) (old : Replay) → Means s h old → (no_pages (blocks_in old.flights c) || is_taker old.taker c) ≡ (no_pages (flight h c) || is_taking h c)
 may_is s h c old m = ap₂ (λ n t. n || t) (none_there h (flight h c) (blocks_in old.flights c) (m.kept.flying c)) (sym (m.taking c))
@@ -53,8 +60,8 @@ alone s h p b legal home = (home, λ r y. (legal_homed s h legal).once r p b y h
 
 pub take_goes : (s : Shape) (h : History) (c p b : ℕ) (old new : Replay) → Means s h old → HoldsPage (slot_at old.places.table b) p → (no_pages (blocks_in old.flights c) || is_taker old.taker c) ≡ true →
     TakesFirst old.places new.places c p → ((d : ℕ) → blocks_in new.flights d ≡ cond (nat_eq c d) (blocks_in old.flights d ++ b ∷ []) (blocks_in old.flights d)) →
-    length new.flights.callers ≡ length old.flights.callers → new.next ≡ old.next → new.closed ≡ old.closed → FitsTaken h c p × Keeps s (h ++ by c (what.Taken p) ∷ []) new
-take_goes s h c p b old new m held may took fs size next closed =
+    length new.flights.callers ≡ length old.flights.callers → new.shape ≡ old.shape → new.next ≡ old.next → new.closed ≡ old.closed → FitsTaken s h c p × Keeps s (h ++ by c (what.Taken p) ∷ []) new
+take_goes s h c p b old new m held may took fs size shape next closed =
     let e : Event = by c (what.Taken p) in
     let k : History = h ++ e ∷ [] in
     let homed : Homed s h = legal_homed s h m.kept.node.legal in
@@ -63,7 +70,7 @@ take_goes s h c p b old new m held may took fs size next closed =
     let flown : (d : ℕ) → LieIn k (flight k d) (blocks_in new.flights d) =
     λ d. ap (map (block_of k)) (flight_push h d c (what.Taken p)) ∙ blocks_same h k (cond (nat_eq c d) (flight h d ++ p ∷ []) (flight h d)) (λ r y. block_push h e r)
     ∙ longer d (nat_eq c d) there.home ∙ ap (map (λ n. Some n)) (sym (fs d)) in
-    (fits, goes_on s h e old new m (taken_node s h c old.places new.places p homed m.kept.node took fits) flown size refl refl next closed) where
+    (fits, goes_on s h e old new m (taken_node s h c old.places new.places p homed m.kept.node took fits) flown size refl refl shape next closed) where
       longer : (d : ℕ) (x : Bool) → block_of h p ≡ Some b → LieIn h (cond x (flight h d ++ p ∷ []) (flight h d)) (cond x (blocks_in old.flights d ++ b ∷ []) (blocks_in old.flights d))
       longer d true home = blocks_pushed h (flight h d) (blocks_in old.flights d) p b (m.kept.flying d) home
       longer d false home = m.kept.flying d
@@ -76,17 +83,17 @@ oldest_apart s h c p b old new m held took d i =
     let there : Found s h old.places.table p b = found s h old.places.table old.places.queue p b m.kept.node held in
     let w = page_there h (flight h d) (blocks_in old.flights d) b (m.kept.flying d) i in
     let same : w.0 ≡ p = homed.once w.0 p b w.2 there.home in
-    let queued : standing_of h p ≡ Queued = standing_queued h p (first_has p (queue h) (first_is s h c old.places new p homed m.kept.node took)) in
-    let flies : standing_of h p ≡ Batch d = standing_flying h p d homed.grown.sound (ap (λ r. has_page r (flight h d)) (sym same) ∙ w.1) in
+    let queued : standing_of s h p ≡ Queued = standing_queued s h p (first_has p (queue s h) (first_is s h c old.places new p homed m.kept.node took)) in
+    let flies : standing_of s h p ≡ Batch d = standing_flying s h p d homed.grown.sound (ap (λ r. has_page r (flight h d)) (sym same) ∙ w.1) in
     cc
 
 -- the oldest page lies somewhere
-pub take_absent : (s : Shape) (h : History) (c p : ℕ) (old : Replay) → Means s h old → ((b : ℕ) → HoldsPage (slot_at old.places.table b) p → ⊥) → FitsTaken h c p → ⊥
+pub take_absent : (s : Shape) (h : History) (c p : ℕ) (old : Replay) → Means s h old → ((b : ℕ) → HoldsPage (slot_at old.places.table b) p → ⊥) → FitsTaken s h c p → ⊥
 take_absent s h c p old m none f =
     no_both (is_live h p) (not_live s h old.places.table old.places.queue p m.kept.node none)
-    ((legal_homed s h m.kept.node.legal).grown.sound.live p (omega (arith, has_times p (queue h) (first_has p (queue h) f.oldest))))
+    ((legal_homed s h m.kept.node.legal).grown.sound.live p (omega (arith, has_times p (queue s h) (first_has p (queue s h) f.oldest))))
 
-pub take_busy : (s : Shape) (h : History) (c p : ℕ) (old : Replay) → Means s h old → (no_pages (blocks_in old.flights c) || is_taker old.taker c) ≡ false → FitsTaken h c p → ⊥
+pub take_busy : (s : Shape) (h : History) (c p : ℕ) (old : Replay) → Means s h old → (no_pages (blocks_in old.flights c) || is_taker old.taker c) ≡ false → FitsTaken s h c p → ⊥
 take_busy s h c p old m may f = no_both _ (sym (may_is s h c old m) ∙ may) f.may_take
 
 pub same_slot : (x y : Slot) → Some x ≡ Some y → x ≡ y
@@ -95,12 +102,12 @@ same_slot x y e = cc
 pub same_some : (a b : ℕ) → Some a ≡ Some b → a ≡ b
 same_some a b e = cc
 
-pub take_other : (s : Shape) (h : History) (c p first : ℕ) (old : Replay) (new : PlacesState) → Means s h old → TakesFirst old.places new c first → first ≢ p → FitsTaken h c p → ⊥
+pub take_other : (s : Shape) (h : History) (c p first : ℕ) (old : Replay) (new : PlacesState) → Means s h old → TakesFirst old.places new c first → first ≢ p → FitsTaken s h c p → ⊥
 take_other s h c p first old new m took other f =
     other (same_some first p (sym (first_is s h c old.places new first (legal_homed s h m.kept.node.legal) m.kept.node took) ∙ f.oldest))
 
-pub take_none : (s : Shape) (h : History) (c p : ℕ) (old : Replay) → Means s h old → length old.places.queue ≡ 0 → FitsTaken h c p → ⊥
-take_none s h c p old m none f = go (queue h) old.places.queue m.kept.node.queue_is none f.oldest where
+pub take_none : (s : Shape) (h : History) (c p : ℕ) (old : Replay) → Means s h old → length old.places.queue ≡ 0 → FitsTaken s h c p → ⊥
+take_none s h c p old m none f = go (queue s h) old.places.queue m.kept.node.queue_is none f.oldest where
   go : (ps bs : List ℕ) → map (block_of h) ps ≡ map (λ b. Some b) bs → length bs ≡ 0 → slice_get ps 0 ≡ Some p → ⊥
   go [] bs e n g = cc
   go (x ∷ ps) [] e n g = cc
@@ -122,8 +129,11 @@ elsewhere s h c p old m e =
 pub split_absent : (s : Shape) (h k : History) (c p : ℕ) (set : List Bool) (old : Replay) → Means s h old → IsElsewhere old.places.table c p → FitsSplit s h k c p set → ⊥
 split_absent s h k c p set old m e f = no_both _ (elsewhere s h c p old m e) f.in_flight
 
-pub pinned_absent : (s : Shape) (h : History) (c p : ℕ) (old : Replay) → Means s h old → IsElsewhere old.places.table c p → has_page p (flight h c) ≡ true × (0 < pins h p) → ⊥
+pub pinned_absent : (s : Shape) (h : History) (c p : ℕ) (old : Replay) → Means s h old → IsElsewhere old.places.table c p → has_page p (flight h c) ≡ true × (0 < pins h p) × (is_worth_split s h p ≡ true) → ⊥
 pinned_absent s h c p old m e f = no_both _ (elsewhere s h c p old m e) f.0
+
+pub used_absent : (s : Shape) (h : History) (c p : ℕ) (old : Replay) → Means s h old → IsElsewhere old.places.table c p → has_page p (flight h c) ≡ true × (is_worth_split s h p ≡ false) → ⊥
+used_absent s h c p old m e f = no_both _ (elsewhere s h c p old m e) f.0
 
 -- the first page of a flight is in the caller's batch
 pub first_absent : (s : Shape) (h : History) (c p : ℕ) (old : Replay) → Means s h old → IsElsewhere old.places.table c p → slice_get (flight h c) 0 ≡ Some p → ⊥
@@ -165,18 +175,34 @@ module _ (s : Shape) (h : History) (c p b : ℕ) (old : Replay) (m : Means s h o
       departed h (h ++ by c w ∷ []) d at.slot.id b (Some c) (blocks_in old.flights d) (is d) (λ r y. homes r) (alone s h at.slot.id b m.kept.node.legal home) (m.kept.flying d)
       ∙ ap (map (λ n. Some n)) (sym (fs d))
 
-  pub split_goes : (set : List Bool) (new : Replay) (page : PageState) → PageSplit at.slot.page page → at.slot.page.pins ≡ 0 → set ≡ gives_frames at.slot.page page →
+  -- whether it is worth a split, and what a split does, by the shape
+  worth_at : (x : Bool) → is_worth old.shape.underused at.slot.page ≡ x → is_worth s.underused at.slot.page ≡ x
+  worth_at x e = ap (λ (z : Shape). is_worth z.underused at.slot.page) (sym m.kept.shape_is) ∙ e
+
+  worth_as : is_worth old.shape.underused at.slot.page ≡ is_worth_split s h p
+  worth_as = sym (worth_at _ refl) ∙ worth_is s h at.slot.id at.slot.page slot.tallies ∙ ap (is_worth_split s h) at.id_is
+
+  worthy : is_worth old.shape.underused at.slot.page ≡ true → is_worth_split s h p ≡ true
+  worthy e = sym worth_as ∙ e
+
+  worthless : is_worth old.shape.underused at.slot.page ≡ false → is_worth_split s h p ≡ false
+  worthless e = sym worth_as ∙ e
+
+  splits : (page : PageState) → PageSplit (shrinks_underused old.shape) at.slot.page page → PageSplit (shrinks_underused s) at.slot.page page
+  splits page how = let P : Shape → Type 0 = λ z. PageSplit (shrinks_underused z) at.slot.page page in subst P m.kept.shape_is how
+
+  pub split_goes : (set : List Bool) (new : Replay) (page : PageState) → PageSplit (shrinks_underused old.shape) at.slot.page page → is_worth old.shape.underused at.slot.page ≡ true → at.slot.page.pins ≡ 0 → set ≡ gives_frames at.slot.page page →
       Edits old.places new.places b (Some (record at.slot { page = page; standing = Nowhere })) old.places.queue 0 → ((d : ℕ) → blocks_in new.flights d ≡ flight_left (Some c) b d (blocks_in old.flights d)) → length new.flights.callers ≡ length old.flights.callers →
-      new.next ≡ old.next → new.closed ≡ old.closed → Fits s h (by c (what.Split p set)) × Keeps s (h ++ by c (what.Split p set) ∷ []) new
-  split_goes set new page how none is did fs size next closed =
+      new.shape ≡ old.shape → new.next ≡ old.next → new.closed ≡ old.closed → Fits s h (by c (what.Split p set)) × Keeps s (h ++ by c (what.Split p set) ∷ []) new
+  split_goes set new page how worth none is did fs size shape next closed =
       let e : Event = by c (what.Split at.slot.id set) in
-      let fits : Fits s h e = (split_fits s h c b at.slot old.places new.places homed m.kept.node at.at at.stands page set how none is).1 in
-      let node = split_node s h c b at.slot old.places new.places homed m.kept.node at.at at.stands page set how fits did in
+      let fits : Fits s h e = (split_fits s h c b at.slot old.places new.places homed m.kept.node at.at at.stands page set (splits page how) (worth_at true worth) none is).1 in
+      let node = split_node s h c b at.slot old.places new.places homed m.kept.node at.at at.stands page set (splits page how) fits did in
       let P : ℕ → Type 0 = λ q. Fits s h (by c (what.Split q set)) × Keeps s (h ++ by c (what.Split q set) ∷ []) new in
-      subst P at.id_is (fits, goes_on s h e old new m node (left (what.Split at.slot.id set) new fs (λ d. flight_push h d c (what.Split at.slot.id set)) (λ r. block_push h e r)) size refl refl next closed)
+      subst P at.id_is (fits, goes_on s h e old new m node (left (what.Split at.slot.id set) new fs (λ d. flight_push h d c (what.Split at.slot.id set)) (λ r. block_push h e r)) size refl refl shape next closed)
 
   -- where the event fits, it tells the frames that the split gives back
-  pub split_tells : (set : List Bool) (page : PageState) → PageSplit at.slot.page page → Fits s h (by c (what.Split p set)) → gives_frames at.slot.page page ≡ set
+  pub split_tells : (set : List Bool) (page : PageState) → PageSplit (shrinks_underused old.shape) at.slot.page page → Fits s h (by c (what.Split p set)) → gives_frames at.slot.page page ≡ set
   split_tells set page how f =
       let P : ℕ → Type 0 = λ q. FitsSplit s h (h ++ by c (what.Split q set) ∷ []) c q set in
       let told : P at.slot.id = subst P (sym at.id_is) f in
@@ -184,41 +210,72 @@ module _ (s : Shape) (h : History) (c p b : ℕ) (old : Replay) (m : Means s h o
       let live : is_live h at.slot.id ≡ true = flying_live s h c b at.slot old.places old.places homed m.kept.node at.at at.stands in
       sym
       (told.set_is
-      ∙ released_alive s h (h ++ e ∷ []) at.slot.id at.slot.page page slot.tallies (tallies_split s h c at.slot.id set at.slot.page page slot.tallies how) live (live_stays h e at.slot.id refl refl ∙ live))
+      ∙ released_alive s h (h ++ e ∷ []) at.slot.id at.slot.page page slot.tallies (tallies_split s h c at.slot.id set at.slot.page page slot.tallies (splits page how)) live (live_stays h e at.slot.id refl refl ∙ live))
 
   pub split_pinned : (set : List Bool) → at.slot.page.pins ≢ 0 → Fits s h (by c (what.Split p set)) → ⊥
   split_pinned set some f = some (sym pinned_as ∙ f.unpinned)
 
-  pub pinned_goes : at.slot.page.pins ≢ 0 → Fits s h (by c (what.Pinned p)) × Keeps s (h ++ by c (what.Pinned p) ∷ []) old
-  pinned_goes some =
+  pub split_idle : (set : List Bool) → is_worth old.shape.underused at.slot.page ≡ false → Fits s h (by c (what.Split p set)) → ⊥
+  split_idle set idle f = no_both _ (worthless idle) f.worth
+
+  pub pinned_goes : is_worth old.shape.underused at.slot.page ≡ true → at.slot.page.pins ≢ 0 → Fits s h (by c (what.Pinned p)) × Keeps s (h ++ by c (what.Pinned p) ∷ []) old
+  pinned_goes worth some =
       let e : Event = by c (what.Pinned at.slot.id) in
-      let fits : Fits s h e = (pinned_fits s h c b at.slot old.places old.places homed m.kept.node at.at at.stands at.slot.page.pins refl (omega (arith, some))).1 in
+      let fits : Fits s h e = (pinned_fits s h c b at.slot old.places old.places homed m.kept.node at.at at.stands at.slot.page.pins (worth_at true worth) refl (omega (arith, some))).1 in
       let P : ℕ → Type 0 = λ q. Fits s h (by c (what.Pinned q)) × Keeps s (h ++ by c (what.Pinned q) ∷ []) old in
       subst P at.id_is
-      (fits, goes_on s h e old old m (pinned_node s h c at.slot.id old.places.table old.places.queue m.kept.node fits) (λ d. unmoved h (h ++ e ∷ []) d (blocks_in old.flights d) (flight_push h d c e.what) (λ r y. block_push h e r) (m.kept.flying d)) refl refl refl refl refl)
+      (fits, goes_on s h e old old m (pinned_node s h c at.slot.id old.places.table old.places.queue m.kept.node fits) (λ d. unmoved h (h ++ e ∷ []) d (blocks_in old.flights d) (flight_push h d c e.what) (λ r y. block_push h e r) (m.kept.flying d)) refl refl refl refl refl refl)
 
-  pub pinned_not : at.slot.page.pins ≡ 0 → has_page p (flight h c) ≡ true × (0 < pins h p) → ⊥
+  pub pinned_not : at.slot.page.pins ≡ 0 → has_page p (flight h c) ≡ true × (0 < pins h p) × (is_worth_split s h p ≡ true) → ⊥
   pinned_not none f = omega (arith, f.1, pinned_as, none)
 
-  pub back_goes : (new : Replay) → old.closed ≡ false → slice_get (blocks_in old.flights c) 0 ≡ Some b →
-      Edits old.places new.places b (Some (record at.slot { standing = Queued })) (old.places.queue ++ b ∷ []) 4 → ((d : ℕ) → blocks_in new.flights d ≡ flight_left (Some c) b d (blocks_in old.flights d)) → length new.flights.callers ≡ length old.flights.callers → new.next ≡ old.next → new.closed ≡ old.closed →
+  pub pinned_idle : is_worth old.shape.underused at.slot.page ≡ false → has_page p (flight h c) ≡ true × (0 < pins h p) × (is_worth_split s h p ≡ true) → ⊥
+  pinned_idle idle f = no_both _ (worthless idle) f.2
+
+  pub used_goes : (new : Replay) → is_worth old.shape.underused at.slot.page ≡ false → Edits old.places new.places b (Some (record at.slot { standing = Nowhere })) old.places.queue 0 →
+      ((d : ℕ) → blocks_in new.flights d ≡ flight_left (Some c) b d (blocks_in old.flights d)) → length new.flights.callers ≡ length old.flights.callers → new.shape ≡ old.shape → new.next ≡ old.next → new.closed ≡ old.closed →
+      Fits s h (by c (what.Used p)) × Keeps s (h ++ by c (what.Used p) ∷ []) new
+  used_goes new idle did fs size shape next closed =
+      let e : Event = by c (what.Used at.slot.id) in
+      let fits : Fits s h e = (used_fits s h c b at.slot old.places old.places homed m.kept.node at.at at.stands (worth_at false idle)).1 in
+      let P : ℕ → Type 0 = λ q. Fits s h (by c (what.Used q)) × Keeps s (h ++ by c (what.Used q) ∷ []) new in
+      subst P at.id_is
+      (fits, goes_on s h e old new m (used_node s h c b at.slot old.places new.places homed m.kept.node at.at at.stands fits did) (left (what.Used at.slot.id) new fs (λ d. flight_push h d c (what.Used at.slot.id)) (λ r. block_push h e r)) size refl refl shape next closed)
+
+  pub used_not : is_worth old.shape.underused at.slot.page ≡ true → has_page p (flight h c) ≡ true × (is_worth_split s h p ≡ false) → ⊥
+  used_not worth f = no_both (is_worth_split s h p) f.1 (worthy worth)
+
+  -- it goes nowhere where the node is closed or the page isn't partly mapped
+  dropped_as : (old.closed || not at.slot.page.partly) ≡ is_dropped s h at.slot.id
+  dropped_as = ap₂ (λ a z. a || not z) m.kept.closed_is slot.tallies.partly
+
+  pub back_goes : (new : Replay) → (old.closed || not at.slot.page.partly) ≡ false → slice_get (blocks_in old.flights c) 0 ≡ Some b →
+      Edits old.places new.places b (Some (record at.slot { standing = Queued })) (old.places.queue ++ b ∷ []) 4 → ((d : ℕ) → blocks_in new.flights d ≡ flight_left (Some c) b d (blocks_in old.flights d)) → length new.flights.callers ≡ length old.flights.callers → new.shape ≡ old.shape → new.next ≡ old.next → new.closed ≡ old.closed →
       Fits s h (by c (what.Back p)) × Keeps s (h ++ by c (what.Back p) ∷ []) new
-  back_goes new unclosed first did fs size next closed =
+  back_goes new stays first did fs size shape next closed =
       let e : Event = by c (what.Back at.slot.id) in
-      let fits : Fits s h e = (first_is_first first, sym m.kept.closed_is ∙ unclosed) in
+      let parts = neither old.closed at.slot.page.partly stays in
+      let fits : Fits s h e = (back_fits s h c b at.slot old.places old.places homed m.kept.node at.at at.stands (first_is_first first) (sym m.kept.closed_is ∙ parts.0) parts.1).1 in
       let P : ℕ → Type 0 = λ q. Fits s h (by c (what.Back q)) × Keeps s (h ++ by c (what.Back q) ∷ []) new in
       subst P at.id_is
-      (fits, goes_on s h e old new m (back_node s h c b at.slot old.places new.places homed m.kept.node at.at at.stands fits did) (left (what.Back at.slot.id) new fs (λ d. flight_push h d c (what.Back at.slot.id)) (λ r. block_push h e r)) size refl refl next closed)
+      (fits, goes_on s h e old new m (back_node s h c b at.slot old.places new.places homed m.kept.node at.at at.stands fits did) (left (what.Back at.slot.id) new fs (λ d. flight_push h d c (what.Back at.slot.id)) (λ r. block_push h e r)) size refl refl shape next closed)
 
-  pub dropped_goes : (new : Replay) → old.closed ≡ true → slice_get (blocks_in old.flights c) 0 ≡ Some b →
-      Edits old.places new.places b (Some (record at.slot { standing = Nowhere })) old.places.queue 0 → ((d : ℕ) → blocks_in new.flights d ≡ flight_left (Some c) b d (blocks_in old.flights d)) → length new.flights.callers ≡ length old.flights.callers → new.next ≡ old.next → new.closed ≡ old.closed →
+  pub back_dropped : (old.closed || not at.slot.page.partly) ≡ true → (slice_get (flight h c) 0 ≡ Some p) × (is_closed h ≡ false) × (is_partly_mapped s h p ≡ true) → ⊥
+  back_dropped out f =
+      no_both (is_dropped s h p) (ap₂ (λ a z. a || not z) f.1 f.2) (ap (is_dropped s h) (sym at.id_is) ∙ sym dropped_as ∙ out)
+
+  pub dropped_goes : (new : Replay) → (old.closed || not at.slot.page.partly) ≡ true → slice_get (blocks_in old.flights c) 0 ≡ Some b →
+      Edits old.places new.places b (Some (record at.slot { standing = Nowhere })) old.places.queue 0 → ((d : ℕ) → blocks_in new.flights d ≡ flight_left (Some c) b d (blocks_in old.flights d)) → length new.flights.callers ≡ length old.flights.callers → new.shape ≡ old.shape → new.next ≡ old.next → new.closed ≡ old.closed →
       Fits s h (by c (what.Dropped p)) × Keeps s (h ++ by c (what.Dropped p) ∷ []) new
-  dropped_goes new shut first did fs size next closed =
+  dropped_goes new out first did fs size shape next closed =
       let e : Event = by c (what.Dropped at.slot.id) in
-      let fits : Fits s h e = (first_is_first first, sym m.kept.closed_is ∙ shut) in
+      let fits : Fits s h e = (first_is_first first, sym dropped_as ∙ out) in
       let P : ℕ → Type 0 = λ q. Fits s h (by c (what.Dropped q)) × Keeps s (h ++ by c (what.Dropped q) ∷ []) new in
       subst P at.id_is
-      (fits, goes_on s h e old new m (dropped_node s h c b at.slot old.places new.places homed m.kept.node at.at at.stands fits did) (left (what.Dropped at.slot.id) new fs (λ d. flight_push h d c (what.Dropped at.slot.id)) (λ r. block_push h e r)) size refl refl next closed)
+      (fits, goes_on s h e old new m (dropped_node s h c b at.slot old.places new.places homed m.kept.node at.at at.stands fits did) (left (what.Dropped at.slot.id) new fs (λ d. flight_push h d c (what.Dropped at.slot.id)) (λ r. block_push h e r)) size refl refl shape next closed)
+
+  pub dropped_not : (old.closed || not at.slot.page.partly) ≡ false → (slice_get (flight h c) 0 ≡ Some p) × (is_dropped s h p ≡ true) → ⊥
+  dropped_not stays f = no_both (is_dropped s h p) (ap (is_dropped s h) (sym at.id_is) ∙ sym dropped_as ∙ stays) f.1
 
 -- the caller whose batch a page leaves by a loss is the one in whose batch it stands
 leaver_is : (o : Outcome) (w : Standing) (d : ℕ) → left_by o w ≡ Some d → w ≡ Batch d

@@ -15,6 +15,7 @@ use Rattle.thp_check.specs.declared.replay.Replay.{Replay}
 -- the pages, the queue, the flights and the numbers of a replay are those of the history, which is legal; a flight's blocks
 -- are those of its pages in order
 pub record Keeps (s : Shape) (h : History) (r : Replay) : Type 0 where
+  pub shape_is : r.shape ≡ s
   pub node : IsNode s h r.places.table r.places.queue
   pub flying : (c : ℕ) → map (block_of h) (flight h c) ≡ map (λ b. Some b) (blocks_in r.flights c)
   pub room : length r.flights.callers ≡ s.blocks

@@ -17,11 +17,13 @@ pub enum CheckFault {
 }
 
 /// Whether a history is legal on a node of this shape: whether each of its events fits those before it, by the rules of
-/// this project's profile (`thp_model`, `IsLegal`). The node may have any number of blocks, and pages of order 2 to 9. Fails with `Illegal` at the first that doesn't, and with `OutOfMemory`
-/// where the memory for the pages and flights of the replay is refused, which it takes once, before the first event.
+/// this project's profile (`thp_model`, `IsLegal`). The node may have any number of blocks, pages of order 2 to 9, and any
+/// threshold. Fails with `Illegal` at the first event that doesn't fit, and with `OutOfMemory` where the memory for the pages
+/// and flights of the replay is refused.
 ///
-/// It takes one pass. What it does for an event is bounded by the node's size, however long the history is, and so is the
-/// memory that it takes.
+/// It takes one pass, and all its memory before the first event, however long the history is. An event takes no more work
+/// where more pages are queued or in flight, but that the first page of a caller is looked for behind those of callers that
+/// are the same in their low six bits.
 pub fn check(alloc: Global, shape: Shape, events: &[Event]) -> Result<(), CheckFault>
     requires least { 2 ≤ shape.order }
     requires most { shape.order ≤ 9 }

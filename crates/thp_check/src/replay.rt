@@ -1,7 +1,10 @@
 //! A replay of a history: what a node would hold after the events so far.
-ghost use Rattle.std.specs.Prelude.{◌≡◌, ◌<◌, ◌≤◌, ◌+◌, ◌^◌, ℕ, [], ◌||◌, slice_get, Some, IfNone, IfOk, IfSome, IsTrue, ◌↔◌};
+ghost use Rattle.std.specs.Prelude.{◌≡◌, ◌<◌, ◌≤◌, ◌+◌, ◌^◌, ℕ, [], ◌||◌, not, slice_get, Some, IfNone, IfOk, IfSome, IsSome, IsTrue, ◌↔◌};
+ghost use Rattle.thp_model.specs.Pages.{is_worth};
 ghost use Rattle.thp_model.specs.Places.{no_pages, takes_by};
+ghost use Rattle.thp_page.specs.Slots.{slot_at};
 ghost use Rattle.thp_places.specs.Flying.{IsFlyingAt};
+ghost use Rattle.thp_places.specs.PlacesState.{AtSlot};
 ghost use Rattle.thp_check.specs.Flights.{blocks_in};
 ghost use Rattle.thp_check.specs.Meanings.{is_taker};
 ghost use Rattle.thp_places.specs.PageCalls.{gain_what, loss_what};
@@ -14,6 +17,7 @@ use thp_places::{Done, Gain, Loss, PageCall, Places};
 // The state after the events so far. Once an event didn't fit it may be any.
 #[derive(Drop)]
 pub(crate) struct Replay {
+    shape: Shape,
     places: Places,
     flights: Flights,
     // how many pages were allocated: the next page's number
@@ -35,6 +39,7 @@ impl Replay {
         let places = Places::new(alloc, shape)?;
         let flights = Flights::new(alloc, shape.blocks)?;
         Ok(Replay {
+            shape,
             places,
             flights,
             next: 0,
@@ -64,28 +69,31 @@ impl Replay {
             What::Alloc { page, block } => self.alloc(page, block),
             What::MapWhole { page } => self.gain(page, Gain::MapWhole),
             What::UnmapWhole {
-                page,
                 outcome,
+                page,
                 released,
             } => self.lose(page, Loss::UnmapWhole, outcome, released),
             What::MapSub { page, first, count } => self.gain(page, Gain::MapSub { first, count }),
             What::UnmapSub {
+                outcome,
                 page,
                 first,
                 count,
-                outcome,
                 released,
             } => self.lose(page, Loss::UnmapSub { first, count }, outcome, released),
             What::SplitPmd { page } => self.gain(page, Gain::SplitPmd),
             What::Pin { page } => self.gain(page, Gain::Pin),
             What::Unpin {
-                page,
                 outcome,
+                page,
                 released,
             } => self.lose(page, Loss::Unpin, outcome, released),
+            What::Write { page, first, count } => self.gain(page, Gain::Write { first, count }),
+            What::Zero { page, first, count } => self.gain(page, Gain::Zero { first, count }),
             What::Taken { page } => self.take(caller, page),
             What::Split { page, released } => self.split(caller, page, released),
             What::Pinned { page } => self.is_pinned(caller, page),
+            What::Used { page } => self.leave_used(caller, page),
             What::Back { page } => self.put_back(caller, page),
             What::Dropped { page } => self.drop_page(caller, page),
             What::Close => self.close(),
@@ -104,12 +112,13 @@ impl Replay {
         if !self.places.is_free(block) {
             return false;
         }
-        self.places.place(block, page);
+        let queued = self.shape.shrinks_underused();
+        self.places.place(block, page, queued);
         self.next += 1;
         true
     }
 
-    // A page that gets mappings or a pin.
+    // A page that gets mappings, a pin, data or zeros.
     fn gain(&mut self, page: PageId, gain: Gain) -> bool
         ensures { (c : ℕ) → Follows self.old self.new c (gain_what gain page) result }
     {
@@ -186,10 +195,13 @@ impl Replay {
             Some(block) => block,
             None => return false,
         };
+        if !self.is_worth(block) {
+            return false;
+        }
         if self.places.pins(block) != 0 {
             return false;
         }
-        let given = self.places.split(block);
+        let given = self.places.split(block, self.shape.shrinks_underused());
         self.flights.leave(Some(caller), block);
         given == released
     }
@@ -198,10 +210,39 @@ impl Replay {
     fn is_pinned(&self, caller: u32, page: PageId) -> bool
         ensures { Follows self.now self.now caller (What.Pinned page) result }
     {
-        match self.places.find_in_batch(page, caller) {
-            Some(block) => self.places.pins(block) != 0,
-            None => false,
+        let block = match self.places.find_in_batch(page, caller) {
+            Some(block) => block,
+            None => return false,
+        };
+        if !self.is_worth(block) {
+            return false;
         }
+        self.places.pins(block) != 0
+    }
+
+    // A try that finds a page of the caller's flight in use, which leaves the flight and goes nowhere.
+    fn leave_used(&mut self, caller: u32, page: PageId) -> bool
+        requires { IsKnown self.old }
+        ensures { Follows self.old self.new caller (What.Used page) result }
+    {
+        let block = match self.places.find_in_batch(page, caller) {
+            Some(block) => block,
+            None => return false,
+        };
+        if self.is_worth(block) {
+            return false;
+        }
+        self.places.drop_out(block);
+        self.flights.leave(Some(caller), block);
+        true
+    }
+
+    // Whether the page of a block is worth a split.
+    fn is_worth(&self, block: u32) -> bool
+        requires { IsSome (slot_at self.now.places.table block) }
+        ensures { AtSlot self.now.places.table block (λ x. result ≡ is_worth self.now.shape.underused x.page) }
+    {
+        self.places.is_worth(block, self.shape.underused)
     }
 
     // A put-back of the first page of the caller's flight.
@@ -209,17 +250,16 @@ impl Replay {
         requires { IsKnown self.old }
         ensures { Follows self.old self.new caller (What.Back page) result }
     {
-        if self.closed {
+        let block = match self.find_first(caller, page) {
+            Some(block) => block,
+            None => return false,
+        };
+        if self.is_dropped(block) {
             return false;
         }
-        match self.find_first(caller, page) {
-            Some(block) => {
-                self.places.enqueue(block);
-                self.flights.leave(Some(caller), block);
-                true
-            }
-            None => false,
-        }
+        self.places.enqueue(block);
+        self.flights.leave(Some(caller), block);
+        true
     }
 
     // The first page of the caller's flight, which goes nowhere.
@@ -227,17 +267,24 @@ impl Replay {
         requires { IsKnown self.old }
         ensures { Follows self.old self.new caller (What.Dropped page) result }
     {
-        if !self.closed {
+        let block = match self.find_first(caller, page) {
+            Some(block) => block,
+            None => return false,
+        };
+        if !self.is_dropped(block) {
             return false;
         }
-        match self.find_first(caller, page) {
-            Some(block) => {
-                self.places.drop_out(block);
-                self.flights.leave(Some(caller), block);
-                true
-            }
-            None => false,
-        }
+        self.places.drop_out(block);
+        self.flights.leave(Some(caller), block);
+        true
+    }
+
+    // Whether the page of a block, where it leaves a batch, is dropped rather than put back.
+    fn is_dropped(&self, block: u32) -> bool
+        requires { IsSome (slot_at self.now.places.table block) }
+        ensures { AtSlot self.now.places.table block (λ x. result ≡ (self.now.closed || not x.page.partly)) }
+    {
+        self.closed || !self.places.is_partly(block)
     }
 
     // The block of a page that is the first of a caller's flight.

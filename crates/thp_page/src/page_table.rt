@@ -1,6 +1,8 @@
 //! The table of page descriptors: for each block of a node a link pair and, where it is taken, a page.
 ghost use Rattle.std.specs.Prelude.{◌≡◌, ◌<◌, ◌≤◌, ℕ, ◌+◌, length, replicate, IsSome, IfOk, IfSome, IfNone, Option, Some, None};
 ghost use Rattle.std.specs.Option.{option_map, option_copied_mut};
+ghost use Rattle.thp_model.specs.Pages.{IsFresh};
+ghost use Rattle.thp_page.specs.Fresh.{fresh_page};
 ghost use Rattle.thp_page.specs.Table.{Slot};
 ghost use Rattle.thp_page.specs.Slots.{slot_at, with_slot, fresh_slot, number_in, page_in, stood, HoldsPage};
 
@@ -124,7 +126,8 @@ impl PageTable {
         requires inside { block < length self.old.links }
         requires empty { slot_at self.old block ≡ None }
         requires new { (b : ℕ) → HoldsPage (slot_at self.old b) id → ⊥ }
-        ensures { self.new ≡ with_slot self.old block (Some (fresh_slot self.old.order id)) }
+        ensures table { self.new ≡ with_slot self.old block (Some (fresh_slot self.old.order id)) }
+        ensures fresh { IsFresh self.old.order (fresh_page self.old.order) }
     {
         let descriptor = &mut self.descriptors[block as usize];
         descriptor.standing = Standing::Nowhere;

@@ -75,6 +75,8 @@ refusal_any t (either.Gain gain.MapWhole) p q = refl
 refusal_any t (either.Gain (gain.MapSub f n)) p q = refl
 refusal_any t (either.Gain gain.SplitPmd) p q = refl
 refusal_any t (either.Gain gain.Pin) p q = refl
+refusal_any t (either.Gain (gain.Write f n)) p q = refl
+refusal_any t (either.Gain (gain.Zero f n)) p q = refl
 refusal_any t (either.Loss loss.UnmapWhole) p q = refl
 refusal_any t (either.Loss (loss.UnmapSub f n)) p q = refl
 refusal_any t (either.Loss loss.Unpin) p q = refl
@@ -96,7 +98,7 @@ no_both z e f = cc
 pub flies_not_there : (s : Shape) (h : History) (t : Table) (q : List ℕ) (c p b : ℕ) → IsNode s h t q → (w : Found s h t p b) → (w.slot.standing ≡ Batch c → ⊥) → has_page p (flight h c) ≡ false
 flies_not_there s h t q c p b m w f =
     by_bool (has_page p (flight h c)) _
-    (λ y. absurd (f (w.is.stands ∙ standing_flying h w.slot.id c (legal_homed s h m.legal).grown.sound (ap (λ r. has_page r (flight h c)) w.id_is ∙ y))))
+    (λ y. absurd (f (w.is.stands ∙ standing_flying s h w.slot.id c (legal_homed s h m.legal).grown.sound (ap (λ r. has_page r (flight h c)) w.id_is ∙ y))))
     (λ y. y)
 
 -- a page that lies nowhere is in no flight

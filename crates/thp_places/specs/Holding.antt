@@ -14,7 +14,7 @@ use Rattle.thp_places.specs.Homes.{block_of, standing_of}
 pub record IsSlot (s : Shape) (h : History) (b : ℕ) (x : Slot) : Type 0 where
   pub home : block_of h x.id ≡ Some b
   pub tallies : Tallies s h x.id x.page
-  pub stands : x.standing ≡ standing_of h x.id
+  pub stands : x.standing ≡ standing_of s h x.id
 
 -- block b holds what it should: the page that lies there, or nothing where none does
 abbrev pub Fills : Shape → History → ℕ → Option Slot → Type 0
@@ -32,4 +32,4 @@ pub record IsNode (s : Shape) (h : History) (t : Table) (q : List ℕ) : Type 0 
   pub size : length t.slots ≡ s.blocks
   pub order : t.order ≡ s.order
   pub fills : (b : ℕ) → Fills s h b (slot_at t b)
-  pub queue_is : map (block_of h) (queue h) ≡ map (λ b. Some b) q
+  pub queue_is : map (block_of h) (queue s h) ≡ map (λ b. Some b) q

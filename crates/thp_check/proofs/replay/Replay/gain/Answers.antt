@@ -12,4 +12,4 @@ returns-in-Some-refusal c = λ n s h m f.
 
 pub returns : goal.returns
 returns c = λ n s h m.
-    gain_goes s h n c.args.page c.in-Some.block c.args.self.now m c.in-Some.ensures c.args.gain _ (λ x e q. sym (is_none c.refusal.result c.in_default.not-Some) ∙ c.refusal.ensures x e q) c.gain.ensures refl refl refl
+    gain_goes s h n c.args.page c.in-Some.block c.args.self.now m c.in-Some.ensures c.args.gain _ (λ x e q. sym (is_none c.refusal.result c.in_default.not-Some) ∙ c.refusal.ensures x e q) c.gain.ensures refl refl refl refl

@@ -20,5 +20,5 @@ pub returns : goal.returns
 returns c = λ n s h m.
     tested c.is_told.result ((c.lose-done.result.0.outcome ≡ c.args.outcome) × (c.lose-done.result.0.released ≡ c.args.released)) _ _ c.is_told.ensures.0 c.is_told.ensures.1
     (λ w. loss_goes s h n c.args.page c.in-Some.block c.args.self.now m c.in-Some.ensures c.args.loss c.args.outcome c.args.released _ c.lose-done.result.0 c.lose-done.result.1
-    (λ x e q. sym (is_none c.refusal.result c.in_default.not-Some) ∙ c.refusal.ensures x e q) c.lose-done.ensures c.leave.ensures.left c.leave.ensures.size refl refl w.0 w.1)
+    (λ x e q. sym (is_none c.refusal.result c.in_default.not-Some) ∙ c.refusal.ensures x e q) c.lose-done.ensures c.leave.ensures.left c.leave.ensures.size refl refl refl w.0 w.1)
     (λ f. loss_tells s h n c.args.page c.in-Some.block c.args.self.now m c.in-Some.ensures c.args.loss c.args.outcome c.args.released c.lose-done.new.self c.lose-done.result.0 c.lose-done.result.1 c.lose-done.ensures f)

@@ -27,4 +27,4 @@ pub returns : goal.returns
 returns c = λ s h m.
     let P : ℕ → Type 0 = λ q. TakesFirst c.args.self.now.places c.take_first-first.new.self c.args.caller q in
     take_goes s h c.args.caller c.args.page c.in-Some.block c.args.self.now _ m c.in-Some.ensures (sym c.may_take.ensures ∙ c.if-not-may_take.false)
-    (subst P (equal c.take_first-first.result c.args.page (sym c.ne.ensures ∙ c.if-ne.false)) c.take_first-first.ensures) c.join.ensures.joined c.join.ensures.size refl refl
+    (subst P (equal c.take_first-first.result c.args.page (sym c.ne.ensures ∙ c.if-ne.false)) c.take_first-first.ensures) c.join.ensures.joined c.join.ensures.size refl refl refl
