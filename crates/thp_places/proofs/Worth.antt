@@ -1,8 +1,8 @@
 -- Whether a page is worth a split, by its counts.
-use Rattle.std.proofs.Common.{◌≡◌, ℕ, ◌<◌, Bool, cond, ◌||◌, ap, ap₂, ◌∙◌}
+use Rattle.std.proofs.Common.{◌≡◌, ℕ, Bool, cond, ◌||◌, ap, ap₂, ◌∙◌}
 use Rattle.thp_model.specs.declared.shape.Shape.{Shape}
 use Rattle.thp_model.specs.History.{History}
-use Rattle.thp_model.specs.Pages.{PageState, Tallies, is_worth, size, zero_at, zero_count}
+use Rattle.thp_model.specs.Pages.{PageState, Tallies, is_worth, zero_at, zero_count}
 use Rattle.thp_model.specs.Sets.{count_below}
 use Rattle.thp_model.specs.Shapes.{subpages}
 use Rattle.thp_model.specs.Underused.{is_above, is_worth_split, is_zero_filled, zero_filled}

@@ -305,16 +305,6 @@ impl Places {
         chain.pop(&mut self.table)
     }
 
-    // Puts a new page into a free block, and nowhere else.
-    fn put(&mut self, block: u32, page: PageId)
-        requires inside { block < length self.old.table.slots }
-        requires free { slot_at self.old.table block ≡ None }
-        requires new { (b : ℕ) → HoldsPage (slot_at self.old.table b) page → ⊥ }
-        ensures { Placed page false self.old self.new block }
-    {
-        self.table.place(block, page);
-    }
-
     // Takes mappings or a pin from the page of a block, which isn't refused, and answers what becomes of it.
     fn reduce(&mut self, block: u32, loss: Loss, closed: bool) -> Done
         requires occupied { IsSome (slot_at self.old.table block) }
@@ -326,6 +316,16 @@ impl Places {
             Some(page) => loss.apply(page, standing, closed),
             None => unreachable!(),
         }
+    }
+
+    // Puts a new page into a free block, and nowhere else.
+    fn put(&mut self, block: u32, page: PageId)
+        requires inside { block < length self.old.table.slots }
+        requires free { slot_at self.old.table block ≡ None }
+        requires new { (b : ℕ) → HoldsPage (slot_at self.old.table b) page → ⊥ }
+        ensures { Placed page false self.old self.new block }
+    {
+        self.table.place(block, page);
     }
 
     // Takes the page of a block out of the table, and out of the queue where it stands there.

@@ -1,4 +1,4 @@
-use Rattle.std.proofs.Common.{Bool, true, sym, subst}
+use Rattle.std.proofs.Common.{Bool, sym, subst}
 use Rattle.thp_places.specs.PlacesState.{Placed}
 use Rattle.thp_places.proofs.Relinking.{placed_queued}
 use Rattle.thp_places.proofs.places.Places.place.Goals as goal
