@@ -386,14 +386,14 @@ unfolding times flying queue flights
 sound_none shape = record { once = λ p. omega arith; live = λ p up. absurd (omega arith); whole_page = λ p up. absurd (omega arith) }
 
 -- what holds of each legal history on the way
-record Standing_so_far (shape : Shape) (h : History) : Type 0 where
+record SoundSoFar (shape : Shape) (h : History) : Type 0 where
   sound : Sound shape h
   numbered : Numbered h
 
 -- so it holds of every legal history
 pub legal_sound : (shape : Shape) (h : History) → IsLegal shape h → Sound shape h
 legal_sound shape h l =
-    (legal_all shape (Standing_so_far shape) (record { sound = sound_none shape; numbered = numbered_none })
+    (legal_all shape (SoundSoFar shape) (record { sound = sound_none shape; numbered = numbered_none })
     (λ k e a f. record { sound = sound_push shape k e a.sound a.numbered f; numbered = numbered_push shape k e a.sound a.numbered f }) h l).sound
 
 -- the pages of the flights, counted as a list

@@ -6,8 +6,8 @@ use Rattle.thp_model.specs.declared.shape.Shape.{Shape}
 unfoldable pub subpages : Shape → ℕ
 subpages s = 2 ^ s.order
 
--- a node can have this shape (this project's profile: 1 to 4,096 blocks, orders 2 to 9, a threshold that some number of
--- zero-filled subpages is above)
+-- a node can have this shape (this project's profile: 1 to 4,096 blocks, orders 2 to 9, a threshold below the number of
+-- subpages)
 pub record IsShape (s : Shape) : Type 0 where
   pub some_blocks : 1 ≤ s.blocks
   pub few_blocks : s.blocks ≤ 4096

@@ -4,7 +4,7 @@
 //! every legal history are the contracts of functions that do nothing, in `laws`, and worked histories those of `rows`.
 //!
 //! For callers' proofs: `proofs/Pushes` (`history_pushes`) has each definition at a history with one more event,
-//! `proofs/Tallying` (`page_tallies`) a page's counts after each event, `proofs/PageRefusals` (`page_refusals`) and
+//! `proofs/Tallying` (`page_tallies`) a page's state after each event, `proofs/PageRefusals` (`page_refusals`) and
 //! `proofs/PageOutcomes` what calls of a page answer by its counts, `proofs/Allowed` what it says that a call isn't
 //! refused, and `proofs/TakeRuns`, `TryRuns`, `ReturnRuns` and `ScanRuns` the events of the longer calls one by one.
 #![tactic(auto)]
