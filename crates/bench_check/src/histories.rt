@@ -49,6 +49,20 @@ impl Writer {
         self.unmap(page, 0, 1, Outcome::Queued, SubSet::empty())
     }
 
+    // The last mapping of a page that is mapped whole, and not split.
+    fn unmap_whole(&mut self, page: PageId) -> Result<(), AllocError> {
+        let outcome = Outcome::Freed;
+        let released = SubSet::full(9);
+        self.write(
+            0,
+            What::UnmapWhole {
+                outcome,
+                page,
+                released,
+            },
+        )
+    }
+
     fn unmap(
         &mut self,
         page: PageId,
@@ -113,6 +127,69 @@ fn retire(writer: &mut Writer, oldest: u64) -> Result<(), AllocError> {
     }
     for page in oldest..oldest.saturating_add(BATCH) {
         writer.unmap(PageId(page), 1, 511, Outcome::Freed, rest)?;
+    }
+    Ok(())
+}
+
+/// Pages are allocated on a node whose shrinker looks for underused ones, and filled with data; half of each second page is
+/// filled with zeros. Taken eight at a time, the second pages are split and the others found in use, and all are freed.
+pub(crate) fn underused(
+    alloc: Global,
+    blocks: u32,
+    count: usize,
+) -> Result<Vec<Event>, AllocError> {
+    let mut writer = Writer::new(alloc, count)?;
+    let live = u64::from(blocks);
+    for round in 0..u64::MAX / BATCH {
+        if writer.is_full() {
+            break;
+        }
+        let first = round * BATCH;
+        if first >= live {
+            retire_underused(&mut writer, first - live)?;
+        }
+        for place in 0..BATCH {
+            let page = PageId(first + place);
+            let block = block_of(page.0, blocks);
+            writer.write(0, What::Alloc { page, block })?;
+            fill(&mut writer, page)?;
+        }
+    }
+    Ok(writer.events)
+}
+
+// Data, and zeros where the page will be underused.
+fn fill(writer: &mut Writer, page: PageId) -> Result<(), AllocError> {
+    let first = 0;
+    let count = 512;
+    writer.write(0, What::Write { page, first, count })?;
+    if is_underused(page) {
+        let count = 256;
+        writer.write(0, What::Zero { page, first, count })?;
+    }
+    Ok(())
+}
+
+// Each second page is.
+fn is_underused(page: PageId) -> bool {
+    page.0 % 2 == 1
+}
+
+// A batch of the oldest pages, from this one on.
+fn retire_underused(writer: &mut Writer, oldest: u64) -> Result<(), AllocError> {
+    for page in oldest..oldest.saturating_add(BATCH) {
+        writer.write(0, What::Taken { page: PageId(page) })?;
+    }
+    for page in oldest..oldest.saturating_add(BATCH) {
+        let page = PageId(page);
+        if is_underused(page) {
+            let released = SubSet::range(0, 256);
+            writer.write(0, What::Split { page, released })?;
+            writer.unmap(page, 0, 512, Outcome::Freed, SubSet::range(256, 256))?;
+        } else {
+            writer.write(0, What::Used { page })?;
+            writer.unmap_whole(page)?;
+        }
     }
     Ok(())
 }

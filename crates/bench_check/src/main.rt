@@ -15,6 +15,9 @@ use thp_model::{Event, Shape};
 // The fewest blocks that are measured, and the most that a node has.
 const SIZES: [u32; 2] = [16, 4096];
 
+// More zero-filled subpages than these make a page underused, where the shrinker looks for that.
+const THRESHOLD: u32 = 100;
+
 fn main(rt: HostRuntime) -> Result<()> {
     let count = asked_events(&rt)?;
     for blocks in SIZES {
@@ -22,25 +25,36 @@ fn main(rt: HostRuntime) -> Result<()> {
             &rt,
             "churn",
             blocks,
+            None,
             &histories::churn(rt.alloc(), blocks, count)?,
         )?;
         time_check(
             &rt,
             "frees from the middle",
             blocks,
+            None,
             &histories::middle(rt.alloc(), blocks, count)?,
         )?;
         time_check(
             &rt,
             "batches of 32 callers",
             blocks,
+            None,
             &histories::batches(rt.alloc(), blocks, count)?,
         )?;
         time_check(
             &rt,
             "a batch of one caller",
             blocks,
+            None,
             &histories::one_caller(rt.alloc(), blocks, count)?,
+        )?;
+        time_check(
+            &rt,
+            "underused pages",
+            blocks,
+            Some(THRESHOLD),
+            &histories::underused(rt.alloc(), blocks, count)?,
         )?;
     }
     Ok(())
@@ -59,13 +73,14 @@ fn time_check<R: CpuClock + Eprint + AllocGlobal>(
     rt: &R,
     what: &str,
     blocks: u32,
+    underused: Option<u32>,
     events: &[Event],
 ) -> Result<()> {
     let start = rt.thread_cpu_time()?;
     let shape = Shape {
         blocks,
         order: 9,
-        underused: None,
+        underused,
     };
     let answer = check(rt.alloc(), shape, events);
     let spent = rt.thread_cpu_time()?.saturating_sub(start);
