@@ -19,7 +19,7 @@ use thp_page::Page;
 // The fewest blocks that are measured, and the most that a node has.
 const SIZES: [u32; 2] = [16, 4096];
 
-// How many subpages are unmapped and mapped at once.
+// How many subpages are unmapped, mapped or written at once.
 const COUNTS: [u32; 3] = [1, 64, 512];
 
 fn main(rt: HostRuntime) -> Result<()> {
@@ -58,11 +58,12 @@ fn time_tables<R: CpuClock + Eprint + AllocGlobal>(rt: &R, rounds: u32) -> Resul
     Ok(())
 }
 
-// Unmaps, maps and splits.
+// Unmaps, maps, writes and splits.
 fn time_pages<R: CpuClock + Eprint>(rt: &R, rounds: u32) -> Result<()> {
     for count in COUNTS {
         pages::time_range(rt, count, rounds)?;
         pages::time_range_of_split_page(rt, count, rounds)?;
+        pages::time_writes(rt, count, rounds)?;
     }
     pages::time_split_pmd(rt, rounds)?;
     pages::time_split(rt, rounds)
