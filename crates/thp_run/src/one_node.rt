@@ -54,6 +54,7 @@ impl Nodes for OneNode {
         let shape = Shape {
             blocks: settings.blocks,
             order: 9,
+            underused: None,
         };
         match Node::new(alloc, shape) {
             Ok(node) => Ok(OneNode { node }),
