@@ -28,8 +28,8 @@ abbrev pub call_of : ℕ → Op → Call
 call_of c Alloc = call.alloc_page
 call_of c (MapWhole p) = call.map_whole p
 call_of c (UnmapWhole p) = call.unmap_whole p
-call_of c (Map p first count) = call.map_sub p first count
-call_of c (Unmap p first count) = call.unmap_sub p first count
+call_of c (Map first count p) = call.map_sub p first count
+call_of c (Unmap first count p) = call.unmap_sub p first count
 call_of c (SplitPmd p) = call.split_pmd p
 call_of c (Pin p) = call.pin p
 call_of c (Unpin p) = call.unpin p
@@ -49,8 +49,8 @@ abbrev pub Does : Shape → History → ℕ → Op → List Event → Answer →
 Does s h c Alloc own answer = (block : ℕ) × (own ≡ by c (what.Alloc (allocations h) block) ∷ []) × (answer ≡ Ok (Page (allocations h)))
 Does s h c (MapWhole p) own answer = DoesOne c (what.MapWhole p) own answer
 Does s h c (UnmapWhole p) own answer = DoesLoss c (what.UnmapWhole p) own answer
-Does s h c (Map p first count) own answer = DoesOne c (what.MapSub p first count) own answer
-Does s h c (Unmap p first count) own answer = DoesLoss c (what.UnmapSub p first count) own answer
+Does s h c (Map first count p) own answer = DoesOne c (what.MapSub p first count) own answer
+Does s h c (Unmap first count p) own answer = DoesLoss c (what.UnmapSub p first count) own answer
 Does s h c (SplitPmd p) own answer = DoesOne c (what.SplitPmd p) own answer
 Does s h c (Pin p) own answer = DoesOne c (what.Pin p) own answer
 Does s h c (Unpin p) own answer = DoesLoss c (what.Unpin p) own answer

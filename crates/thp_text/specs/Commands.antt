@@ -72,8 +72,8 @@ command_of s name words =
     if bytes_eq name (codes "alloc") then node_command Alloc s words
     else if bytes_eq name (codes "mapwhole") then page_command MapWhole s words
     else if bytes_eq name (codes "unmapwhole") then page_command UnmapWhole s words
-    else if bytes_eq name (codes "map") then range_command Map s words
-    else if bytes_eq name (codes "unmap") then range_command Unmap s words
+    else if bytes_eq name (codes "map") then range_command (λ page first count. Map first count page) s words
+    else if bytes_eq name (codes "unmap") then range_command (λ page first count. Unmap first count page) s words
     else if bytes_eq name (codes "splitpmd") then page_command SplitPmd s words
     else if bytes_eq name (codes "pin") then page_command Pin s words
     else if bytes_eq name (codes "unpin") then page_command Unpin s words

@@ -18,5 +18,5 @@ page_op page.Unpin = Unpin
 
 -- the command on a range of a page's subpages
 abbrev pub range_op : RangeCall → ℕ → ℕ → ℕ → Op
-range_op range.Map = Map
-range_op range.Unmap = Unmap
+range_op range.Map page first count = Map first count page
+range_op range.Unmap page first count = Unmap first count page

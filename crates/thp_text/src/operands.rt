@@ -41,13 +41,13 @@ enum RangeCall {
 }
 
 impl RangeCall {
-    fn op(self, page: u64, first: u32, count: u32) -> Op
+    fn op(self, page: u64, first: u16, count: u16) -> Op
         ensures op { result ≡ range_op self page first count }
         ensures in_range { FitsBatch result }
     {
         match self {
-            RangeCall::Map => Op::Map { page, first, count },
-            RangeCall::Unmap => Op::Unmap { page, first, count },
+            RangeCall::Map => Op::Map { first, count, page },
+            RangeCall::Unmap => Op::Unmap { first, count, page },
         }
     }
 }
@@ -59,19 +59,20 @@ fn number_up_to(most: u64, word: &[u8]) -> Result<u64, TextKind>
     number(most, word).ok_or(TextKind::BadNumber)
 }
 
-fn small_number_up_to(most: u32, word: &[u8]) -> Result<u32, TextKind>
+fn small_number_up_to(most: u16, word: &[u8]) -> Result<u16, TextKind>
     ensures value { result ≡ number_up_to most word.now }
     ensures bound { IfOk result (λ n. n ≤ most) }
 {
     let value = number_up_to(u64::from(most), word)?;
-    Ok(value as u32)
+    Ok(value as u16)
 }
 
 fn node_number(settings: &Settings, word: &[u8]) -> Result<u32, TextKind>
     ensures value { result ≡ node_number settings.now word.now }
     ensures bound { IfOk result (λ node. node < settings.now.nodes) }
 {
-    small_number_up_to(settings.nodes - 1, word)
+    let node = number_up_to(u64::from(settings.nodes - 1), word)?;
+    Ok(node as u32)
 }
 
 /// A command on a node as a whole: `NODE`

@@ -11,9 +11,9 @@ pub enum Op {
     /// Takes one mapping of the whole page away.
     UnmapWhole { page: u64 },
     /// Maps `count` subpages of a page once more by PTE entries, from subpage `first` on.
-    Map { page: u64, first: u32, count: u32 },
+    Map { first: u16, count: u16, page: u64 },
     /// Takes one PTE mapping of each of `count` subpages of a page away, from subpage `first` on.
-    Unmap { page: u64, first: u32, count: u32 },
+    Unmap { first: u16, count: u16, page: u64 },
     /// Splits the PMD mapping of a page.
     SplitPmd { page: u64 },
     /// Pins a page once more.
@@ -23,7 +23,7 @@ pub enum Op {
     /// Closes the node: nothing enters its queue from then on, and no page is allocated.
     Close,
     /// Lets the shrinker take up to `count` pages, try to split each, and put back the others.
-    Scan { count: u32 },
+    Scan { count: u16 },
 }
 
 /// A call, and the node that it is made on.
