@@ -32,10 +32,16 @@ impl Steps for OneNode {
             Op::MapWhole { page } => unit(self.node.map_whole(caller, PageId(page))),
             Op::UnmapWhole { page } => change(self.node.unmap_whole(caller, PageId(page))),
             Op::Map { first, count, page } => {
-                unit(self.node.map_sub(caller, PageId(page), first as u32, count as u32))
+                unit(
+                    self.node
+                        .map_sub(caller, PageId(page), first as u32, count as u32),
+                )
             }
             Op::Unmap { first, count, page } => {
-                change(self.node.unmap_sub(caller, PageId(page), first as u32, count as u32))
+                change(
+                    self.node
+                        .unmap_sub(caller, PageId(page), first as u32, count as u32),
+                )
             }
             Op::SplitPmd { page } => unit(self.node.split_pmd(caller, PageId(page))),
             Op::Pin { page } => unit(self.node.pin(caller, PageId(page))),
@@ -45,6 +51,10 @@ impl Steps for OneNode {
                 Ok(reply) => Ok(Reply::Scan(reply)),
                 Err(refusal) => Err(refusal),
             },
+            // these aren't in the vocabulary that a run reads
+            Op::Count | Op::Take { .. } | Op::SplitNext | Op::PutBack => {
+                Err(Refusal::OutOfMemory)
+            }
         }
     }
 }

@@ -24,6 +24,14 @@ pub enum Op {
     Close,
     /// Lets the shrinker take up to `count` pages, try to split each, and put back the others.
     Scan { count: u16 },
+    /// Asks how many pages stand in the queue.
+    Count,
+    /// Takes up to `count` of the oldest queued pages into a batch.
+    Take { count: u16 },
+    /// Tries the next page of the open batch.
+    SplitNext,
+    /// Puts back the pages that are left of the open batch.
+    PutBack,
 }
 
 /// A call, and the node that it is made on.

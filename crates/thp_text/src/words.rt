@@ -77,9 +77,7 @@ fn with_digit(before: u64, digit: u8) -> Option<u64>
     requires { is_ascii_digit digit ≡ true }
     ensures { SomeIff result (before * 10 + digit_value digit < 2 ^ 64) (before * 10 + digit_value digit) }
 {
-    before
-        .checked_mul(10)?
-        .checked_add(u64::from(digit - b'0'))
+    before.checked_mul(10)?.checked_add(u64::from(digit - b'0'))
 }
 
 /// The value of a numeral, where it fits.

@@ -1,4 +1,4 @@
-use Rattle.std.proofs.Common.{◌≡◌, ◌<◌, ◌^◌, ◌+◌, ◌*◌, ◌≤◌, ℕ, arith, get_or}
+use Rattle.std.proofs.Common.{◌<◌, ◌^◌, ◌≤◌, ℕ, arith}
 use Rattle.std.specs.Str.Parse.{digits_value}
 use Rattle.thp_text.proofs.NumberLaws.{value_so_far, value_at_end}
 use Rattle.thp_text.proofs.words.value_of.Goals as goal
