@@ -3,4 +3,6 @@
 #![tactic(auto)]
 
 #[cfg(test)]
+mod scripts;
+#[cfg(test)]
 mod whole_runs;

@@ -1,11 +1,11 @@
 -- From what each part of the program did to what the whole of it did.
-use Rattle.std.proofs.Common.{◌≡◌, ◌⊎◌, ℕ, Bool, true, false, List, Option, Ok, Err, inl, inr, refl}
+use Rattle.std.proofs.Common.{◌≡◌, ℕ, Bool, List, Option, Ok, Err, inl, inr}
 use Rattle.std.specs.Prelude.{Result}
 use Rattle.clap.specs.Words.{kind_of}
 use Rattle.clap.specs.declared.error.Error.{Error}
 use Rattle.thp_text.specs.declared.settings.Settings.{Settings}
 use Rattle.thp_run.specs.CommandLine.{FailsAsWords, HoldsWords}
-use Rattle.thp_run.specs.Outcomes.{Answers, AreRefused, IsAnswered, IsEndedAs, IsSettingsOf, IsShown, IsToldAs, IsUntouched, Ran, Served, Showed, Written}
+use Rattle.thp_run.specs.Outcomes.{Answers, IsEndedAs, IsSettingsOf, IsToldAs, Ran, Served, Written}
 use Rattle.thp_run.specs.Programs.{Ends}
 use Rattle.thp_run.specs.declared.ending.ProgramFault.{ProgramFault}
 use Rattle.thp_run.specs.declared.ending.ProgramFault.TheVariants.{Run, Usage, NoText}

@@ -22,5 +22,8 @@ pub use line::{Line, read_line};
 pub use program::run_program;
 pub use reply::Reply;
 pub use running::run;
-pub use thp_text::{Command, Op, ReadFault, Report, Script, Sequence, Settings, TextKind, read_script};
+pub use thp_text::{
+    Command, Op, ReadFault, Report, Script, Sequence, Settings, TextKind, Vocabulary, read_script,
+    read_script_of,
+};
 pub use watched::Watched;

@@ -80,11 +80,7 @@ fn is_request(kind: ErrorKind) -> bool
 }
 
 /// Writes the text that was asked for.
-fn show<W: Write>(
-    alloc: Global,
-    error: &Error,
-    output: &mut Watched<W>,
-) -> Result<(), RunFault>
+fn show<W: Write>(alloc: Global, error: &Error, output: &mut Watched<W>) -> Result<(), RunFault>
     requires { output.old.failed ≡ false }
     ensures { IsShown (record { before = W.contents output.old.device; after = W.contents output.new.device; failed = output.new.failed }) result }
 {

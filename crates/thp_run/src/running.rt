@@ -4,6 +4,7 @@ ghost use Rattle.std.specs.List.{range_with_len};
 ghost use Rattle.thp_run.specs.Fronts.{Fronts};
 ghost use Rattle.thp_run.specs.Programs.{Ends, IsReport};
 ghost use Rattle.thp_run.specs.Reports.{totals_of, totals_text};
+ghost use Rattle.thp_text.specs.declared.vocabulary.Vocabulary.TheVariants.{SetupOnly};
 ghost use Rattle.thp_text.specs.Scripts.{script_of, TellsFault};
 
 use crate::device::{read_input, write_text};
@@ -16,7 +17,7 @@ use crate::steps::work;
 use crate::watched::Watched;
 use std::alloc::{AllocError, Global};
 use std::io::{Read, Write};
-use thp_text::{ReadFault, Settings, read_script};
+use thp_text::{ReadFault, Settings, Vocabulary, read_script_of};
 
 /// The report on what became of the nodes.
 fn report_on<N: Nodes>(alloc: Global, count: u32, nodes: &N) -> Result<Vec<u8>, AllocError>
@@ -37,9 +38,9 @@ fn report_of<N: Nodes + Drop>(
     input: &[u8],
 ) -> Result<Vec<u8>, ReadFault>
     ensures text { IfOk result (λ text. IsReport settings.now input.now text.items) }
-    ensures fault { IfErr result (TellsFault (script_of settings.now input.now)) }
+    ensures fault { IfErr result (TellsFault (script_of SetupOnly settings.now input.now)) }
 {
-    let script = read_script(alloc, settings, input)?;
+    let script = read_script_of(alloc, Vocabulary::SetupOnly, settings, input)?;
     let mut nodes = N::new(alloc, settings)?;
     work(script.setup.as_slice(), 0, &mut nodes)?;
     Ok(report_on(alloc, settings.nodes, &nodes)?)

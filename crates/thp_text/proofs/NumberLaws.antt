@@ -1,16 +1,15 @@
 -- Words as numbers: a word is read as a number exactly where it is that number's decimal text.
-use Rattle.std.proofs.Common.{◌≡◌, ℕ, ◌^◌, ◌<◌, ◌≤◌, true, false, leb, eqb, not, ◌||◌, length, get_or, Some, None, Result, Err, refl, sym, arith, rules, inl, inr, ◌∙◌}
+use Rattle.std.proofs.Common.{◌≡◌, ℕ, ◌^◌, ◌<◌, ◌≤◌, true, false, leb, eqb, not, ◌||◌, length, get_or, drop, List, [], ◌∷◌, ◌+◌, ◌*◌, suc, Some, None, refl, sym, arith, rules, inl, inr, ◌∙◌}
+use Rattle.std.proofs.Math.ListN.{drop_of_length-le}
+use Rattle.std.proofs.Math.Seq.{drop-cons}
 use Rattle.std.specs.Fmt.{decimal}
 use Rattle.std.specs.List.{list_all}
-use Rattle.std.specs.Char.{is_ascii_digit}
-use Rattle.std.specs.Result.{OkIff}
-use Rattle.std.specs.Str.{IsUtf8}
-use Rattle.std.specs.Str.Parse.{digits_value, ParsesUnsigned}
-use Rattle.std.proofs.lemmas.Str.{IsUtf8-from_ascii}
-use Rattle.std.proofs.lemmas.Str.Parse.{IsNumeralModel, numerals_by_value, parse_digits}
+use Rattle.std.specs.Char.{digit_value, is_ascii_digit}
+use Rattle.std.specs.Str.Parse.{digits_value, digits_value_after}
+use Rattle.std.proofs.lemmas.Str.Parse.{IsNumeralModel, numerals_by_value}
 use Rattle.std.proofs.lemmas.Bool.{ltb-true, lt-ltb, le-leb, lt-leb, leb-true, eqb-true, eqb-false, eq-eqb, ne_eqb, and_parts, and_from, and_right, or_cases, or_left, or_right, not-true, not_from_false, cases_lt}
 use Rattle.std.proofs.lemmas.Option.{cond_some}
-use Rattle.std.proofs.lemmas.Fmt.{IsAscii-from_digits, digits_decimal, digits_value-decimal, decimal_nonempty, first_decimal, decimal_digit, decimal-digits_value}
+use Rattle.std.proofs.lemmas.Fmt.{digits_decimal, digits_value-decimal, decimal_nonempty, first_decimal, decimal_digit, decimal-digits_value}
 use Rattle.thp_text.specs.Words.{Text, is_numeral, number_of}
 
 -- digits have a value, as std reads and writes them
@@ -48,18 +47,20 @@ numeral_parts word numeral =
       ];
     }
 
--- what `parse` answers for a numeral
-pub parsed : {E : Type 0} (word : Text) (r : Result ℕ E) → ParsesUnsigned 64 10 word r → is_numeral word ≡ true → OkIff r ((0 < length word) × (digits_value 10 word < 2 ^ 64)) (digits_value 10 word)
-parsed word r h numeral = parse_digits digits 64 word r h (numeral_parts word numeral).all_digits
+-- more digits make no smaller number
+value_grows : (n : ℕ) (ds : List ℕ) → n ≤ digits_value_after 10 n ds
+value_grows n [] = omega arith
+value_grows n (d ∷ ds) = omega (arith, value_grows (n * 10 + digit_value d) ds)
 
-pub numeral_is_text : (word : Text) → is_numeral word ≡ true → IsUtf8 word
-numeral_is_text word numeral = IsUtf8-from_ascii word (IsAscii-from_digits word (digits.to word (numeral_parts word numeral).all_digits))
+-- with the next digit, what was read so far isn't above the whole
+pub value_so_far : (word : Text) (i n d : ℕ) → i < length word → digits_value_after 10 n (drop i word) ≡ digits_value 10 word → n * 10 + digit_value (get_or word i d) ≤ digits_value 10 word
+value_so_far word i n d lt whole =
+    let split : digits_value_after 10 (n * 10 + digit_value (get_or word i d)) (drop (suc i) word) ≡ digits_value 10 word = rw (drop-cons word i d lt) at whole in
+    omega (arith, value_grows (n * 10 + digit_value (get_or word i d)) (drop (suc i) word))
 
-pub parse_never_fails : {E : Type 0} (word text : Text) (r : Result ℕ E) (e : E) → text ≡ word → ParsesUnsigned 64 10 text r → r ≡ Err e → is_numeral word ≡ true → digits_value 10 word < 2 ^ 64 → ⊥
-parse_never_fails {E} word text r e same h is-err numeral small =
-    let at-word : ParsesUnsigned 64 10 word r = rw same at h in
-    let told = rw is-err at (parsed word r at-word numeral) in
-    told ((numeral_parts word numeral).nonempty, small)
+-- and without digits that are left it is the whole
+pub value_at_end : (word : Text) (i n : ℕ) → length word ≤ i → digits_value_after 10 n (drop i word) ≡ digits_value 10 word → n ≡ digits_value 10 word
+value_at_end word i n le whole = rw (drop_of_length-le word le) at whole
 
 -- a number's decimal text is read as that number
 pub number_of-decimal : (most n : ℕ) → n ≤ most → most < 2 ^ 64 → number_of most (decimal n) ≡ Some n

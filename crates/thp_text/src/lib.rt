@@ -9,11 +9,13 @@ mod script_reader;
 mod sequence;
 mod settings;
 mod statement;
+mod vocabulary;
 mod words;
 
 pub use fault::{ReadFault, TextKind};
 pub use input::MAX_INPUT;
 pub use script::{Command, Op, Script};
-pub use script_reader::read_script;
+pub use script_reader::{read_script, read_script_of};
 pub use sequence::Sequence;
 pub use settings::{Report, Settings};
+pub use vocabulary::Vocabulary;

@@ -11,9 +11,9 @@ pub enum Op {
     /// Takes one mapping of the whole page away.
     UnmapWhole { page: u64 },
     /// Maps `count` subpages of a page once more by PTE entries, from subpage `first` on.
-    Map { page: u64, first: u32, count: u32 },
+    Map { first: u16, count: u16, page: u64 },
     /// Takes one PTE mapping of each of `count` subpages of a page away, from subpage `first` on.
-    Unmap { page: u64, first: u32, count: u32 },
+    Unmap { first: u16, count: u16, page: u64 },
     /// Splits the PMD mapping of a page.
     SplitPmd { page: u64 },
     /// Pins a page once more.
@@ -23,7 +23,15 @@ pub enum Op {
     /// Closes the node: nothing enters its queue from then on, and no page is allocated.
     Close,
     /// Lets the shrinker take up to `count` pages, try to split each, and put back the others.
-    Scan { count: u32 },
+    Scan { count: u16 },
+    /// Asks how many pages stand in the queue.
+    Count,
+    /// Takes up to `count` of the oldest queued pages into a batch.
+    Take { count: u16 },
+    /// Tries the next page of the open batch.
+    SplitNext,
+    /// Puts back the pages that are left of the open batch.
+    PutBack,
 }
 
 /// A call, and the node that it is made on.

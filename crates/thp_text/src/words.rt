@@ -1,9 +1,9 @@
 //! Words of a line, and words as numbers.
-ghost use Rattle.std.specs.Prelude.{◌≡◌, ◌≢◌, ◌==◌, ◌∷◌, [], ◌<◌, ◌^◌, ◌≤◌, ℕ, true, MatchOption, SomeIff, IfSome, IfNone, length, position};
+ghost use Rattle.std.specs.Prelude.{◌≡◌, ◌≢◌, ◌==◌, ◌∷◌, [], ◌<◌, ◌^◌, ◌≤◌, ◌+◌, ◌*◌, ℕ, true, MatchOption, SomeIff, IfSome, IfNone, length, position};
 ghost use Rattle.std.specs.Fmt.{decimal};
 ghost use Rattle.std.specs.List.{list_all};
 ghost use Rattle.std.specs.Option.{option_copied};
-ghost use Rattle.std.specs.Char.{is_ascii_digit};
+ghost use Rattle.std.specs.Char.{digit_value, is_ascii_digit};
 ghost use Rattle.std.specs.Str.Parse.{digits_value};
 ghost use Rattle.thp_text.specs.Words.{is_numeral, number_of, pieces_at, pieces_left, words_of};
 
@@ -72,18 +72,24 @@ fn is_numeral(word: &[u8]) -> bool
     is_all_digits(word) && !word.is_empty() && (word[0] != b'0' || word.len() == 1)
 }
 
+/// The number of the digits before this one and this one, where it fits.
+fn with_digit(before: u64, digit: u8) -> Option<u64>
+    requires { is_ascii_digit digit ≡ true }
+    ensures { SomeIff result (before * 10 + digit_value digit < 2 ^ 64) (before * 10 + digit_value digit) }
+{
+    before.checked_mul(10)?.checked_add(u64::from(digit - b'0'))
+}
+
 /// The value of a numeral, where it fits.
 fn value_of(word: &[u8]) -> Option<u64>
     requires { is_numeral word.now ≡ true }
     ensures { SomeIff result (digits_value 10 word.now < 2 ^ 64) (digits_value 10 word.now) }
 {
-    let Ok(text) = str::from_utf8(word) else {
-        return None;
-    };
-    match text.parse::<u64>() {
-        Ok(value) => Some(value),
-        Err(_) => None,
+    let mut value = 0;
+    for digit in word {
+        value = with_digit(value, *digit)?;
     }
+    Some(value)
 }
 
 /// The number that a word writes in decimal, without a sign or a leading zero, where it is at most `most`.

@@ -1,8 +1,16 @@
-use Rattle.thp_text.proofs.NumberLaws.{numeral_is_text, parse_never_fails}
+use Rattle.std.proofs.Common.{◌<◌, ◌^◌, ◌≤◌, ℕ, arith}
+use Rattle.std.specs.Str.Parse.{digits_value}
+use Rattle.thp_text.proofs.NumberLaws.{value_so_far, value_at_end}
 use Rattle.thp_text.proofs.words.value_of.Goals as goal
 
-pub returns-in_default : goal.returns-in_default
-returns-in_default c = λ _. absurd (c.in_default.ensures.cases.0 (numeral_is_text c.args.word.now c.requires))
+below : (part whole : ℕ) → part ≤ whole → (part < 2 ^ 64 → ⊥) → whole < 2 ^ 64 → ⊥
+below part whole le over small = over (omega arith)
 
-pub returns-in-Err : goal.returns-in-Err
-returns-in-Err c = parse_never_fails c.args.word.now c.in-Ok.text.now c.parse.result c.in-Err.field-0 c.in-Ok.ensures.cases.0 c.parse.ensures.value.0 c.in-Err.is c.requires
+pub returns-in_err-value : goal.returns-in_err-value
+returns-in_err-value c = rw c.from_residual.ensures (below _ (digits_value 10 c.args.word.now) (value_so_far c.args.word.now c.loop-digit.digit-index c.loop-digit.value _ c.loop-digit-test.true c.loop-digit.invariant.whole) c.in_err-value.ensures)
+
+pub returns : goal.returns
+returns c =
+    let is = value_at_end c.args.word.now c.loop-digit.digit-index c.loop-digit.value (omega arith) c.loop-digit.invariant.whole in
+    let small = c.loop-digit.invariant.fits in
+    (omega arith, is)

@@ -17,10 +17,10 @@ pub returns-in-UnmapWhole : goal.returns-in-UnmapWhole
 returns-in-UnmapWhole c = change_step c.args.self.now.node c.unmap_whole.new.self c.args.caller c.args._node c.args.op (UnmapWhole c.in-UnmapWhole.page) (what.UnmapWhole c.in-UnmapWhole.page) c.unmap_whole.result c.change.result (omega arith) c.in-UnmapWhole.is c.change.ensures c.unmap_whole.ensures.allowed c.unmap_whole.ensures.recorded c.unmap_whole.ensures.refused (λ d. (d, refl, refl))
 
 pub returns-in-Map : goal.returns-in-Map
-returns-in-Map c = unit_step c.args.self.now.node c.map_sub.new.self c.args.caller c.args._node c.args.op (Map c.in-Map.page c.in-Map.first c.in-Map.count) (what.MapSub c.in-Map.page c.in-Map.first c.in-Map.count) c.map_sub.result c.unit-in-Map.result (omega arith) c.in-Map.is c.unit-in-Map.ensures c.map_sub.ensures.allowed c.map_sub.ensures.recorded c.map_sub.ensures.refused (refl, refl)
+returns-in-Map c = unit_step c.args.self.now.node c.map_sub.new.self c.args.caller c.args._node c.args.op (Map c.in-Map.first c.in-Map.count c.in-Map.page) (what.MapSub c.in-Map.page c.in-Map.first c.in-Map.count) c.map_sub.result c.unit-in-Map.result (omega arith) c.in-Map.is c.unit-in-Map.ensures c.map_sub.ensures.allowed c.map_sub.ensures.recorded c.map_sub.ensures.refused (refl, refl)
 
 pub returns-in-Unmap : goal.returns-in-Unmap
-returns-in-Unmap c = change_step c.args.self.now.node c.unmap_sub.new.self c.args.caller c.args._node c.args.op (Unmap c.in-Unmap.page c.in-Unmap.first c.in-Unmap.count) (what.UnmapSub c.in-Unmap.page c.in-Unmap.first c.in-Unmap.count) c.unmap_sub.result c.change-in-Unmap.result (omega arith) c.in-Unmap.is c.change-in-Unmap.ensures c.unmap_sub.ensures.allowed c.unmap_sub.ensures.recorded c.unmap_sub.ensures.refused (λ d. (d, refl, refl))
+returns-in-Unmap c = change_step c.args.self.now.node c.unmap_sub.new.self c.args.caller c.args._node c.args.op (Unmap c.in-Unmap.first c.in-Unmap.count c.in-Unmap.page) (what.UnmapSub c.in-Unmap.page c.in-Unmap.first c.in-Unmap.count) c.unmap_sub.result c.change-in-Unmap.result (omega arith) c.in-Unmap.is c.change-in-Unmap.ensures c.unmap_sub.ensures.allowed c.unmap_sub.ensures.recorded c.unmap_sub.ensures.refused (λ d. (d, refl, refl))
 
 pub returns-in-SplitPmd : goal.returns-in-SplitPmd
 returns-in-SplitPmd c = unit_step c.args.self.now.node c.split_pmd.new.self c.args.caller c.args._node c.args.op (SplitPmd c.in-SplitPmd.page) (what.SplitPmd c.in-SplitPmd.page) c.split_pmd.result c.unit-in-SplitPmd.result (omega arith) c.in-SplitPmd.is c.unit-in-SplitPmd.ensures c.split_pmd.ensures.allowed c.split_pmd.ensures.recorded c.split_pmd.ensures.refused (refl, refl)
