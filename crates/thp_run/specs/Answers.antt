@@ -53,12 +53,12 @@ DoesLoss c what own answer = (d : Done) × (own ≡ by c (what d.outcome d.relea
 abbrev pub Does : Shape → History → ℕ → Op → List Event → Answer → Type 0
 Does s h c Alloc own answer = (block : ℕ) × (own ≡ by c (what.Alloc (allocations h) block) ∷ []) × (answer ≡ Ok (Page (allocations h)))
 Does s h c (MapWhole p) own answer = DoesOne c (what.MapWhole p) own answer
-Does s h c (UnmapWhole p) own answer = DoesLoss c (what.UnmapWhole p) own answer
+Does s h c (UnmapWhole p) own answer = DoesLoss c (λ o set. what.UnmapWhole o p set) own answer
 Does s h c (Map first count p) own answer = DoesOne c (what.MapSub p first count) own answer
-Does s h c (Unmap first count p) own answer = DoesLoss c (what.UnmapSub p first count) own answer
+Does s h c (Unmap first count p) own answer = DoesLoss c (λ o set. what.UnmapSub o p first count set) own answer
 Does s h c (SplitPmd p) own answer = DoesOne c (what.SplitPmd p) own answer
 Does s h c (Pin p) own answer = DoesOne c (what.Pin p) own answer
-Does s h c (Unpin p) own answer = DoesLoss c (what.Unpin p) own answer
+Does s h c (Unpin p) own answer = DoesLoss c (λ o set. what.Unpin o p set) own answer
 Does s h c Close own answer = DoesOne c what.Close own answer
 Does s h c (Scan count) own answer = (own ≡ scan_events s h c count) × (answer ≡ Ok (reply.Scan (scan_reply own)))
 Does s h c (Take count) own answer = ⊥
