@@ -31,7 +31,10 @@ fn faults_of_the_whole_grammar(rt: HostRuntime) {
         (b"worker 1\n count 0\n", 2, TextKind::BadWord),
     ];
     for (script, line, kind) in rows {
-        assert!(rt; first_fault(rt.alloc(), script) == Some((line, kind)), "{line} {kind}");
+        assert!(rt;
+            first_fault(rt.alloc(), script) == Some((line, kind)),
+            "{line} {kind}"
+        );
     }
 }
 
@@ -73,6 +76,10 @@ fn sections_and_all_commands(rt: HostRuntime) {
 #[test]
 fn without_sections_each_worker_has_no_commands(rt: HostRuntime) {
     let settings = Settings::new(1, 16, 1, Report::Totals).expect(&rt, "within the limits");
-    let read = read_script(rt.alloc(), &settings, b"".as_slice());
-    assert!(rt; matches!(read, Ok(script) if script.workers.as_slice().len() == 1));
+    let Ok(script) = read_script(rt.alloc(), &settings, b"".as_slice()) else {
+        assert!(rt; false, "a script");
+        return;
+    };
+    assert!(rt; script.workers.as_slice().len() == 1);
+    assert!(rt; script.setup.as_slice().is_empty());
 }

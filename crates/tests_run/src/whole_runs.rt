@@ -1,10 +1,10 @@
 //! Whole runs on memory, devices that fail, and words of a command line.
-use thp_run::{
-    Command, Line, NoGate, Op, Report, RunFault, Sequence, Settings, Watched, read_line, run,
-};
 use std::alloc::{AllocError, Global};
 use std::io;
 use std::io::{Error, ErrorKind, Read, Write};
+use thp_run::{
+    Command, Line, NoGate, Op, Report, RunFault, Sequence, Settings, Watched, read_line, run,
+};
 
 /// A reader whose first read fails.
 #[derive(Drop)]
@@ -353,7 +353,14 @@ fn limits_and_constructors(rt: HostRuntime) {
     assert!(rt; Settings::new(1, 0, 1, Report::Totals).is_none());
     assert!(rt; Settings::new(1, 4097, 1, Report::Totals).is_none());
     assert!(rt; Settings::new(1, 16, 64, Report::Totals).is_none());
+    assert!(rt; Settings::new(1, 16, 0, Report::Totals).is_none());
+    assert!(rt; Settings::new(0, 16, 1, Report::Totals).is_none());
     assert!(rt; Settings::new(1, 4096, 1, Report::Totals).is_some());
+    let two = Settings::new(2, 16, 63, Report::Totals).expect(&rt, "within the limits");
+    assert!(rt; two.with_orders([2, 9].as_slice()).is_some());
+    assert!(rt; two.with_orders([2].as_slice()).is_none());
+    assert!(rt; two.with_orders([2, 10].as_slice()).is_none());
+    assert!(rt; two.with_orders([1, 9].as_slice()).is_none());
     let line = read_line(rt.alloc(), ["thpsplit"].as_slice());
     assert!(rt;
         matches!(

@@ -28,7 +28,7 @@ use Rattle.thp_text.specs.declared.script.Op.TheVariants.{Alloc, MapWhole, Unmap
 use Rattle.thp_run.specs.Answers.{Answer, Answers, Does, refusal_of}
 use Rattle.thp_run.specs.Fronts.{Moves, StepDone, Tells}
 use Rattle.thp_text.specs.declared.settings.Settings.{Settings}
-use Rattle.thp_run.specs.NewNodes.{IsNew, shape_of}
+use Rattle.thp_run.specs.NewNodes.{IsNew, IsServed, shape_of}
 use Rattle.thp_run.specs.OneNode.{change_answer, fronts_of, only, unit_answer}
 
 -- a call is never refused at a history for want of memory
@@ -176,9 +176,9 @@ only_nothing : (n : ℕ) → only [] n ≡ []
 only_nothing zero = refl
 only_nothing (suc n) = refl
 
-pub new_node : (s : Settings) (node : NodeState) → node.shape ≡ shape_of s 0 → node.journal ≡ [] → IsNew s (fronts_of node)
-new_node s node shape journal = record {
-  nodes = omega (arith, s.within_limits.least_nodes, s.within_limits.most_nodes);
+pub new_node : (s : Settings) (node : NodeState) → node.shape ≡ shape_of s 0 → node.journal ≡ [] → IsServed s → IsNew s (fronts_of node)
+new_node s node shape journal served = record {
+  nodes = omega (arith, served.one_node);
   shape = ap shapes shape;
   front = λ n. rw journal (only_nothing n);
   first = refl;

@@ -19,6 +19,7 @@ use Rattle.thp_run.specs.declared.fault.RunFault.TheVariants.{Text, OutOfMemory,
 use Rattle.thp_run.specs.declared.line.Line.{Line}
 use Rattle.thp_run.specs.CommandLine.{FailsAsWords, HoldsWords}
 use Rattle.thp_run.specs.Devices.{WritesFront}
+use Rattle.thp_run.specs.NewNodes.{IsServed}
 use Rattle.thp_run.specs.Programs.{Ends}
 
 -- ---- lines on standard error, and exit statuses
@@ -79,9 +80,9 @@ abbrev pub given_words : Result (Vec (String Global) Global) WordsFault → Resu
 given_words (Ok words) = Ok (map string_bytes words.items)
 given_words (Err fault) = Err fault
 
--- one node of the line's blocks, one worker, and the line's report
+-- one node of the line's blocks, with pages of order 9, one worker, and the line's report
 pub record IsSettingsOf (line : Line) (s : Settings) : Type 0 where
-  pub nodes : s.nodes ≡ 1
+  pub served : IsServed s
   pub blocks : s.blocks ≡ line.blocks
   pub workers : s.workers ≡ 1
   pub report : s.report ≡ line.report

@@ -2,6 +2,7 @@
 ghost use Rattle.std.specs.Prelude.{◌≡◌, ◌≤◌, IfErr, IfOk, List, false, map};
 ghost use Rattle.std.specs.List.{range_with_len};
 ghost use Rattle.thp_run.specs.Fronts.{Fronts};
+ghost use Rattle.thp_run.specs.NewNodes.{IsServed};
 ghost use Rattle.thp_run.specs.Programs.{Ends, IsReport};
 ghost use Rattle.thp_run.specs.Reports.{totals_of, totals_text};
 ghost use Rattle.thp_text.specs.declared.vocabulary.Vocabulary.TheVariants.{SetupOnly};
@@ -37,6 +38,7 @@ fn report_of<N: Nodes + Drop>(
     settings: &Settings,
     input: &[u8],
 ) -> Result<Vec<u8>, ReadFault>
+    requires { IsServed settings.now }
     ensures text { IfOk result (λ text. IsReport settings.now input.now text.items) }
     ensures fault { IfErr result (TellsFault (script_of SetupOnly settings.now input.now)) }
 {
@@ -53,6 +55,7 @@ pub(crate) fn run_on<N: Nodes + Drop, R: Read, W: Write>(
     reader: &mut Watched<R>,
     writer: &mut Watched<W>,
 ) -> Result<(), RunFault>
+    requires served { IsServed settings.now }
     requires reader { reader.old.failed ≡ false }
     requires writer { writer.old.failed ≡ false }
     ensures { Ends settings.now (R.remaining reader.old.device) (W.contents writer.old.device) (W.contents writer.new.device) reader.new.failed writer.new.failed result }
@@ -64,7 +67,7 @@ pub(crate) fn run_on<N: Nodes + Drop, R: Read, W: Write>(
 
 /// Runs the script that the reader gives, and writes the report of the run.
 ///
-/// The run has one node of the settings' blocks and does the section `setup` on the calling thread. Nothing is written
+/// The settings are those that a run serves so far: one node, with pages of order 9. It has the settings' blocks and does the section `setup` on the calling thread. Nothing is written
 /// but the report; where the writer fails, a front of it. The gate isn't passed yet, since there are no workers.
 pub fn run<R: Read, W: Write, G: Gate>(
     alloc: Global,
@@ -73,6 +76,7 @@ pub fn run<R: Read, W: Write, G: Gate>(
     writer: &mut Watched<W>,
     _gate: &G,
 ) -> Result<(), RunFault>
+    requires served { IsServed settings.now }
     requires reader { reader.old.failed ≡ false }
     requires writer { writer.old.failed ≡ false }
     ensures { Ends settings.now (R.remaining reader.old.device) (W.contents writer.old.device) (W.contents writer.new.device) reader.new.failed writer.new.failed result }

@@ -17,5 +17,5 @@ pub use input::MAX_INPUT;
 pub use script::{Command, Op, Script};
 pub use script_reader::{read_script, read_script_of};
 pub use sequence::Sequence;
-pub use settings::{Report, Settings};
+pub use settings::{MAX_NODES, Report, Settings};
 pub use vocabulary::Vocabulary;
