@@ -4,10 +4,10 @@ ghost use Rattle.thp_model.specs.Pages.{is_worth};
 ghost use Rattle.thp_model.specs.Places.{no_pages, takes_by};
 ghost use Rattle.thp_page.specs.Slots.{slot_at};
 ghost use Rattle.thp_places.specs.Flying.{IsFlyingAt};
+ghost use Rattle.thp_places.specs.PageCalls.{gain_what, loss_what};
 ghost use Rattle.thp_places.specs.PlacesState.{AtSlot};
 ghost use Rattle.thp_check.specs.Flights.{blocks_in};
 ghost use Rattle.thp_check.specs.Meanings.{is_taker};
-ghost use Rattle.thp_places.specs.PageCalls.{gain_what, loss_what};
 
 use crate::flights::Flights;
 use std::alloc::{AllocError, Global};
