@@ -8,7 +8,15 @@ use thp_model::{Event, Outcome, PageId, Refusal, Shape, SubSet, What};
 
 // A node of order 9 with these blocks.
 fn node_of(rt: &impl Abort, alloc: Global, blocks: u32) -> Node {
-    Node::new(alloc, Shape { blocks, order: 9, underused: None }).expect(rt, "a node of this shape")
+    Node::new(
+        alloc,
+        Shape {
+            blocks,
+            order: 9,
+            underused: None,
+        },
+    )
+    .expect(rt, "a node of this shape")
 }
 
 // Allocates the page of this number, splits its PMD mapping and unmaps its first subpage, which queues it.
@@ -275,7 +283,14 @@ fn limits_and_constructors(rt: HostRuntime) {
     for shape in [(0, 9), (4097, 9), (16, 1), (16, 10)] {
         let (blocks, order) = shape;
         let is_bad = matches!(
-            Node::new(alloc, Shape { blocks, order, underused: None }),
+            Node::new(
+                alloc,
+                Shape {
+                    blocks,
+                    order,
+                    underused: None
+                }
+            ),
             Err(NewFault::BadSize)
         );
         assert!(rt; is_bad, "{blocks} blocks of order {order}");

@@ -8,7 +8,6 @@ ghost use Rattle.thp_model.specs.Runs.{take_events, put_back_events, scan_events
 ghost use Rattle.thp_node.specs.Batches.{back_reply, scan_reply, IsInFront, FrontsStay};
 ghost use Rattle.thp_node.specs.Calls.{Did, Refused};
 ghost use Rattle.thp_places.specs.Homes.{block_of};
-
 ghost use Rattle.thp_node.specs.Scanning.{used_count};
 
 use crate::answers::{BackReply, ScanReply, Tried};
