@@ -114,9 +114,6 @@ loss_keeps loss closed x old new b done left lost unfreed = go done.outcome unfr
 pub chain_some : (t : Table) (f : List ℕ) (b : ℕ) → HasChain t f → slice_get f 0 ≡ Some b → HasFree t
 chain_some t f b m first = let here = Contains-from_first f b first in record { block = b; inside = m.inside b here; empty = m.chain.empty b here }
 
-pub first_empty : (t : Table) (f : List ℕ) (b : ℕ) → HasChain t f → slice_get f 0 ≡ Some b → slot_at t b ≡ None
-first_empty t f b m first = m.chain.empty b (Contains-from_first f b first)
-
 pub chain_none : (t : Table) (f : List ℕ) → HasChain t f → slice_get f 0 ≡ None → (b : ℕ) → b < length t.slots → IsSome (slot_at t b)
 chain_none t f m none b inside = go (slot_at t b) refl where
   go : (o : Option Slot) → slot_at t b ≡ o → IsSome o
@@ -124,12 +121,6 @@ chain_none t f m none b inside = go (slot_at t b) refl where
   go None e =
       let P : List ℕ → Type 0 = λ xs. Contains xs b in
       absurd (Contains-nil b (subst P (empty_from_first f none) (m.all b inside e)))
-
-pub never_none : (t : Table) (f : List ℕ) → HasChain t f → HasFree t → slice_get f 0 ≡ None → ⊥
-never_none t f m free none = let some = chain_none t f m none free.block free.inside in some_none (slot_at t free.block) some free.empty where
-  some_none : (o : Option Slot) → IsSome o → o ≡ None → ⊥
-  some_none (Some x) s e = cc
-  some_none None s e = cc
 
 -- the first block of the chain goes out of it, and gets a page
 pub chain_placed : (old mid new : PlacesState) (f g : List ℕ) (b : ℕ) (y : Slot) (q : List ℕ) (n : ℕ) → HasChain old.table f → slice_get f 0 ≡ Some b → Distinct f → g ≡ drop 1 f →

@@ -1,10 +1,8 @@
 -- How large the numbers that a history gives can be, and how a caller's flight grows and shrinks.
-use Rattle.std.proofs.Common.{◌≡◌, ℕ, ◌+◌, ◌*◌, ◌<◌, ◌≤◌, Bool, true, false, cond, not, ◌&&◌, List, [], ◌∷◌, ◌++◌, length, Some, None, refl, ap, ap₂, sym, ◌∙◌, arith, nat_eq, eqb-true, eq-eqb}
+use Rattle.std.proofs.Common.{◌≡◌, ℕ, ◌+◌, ◌*◌, ◌<◌, ◌≤◌, Bool, true, false, cond, not, List, [], ◌∷◌, ◌++◌, length, Some, None, refl, ap, ap₂, sym, ◌∙◌, arith, nat_eq, eqb-true, eq-eqb}
 use Rattle.std.proofs.Math.Nat.{mul-le-mul}
-use Rattle.std.specs.List.{filter, fold}
-use Rattle.std.proofs.lemmas.List.{length_push, length-map}
-use Rattle.std.proofs.lemmas.List.Sums.{length-filter, count_by-le-length}
-use Rattle.thp_model.specs.declared.events.Event.{Event}
+use Rattle.std.specs.List.{filter}
+use Rattle.std.proofs.lemmas.List.{length_push}
 use Rattle.thp_model.specs.declared.events.Outcome.{Outcome}
 use Rattle.thp_model.specs.declared.events.Outcome.TheVariants.{Freed, Queued, Stays}
 use Rattle.thp_model.specs.declared.events.What.{What}
@@ -16,7 +14,7 @@ use Rattle.thp_model.specs.Counts.{is_alloc, allocations}
 use Rattle.thp_model.specs.Frames.{frames_given, frames_held}
 use Rattle.thp_model.specs.FlightSteps.{flight_after, flight_by}
 use Rattle.thp_model.specs.Legal.{IsLegal, FitsBy}
-use Rattle.thp_model.specs.Places.{flights, flight, flights_after, flights_by, leaves, without, has_page}
+use Rattle.thp_model.specs.Places.{flights, flight, without, has_page}
 use Rattle.thp_model.proofs.Bools.{one_if, none_if}
 use Rattle.thp_model.proofs.Flights.{flight_push}
 use Rattle.thp_model.proofs.Kept.{frames_kept}
@@ -37,43 +35,6 @@ pub all_frames : (shape : Shape) (h : History) (n m g : ℕ) → IsShape shape �
     n ≡ subpages shape → m ≡ allocations h → g ≡ frames_given h → n * m ≡ frames_held shape h + g
 all_frames shape h n m g s l e f i =
     ap₂ (λ x y. x * y) e f ∙ frames_kept shape h s.most_order l ∙ ap (λ x. frames_held shape h + x) (sym i)
-
-length-fold : {A X : Type 0} (f : List A → X → List A) → ((ys : List A) (x : X) → length (f ys x) ≤ length ys + 1) →
-    (ys : List A) (xs : List X) → length (fold f ys xs) ≤ length ys + length xs
-length-fold f step ys [] = omega arith
-length-fold f step ys (x ∷ xs) = omega (arith, length-fold f step (f ys x) xs, step ys x)
-
-length-kept : {A : Type 0} (p : A → Bool) (xs : List A) → length (filter p xs) ≤ length xs
-length-kept p xs = omega (arith, length-filter p xs, count_by-le-length p xs)
-
-outcome_step : (fs : List (ℕ × ℕ)) (p : ℕ) (o : Outcome) → length (flights_by fs p o) ≤ length fs + 1
-outcome_step fs p Freed = omega (arith, length-kept (λ (f : ℕ × ℕ). not (nat_eq f.1 p)) fs)
-outcome_step fs p Queued = omega arith
-outcome_step fs p Stays = omega arith
-
-leaves_step : (fs : List (ℕ × ℕ)) (c p : ℕ) → length (leaves c p fs) ≤ length fs + 1
-leaves_step fs c p = omega (arith, length-kept (λ (f : ℕ × ℕ). not (nat_eq f.0 c && nat_eq f.1 p)) fs)
-
-flights_step : (fs : List (ℕ × ℕ)) (c : ℕ) (w : What) → length (flights_after fs c w) ≤ length fs + 1
-flights_step fs c (UnmapWhole o p r) = outcome_step fs p o
-flights_step fs c (UnmapSub o p a n r) = outcome_step fs p o
-flights_step fs c (Unpin o p r) = outcome_step fs p o
-flights_step fs c (Taken p) = omega (arith, length_push fs (c, p))
-flights_step fs c (Split p r) = leaves_step fs c p
-flights_step fs c (Used p) = leaves_step fs c p
-flights_step fs c (Back p) = leaves_step fs c p
-flights_step fs c (Dropped p) = leaves_step fs c p
-flights_step fs c w = omega arith
-
-few_flights : (h : History) → length (flights h) ≤ length h
-unfolding flights
-few_flights h = omega (arith, length-fold (λ fs (e : Event). flights_after fs e.caller e.what) (λ fs e. flights_step fs e.caller e.what) [] h)
-
--- no more pages are in flight than there are events
-pub few_in_flight : (h : History) (c : ℕ) → length (flight h c) ≤ length h
-few_in_flight h c =
-    let cs : List (ℕ × ℕ) = filter (λ (f : ℕ × ℕ). nat_eq f.0 c) (flights h) in
-    omega (arith, few_flights h, length-kept (λ (f : ℕ × ℕ). nat_eq f.0 c) (flights h), length-map cs (λ (f : ℕ × ℕ). f.1))
 
 -- the pages that c has among those in flight
 abbrev of : ℕ → List (ℕ × ℕ) → List ℕ

@@ -1,11 +1,9 @@
 -- Returns of the pages of a batch, one by one, as the node's own.
-use Rattle.std.proofs.Common.{◌≡◌, ◌≢◌, ℕ, zero, suc, ◌+◌, ◌<◌, ◌≤◌, Bool, true, false, List, [], ◌∷◌, ◌++◌, Option, Some, length, map, take, drop, refl, ap, ap₂, sym, ◌∙◌, subst, arith, get_or, length-append, append_assoc, nat_eq, eq-eqb, cond, not, ◌&&◌, ◌||◌, ◌-◌, count_by}
+use Rattle.std.proofs.Common.{◌≡◌, ℕ, zero, suc, ◌+◌, ◌<◌, ◌≤◌, Bool, true, false, List, [], ◌∷◌, ◌++◌, Option, Some, length, map, take, drop, refl, ap, ap₂, sym, ◌∙◌, subst, arith, get_or, append_assoc, nat_eq, eq-eqb, cond, not, ◌&&◌, ◌||◌, ◌-◌, count_by}
 use Rattle.std.specs.Prelude.{slice_get}
 use Rattle.std.specs.Int.{from_bool}
 use Rattle.std.proofs.Math.Seq.{drop-cons, take-append_seam}
 use Rattle.std.proofs.lemmas.List.{map-append, take-append-drop, take_more}
-use Rattle.std.proofs.lemmas.List.Elements.{filter-append}
-use Rattle.std.proofs.lemmas.List.Sums.{length-filter, count_by-le-length}
 use Rattle.thp_model.specs.declared.events.Event.{Event}
 use Rattle.thp_model.specs.declared.events.What.TheVariants as what
 use Rattle.thp_model.specs.declared.shape.Shape.{Shape}
@@ -16,11 +14,11 @@ use Rattle.thp_model.specs.Places.{flight, has_page}
 use Rattle.thp_model.specs.Runs.{return_event, still_flying, put_back_events, goes_back}
 use Rattle.thp_model.proofs.ListPlaces.{append_none}
 use Rattle.thp_model.proofs.Bools.{or_first, not_true, not_false}
-use Rattle.thp_model.proofs.ReturnRuns.{Returned, return_fits, return_as, still_flying-split, returns_run}
+use Rattle.thp_model.proofs.ReturnRuns.{Returned, return_fits, return_as, returns_run}
 use Rattle.thp_model.proofs.Counting.{count-cons, count_push}
 use Rattle.thp_model.specs.Legal.{is_dropped}
 use Rattle.thp_model.specs.Underused.{is_partly_mapped}
-use Rattle.thp_page.specs.declared.standing.Standing.TheVariants.{Nowhere, Queued, Batch}
+use Rattle.thp_page.specs.declared.standing.Standing.TheVariants.{Nowhere, Queued}
 use Rattle.thp_page.specs.Table.{Slot}
 use Rattle.thp_page.specs.Table.{Table}
 use Rattle.thp_page.specs.Slots.{slot_at}
@@ -46,10 +44,6 @@ the_reply b d = record { back = b; dropped = d }
 pub from_cond : (b : Bool) → from_bool b ≡ cond b 1 0
 from_cond true = refl
 from_cond false = refl
-
--- a page of a batch stands in no queue
-pub flying_outside : (t : Table) (c p b : ℕ) → IsFlyingAt t c p b → (x : Slot) → slot_at t b ≡ Some x → x.standing ≢ Queued
-flying_outside t c p b w x at = λ e. absurd (let same : x ≡ w.slot = cc in let no : Queued ≡ Batch c = sym e ∙ ap (λ (y : Slot). y.standing) same ∙ w.stands in cc)
 
 -- the node once a page of a batch was dropped
 pub dropped_all : (s r : Shape) (h k : History) (c p b : ℕ) (old new : PlacesState) → IsNode s h old.table old.queue → IsFlyingAt old.table c p b → Fits s h (by c (what.Dropped p)) →
@@ -96,22 +90,6 @@ did_return old new c p z e d =
       twice : (b : Bool) → not (not b) ≡ b
       twice true = refl
       twice false = refl
-
--- a part of a batch has no more pages in flight than the whole
-pub few_flying : (h : History) (c i : ℕ) (ps : List ℕ) → length (still_flying h c (take i ps)) ≤ length ps
-few_flying h c i ps =
-    omega (
-      arith,
-      ap length (still_flying-split h c i ps),
-      length-append (still_flying h c (take i ps)) (still_flying h c (drop i ps)),
-      length-filter (λ p. has_page p (flight h c)) ps,
-      count_by-le-length (λ p. has_page p (flight h c)) ps,
-    )
-
--- one page more of a batch: it is in flight, or passed over
-pub flying_more : (h : History) (c i d : ℕ) (ps : List ℕ) → i < length ps →
-    still_flying h c (take (i + 1) ps) ≡ still_flying h c (take i ps) ++ still_flying h c (get_or ps i d ∷ [])
-flying_more h c i d ps below = ap (still_flying h c) (take_more ps i d below) ∙ filter-append (λ p. has_page p (flight h c)) (take i ps) (get_or ps i d ∷ [])
 
 -- a return moves no page to another block
 blocks_returned : (h : History) (c : ℕ) (f : ℕ → Bool) (ps : List ℕ) (p : ℕ) → block_of (h ++ map (λ q. return_as (f q) c q) ps) p ≡ block_of h p

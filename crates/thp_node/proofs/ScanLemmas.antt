@@ -3,7 +3,6 @@ use Rattle.std.proofs.Common.{◌≡◌, ℕ, min, suc, ◌+◌, ◌*◌, ◌<�
 use Rattle.std.specs.List.{filter, after_first}
 use Rattle.std.proofs.Math.Seq.{drop-cons}
 use Rattle.std.proofs.lemmas.Bool.Decides.{nat_tests}
-use Rattle.std.proofs.lemmas.List.Filters.{length-filter_both}
 use Rattle.std.proofs.lemmas.List.Sums.{length-filter, count_by-le-length}
 use Rattle.std.proofs.lemmas.List.{map-append, take-append-drop, take_more, take_min, length-map}
 use Rattle.thp_model.specs.declared.events.Event.{Event}
@@ -19,7 +18,7 @@ use Rattle.thp_model.specs.Legal.{IsLegal}
 use Rattle.thp_model.specs.Places.{queue, flight, has_page}
 use Rattle.thp_model.specs.Refusals.{refusal}
 use Rattle.thp_model.specs.Refusals as call
-use Rattle.thp_model.specs.Runs.{take_events, scan_events, try_event, is_pinned, return_event, still_flying, put_back_events, next_page, rest_after, split_next_events, tries_of, goes_back, unused}
+use Rattle.thp_model.specs.Runs.{take_events, scan_events, try_event, is_pinned, return_event, still_flying, put_back_events, next_page, rest_after, split_next_events, tries_of, goes_back}
 use Rattle.thp_model.proofs.Bools.{or_first, or_second}
 use Rattle.thp_model.proofs.Counting.{count-cons, count_push}
 use Rattle.thp_model.proofs.ListPlaces.{append_none}
@@ -309,7 +308,7 @@ pub counts_behind : (s : Shape) (h : History) (c : ℕ) (ps : List ℕ) →
 counts_behind s h c ps =
     let qs : List ℕ = filter (is_pinned s h) ps in
     let r = counts_both (map (try_event s h c) ps) (map (return_event s h c) qs) 0 (count_by (gets_split s h) ps) (count_by (is_pinned s h) ps) 0 0 (count_by (is_used s h) ps)
-        0 0 0 (count_by (goes_back s h) qs) (count_by (drops s h) qs) 0 (counts_tries s h c ps) (counts_returns s h c qs) in
+    0 0 0 (count_by (goes_back s h) qs) (count_by (drops s h) qs) 0 (counts_tries s h c ps) (counts_returns s h c qs) in
     counts_as (events_behind s h c ps) _ _ _ _ _ _ 0 (count_by (gets_split s h) ps) (count_by (is_pinned s h) ps) (count_by (goes_back s h) qs) (count_by (drops s h) qs) (count_by (is_used s h) ps) r
     (omega arith) (omega arith) (omega arith) (omega arith) (omega arith) (omega arith)
 

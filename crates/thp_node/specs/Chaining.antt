@@ -1,5 +1,5 @@
 -- The chain of a node's free blocks, and what the calls do that it takes part in. No public clause cites this module.
-use Rattle.std.specs.Prelude.{◌≡◌, ℕ, ◌<◌, length, Bool, List, Option, Some, None}
+use Rattle.std.specs.Prelude.{◌≡◌, ℕ, ◌<◌, length, Bool, List, Option, None}
 use Rattle.std.specs.List.{Contains}
 use Rattle.thp_page.specs.Table.{Slot, Table}
 use Rattle.thp_page.specs.Slots.{slot_at}

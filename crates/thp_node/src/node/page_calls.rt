@@ -134,13 +134,7 @@ impl Node {
     }
 
     /// Zeros are written to each of the `count` subpages from `first` on, which are zero-filled then. Refused as `write` is.
-    pub fn zero(
-        &mut self,
-        caller: u32,
-        page: PageId,
-        first: u32,
-        count: u32,
-    ) -> Result<(), Refusal>
+    pub fn zero(&mut self, caller: u32, page: PageId, first: u32, count: u32) -> Result<(), Refusal>
         requires { caller < 64 }
         ensures allowed { OnOk result (refusal self.old.shape self.old.journal (call.zero_fill page first count) ≡ None) }
         ensures recorded { OnOk result (Did self.old self.new caller (by caller (What.Zero page first count) ∷ [])) }

@@ -1,5 +1,5 @@
 //! The calls by which pages leave a batch together: a put-back, and the scan that is a take, tries and a put-back.
-ghost use Rattle.std.specs.Prelude.{◌≡◌, ◌&&◌, ℕ, ◌*◌, ◌<◌, ◌≤◌, [], ◌∷◌, length, map, take, count_by, slice_get, None, Some, IfOk, IfErr, OnOk};
+ghost use Rattle.std.specs.Prelude.{◌≡◌, not, ◌&&◌, ℕ, ◌*◌, ◌<◌, ◌≤◌, [], ◌∷◌, length, map, take, count_by, slice_get, None, Some, IfOk, IfErr, OnOk};
 ghost use Rattle.thp_model.specs.Legal.{IsLegal};
 ghost use Rattle.thp_model.specs.Places.{flight};
 ghost use Rattle.thp_model.specs.Refusals.{refusal};
@@ -8,7 +8,6 @@ ghost use Rattle.thp_model.specs.Runs.{take_events, put_back_events, scan_events
 ghost use Rattle.thp_node.specs.Batches.{back_reply, scan_reply, IsInFront, FrontsStay};
 ghost use Rattle.thp_node.specs.Calls.{Did, Refused};
 ghost use Rattle.thp_places.specs.Homes.{block_of};
-
 ghost use Rattle.thp_node.specs.Scanning.{used_count};
 
 use crate::answers::{BackReply, ScanReply, Tried};
@@ -106,8 +105,8 @@ impl Node {
     {
         let closed = self.journal.is_closed();
         let partly = self.blocks.is_partly(block);
-        let goes_back = both(!closed, partly);
-        if goes_back {
+        let is_back = joins_queue(closed, partly);
+        if is_back {
             self.blocks.enqueue(block);
             self.journal
                 .record(caller, What::Back { page }, Unsaid::Nothing);
@@ -116,7 +115,7 @@ impl Node {
             self.journal
                 .record(caller, What::Dropped { page }, Unsaid::Nothing);
         }
-        goes_back
+        is_back
     }
 
     /// Takes up to `n` pages, the oldest of the queue in order, tries each of them, and returns those that are found pinned as
@@ -188,11 +187,11 @@ impl Node {
     }
 }
 
-// Whether both hold.
-fn both(left: bool, right: bool) -> bool
-    ensures { result ≡ (left && right) }
+// Whether a page joins the queue again when it leaves its batch: it is partly mapped, and the node isn't closed.
+fn joins_queue(closed: bool, partly: bool) -> bool
+    ensures { result ≡ (not closed && partly) }
 {
-    left && right
+    !closed && partly
 }
 
 // 1 for a try that found its page in use, else 0.

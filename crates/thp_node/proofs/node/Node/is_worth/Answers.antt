@@ -1,4 +1,4 @@
-use Rattle.std.proofs.Common.{◌≡◌, ap, sym, ◌∙◌}
+use Rattle.std.proofs.Common.{ap, sym, ◌∙◌}
 use Rattle.thp_model.specs.Pages.{is_worth}
 use Rattle.thp_model.specs.Underused.{is_worth_split}
 use Rattle.thp_node.specs.NodeState.{NodeState}

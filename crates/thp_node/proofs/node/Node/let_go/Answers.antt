@@ -1,4 +1,4 @@
-use Rattle.std.proofs.Common.{◌≡◌, false, ◌∷◌, [], ◌++◌, ap, sym, ◌∙◌, subst, arith}
+use Rattle.std.proofs.Common.{◌≡◌, false, ◌∷◌, [], ◌++◌, ap, ◌∙◌, subst, arith}
 use Rattle.thp_model.specs.declared.events.Event.{Event}
 use Rattle.thp_model.specs.declared.events.What.TheVariants.{Used}
 use Rattle.thp_model.specs.Pages.{is_worth}
@@ -7,7 +7,7 @@ use Rattle.thp_model.specs.Runs.{try_event}
 use Rattle.thp_node.specs.Calls.{Did}
 use Rattle.thp_node.specs.contracts.node.Node.{the_view}
 use Rattle.thp_node.specs.NodeState.{NodeState}
-use Rattle.thp_node.proofs.BatchRuns.{flies_inside, slot_inside, node_recorded, FoundUsed, found_used}
+use Rattle.thp_node.proofs.BatchRuns.{flies_inside, slot_inside, node_recorded, found_used}
 use Rattle.thp_node.proofs.CallLemmas.{did_one}
 use Rattle.thp_node.proofs.node.Node.let_go.Goals as goal
 

@@ -1,4 +1,4 @@
-use Rattle.std.proofs.Common.{◌≡◌, ◌-◌, length, map, Some, Option, ℕ, sym, ap, ap₂, ◌∙◌, subst, arith}
+use Rattle.std.proofs.Common.{◌-◌, length, map, Some, Option, ℕ, sym, ap, ap₂, ◌∙◌, subst, arith}
 use Rattle.thp_model.specs.History.{History}
 use Rattle.thp_model.specs.Runs.{still_flying}
 use Rattle.thp_places.specs.Homes.{block_of}
@@ -34,12 +34,17 @@ returns-clause-recorded c =
 pub overflow_sub-result : goal.overflow_sub-result
 overflow_sub-result c =
     let h : History = c.args.self.now.journal in
-    omega (arith, (batch_reply c.args.self.now.shape c.reserve.new.self.shape h c.reserve.new.self.events c.caller-2.result (length c.deref.result.now) c.return_all-back.result c.args.batch
-    (c.in_default.ensures.shape ∙ ap (λ (n : NodeState). n.shape) c.self.view_is)
-    (c.in_default.ensures.events ∙ ap (λ (n : NodeState). n.journal) c.self.view_is)
-    c.caller-2.ensures.value c.requires.front
-    (ap length c.deref.ensures.0 ∙ c.flying_blocks-blocks.ensures.count ∙ ap₂ (λ x ps. length (still_flying h x ps)) c.caller.ensures.value c.pages.ensures.value)
-    c.return_all-back.ensures.back).0, ap length c.deref.ensures.0, c.len-count.ensures.value)
+    omega (
+      arith,
+      (batch_reply c.args.self.now.shape c.reserve.new.self.shape h c.reserve.new.self.events c.caller-2.result (length c.deref.result.now) c.return_all-back.result c.args.batch
+          (c.in_default.ensures.shape ∙ ap (λ (n : NodeState). n.shape) c.self.view_is)
+          (c.in_default.ensures.events ∙ ap (λ (n : NodeState). n.journal) c.self.view_is)
+          c.caller-2.ensures.value c.requires.front
+          (ap length c.deref.ensures.0 ∙ c.flying_blocks-blocks.ensures.count ∙ ap₂ (λ x ps. length (still_flying h x ps)) c.caller.ensures.value c.pages.ensures.value)
+          c.return_all-back.ensures.back).0,
+      ap length c.deref.ensures.0,
+      c.len-count.ensures.value,
+    )
 
 pub returns-clause-reply : goal.returns-clause-reply
 returns-clause-reply c =

@@ -1,4 +1,4 @@
-use Rattle.std.proofs.Common.{◌≡◌, take, length, count_by, get_or, refl, arith, subst, ◌∙◌}
+use Rattle.std.proofs.Common.{take, get_or, refl, arith, subst}
 use Rattle.std.proofs.lemmas.List.{length-take}
 use Rattle.std.proofs.lemmas.List.Sums.{count_by-le-length}
 use Rattle.thp_model.specs.Places.{flight}

@@ -10,21 +10,32 @@ put_back-requires c = record {
 
 pub overflow_sub-result : goal.overflow_sub-result
 overflow_sub-result c =
-    omega (arith, (tried_reply c.args.self.now c.try_all-used.new.self c.try_all-used.new.batch c.args.batch.caller c.args.batch.pages c.requires.legal c.requires.flies
-    c.try_all-used.ensures.did c.try_all-used.ensures.same_caller c.try_all-used.ensures.same_pages
-    c.in-Ok.field-0 (length c.pages.result.now) c.try_all-used.result c.in-Ok.ensures.reply (ap length c.pages.ensures.value) c.try_all-used.ensures.used).0)
+    omega (
+      arith,
+      (tried_reply c.args.self.now c.try_all-used.new.self c.try_all-used.new.batch c.args.batch.caller c.args.batch.pages c.requires.legal c.requires.flies
+          c.try_all-used.ensures.did c.try_all-used.ensures.same_caller c.try_all-used.ensures.same_pages
+          c.in-Ok.field-0 (length c.pages.result.now) c.try_all-used.result c.in-Ok.ensures.reply (ap length c.pages.ensures.value) c.try_all-used.ensures.used).0,
+    )
 
 pub overflow_sub-result-in-Ok : goal.overflow_sub-result-in-Ok
 overflow_sub-result-in-Ok c =
-    omega (arith, (tried_reply c.args.self.now c.try_all-used.new.self c.try_all-used.new.batch c.args.batch.caller c.args.batch.pages c.requires.legal c.requires.flies
-    c.try_all-used.ensures.did c.try_all-used.ensures.same_caller c.try_all-used.ensures.same_pages
-    c.in-Ok.field-0 (length c.pages.result.now) c.try_all-used.result c.in-Ok.ensures.reply (ap length c.pages.ensures.value) c.try_all-used.ensures.used).0)
+    omega (
+      arith,
+      (tried_reply c.args.self.now c.try_all-used.new.self c.try_all-used.new.batch c.args.batch.caller c.args.batch.pages c.requires.legal c.requires.flies
+          c.try_all-used.ensures.did c.try_all-used.ensures.same_caller c.try_all-used.ensures.same_pages
+          c.in-Ok.field-0 (length c.pages.result.now) c.try_all-used.result c.in-Ok.ensures.reply (ap length c.pages.ensures.value) c.try_all-used.ensures.used).0,
+    )
 
 pub overflow_add-pinned : goal.overflow_add-pinned
 overflow_add-pinned c =
-    omega (arith, (tried_reply c.args.self.now c.try_all-used.new.self c.try_all-used.new.batch c.args.batch.caller c.args.batch.pages c.requires.legal c.requires.flies
-    c.try_all-used.ensures.did c.try_all-used.ensures.same_caller c.try_all-used.ensures.same_pages
-    c.in-Ok.field-0 (length c.pages.result.now) c.try_all-used.result c.in-Ok.ensures.reply (ap length c.pages.ensures.value) c.try_all-used.ensures.used).0, ap length c.pages.ensures.value, c.pages.ensures.few)
+    omega (
+      arith,
+      (tried_reply c.args.self.now c.try_all-used.new.self c.try_all-used.new.batch c.args.batch.caller c.args.batch.pages c.requires.legal c.requires.flies
+          c.try_all-used.ensures.did c.try_all-used.ensures.same_caller c.try_all-used.ensures.same_pages
+          c.in-Ok.field-0 (length c.pages.result.now) c.try_all-used.result c.in-Ok.ensures.reply (ap length c.pages.ensures.value) c.try_all-used.ensures.used).0,
+      ap length c.pages.ensures.value,
+      c.pages.ensures.few,
+    )
 
 pub unreachable-requires : goal.unreachable-requires
 unreachable-requires c =
