@@ -151,7 +151,7 @@ pub(crate) fn scan_pages(
     requires caller { HasCaller pass.old caller }
     requires count { n ≤ 128 }
     ensures same { pass.new ≡ at_front pass.old pass.new.front }
-    ensures batches { OtherBatchesStay caller pass.old pass.new }
+    ensures batches { BatchesStay pass.old pass.new }
 {
     assert_eq!(rt; cell.scan(pass, caller, n), Ok(answer));
 }
