@@ -82,6 +82,6 @@ fn split(page: &mut Page) -> SubSet {
     if page.is_split() || page.pins() > 0 {
         SubSet::empty()
     } else {
-        page.split()
+        page.split(false)
     }
 }

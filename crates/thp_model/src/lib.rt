@@ -21,10 +21,13 @@ mod tests;
 pub use events::{Event, Outcome, PageId, What};
 pub use laws::{
     each_frame_once, flights_go_by_events, freed_pages_are_left_alone, least_blocks_are_legal,
-    live_pages_are_apart, no_page_stands_twice, nothing_enters_after_close, oldest_are_taken,
-    others_only_free, requests_decide,
+    live_pages_are_apart, no_page_stands_twice, none_is_underused_while_off,
+    nothing_enters_after_close, oldest_are_taken, others_only_free, requests_decide,
 };
 pub use refusal::Refusal;
-pub use rows::{first_run_is_legal, pinned_goes_to_the_tail_is_legal, small_page_split_is_legal};
+pub use rows::{
+    first_run_is_legal, pinned_goes_to_the_tail_is_legal, small_page_split_is_legal,
+    underused_pinned_is_legal, underused_scan_is_legal,
+};
 pub use shape::Shape;
 pub use sub_set::SubSet;

@@ -45,11 +45,34 @@ fn shapes(rt: HostRuntime) {
     let shape = Shape {
         blocks: 4096,
         order: 9,
+        underused: None,
     };
     assert!(rt; shape.is_valid());
     assert_eq!(rt; shape.subpages(), 512);
     for (blocks, order) in [(0, 9), (4097, 9), (1, 1), (1, 10)] {
-        let shape = Shape { blocks, order };
+        let shape = Shape {
+            blocks,
+            order,
+            underused: None,
+        };
         assert!(rt; !shape.is_valid(), "{blocks} blocks of order {order}");
+    }
+}
+
+#[test]
+fn thresholds(rt: HostRuntime) {
+    for (underused, is_valid, is_on) in [
+        (None, true, false),
+        (Some(0), true, true),
+        (Some(3), true, true),
+        (Some(4), false, true),
+    ] {
+        let shape = Shape {
+            blocks: 1,
+            order: 2,
+            underused,
+        };
+        assert_eq!(rt; shape.is_valid(), is_valid);
+        assert_eq!(rt; shape.shrinks_underused(), is_on);
     }
 }

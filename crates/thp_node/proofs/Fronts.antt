@@ -6,13 +6,15 @@ use Rattle.thp_model.specs.declared.events.Event.{Event}
 use Rattle.thp_model.specs.declared.events.Outcome.{Outcome}
 use Rattle.thp_model.specs.declared.events.Outcome.TheVariants.{Freed}
 use Rattle.thp_model.specs.declared.events.What.{What}
-use Rattle.thp_model.specs.declared.events.What.TheVariants.{UnmapWhole, UnmapSub, Unpin, Taken, Split, Pinned, Back, Dropped}
+use Rattle.thp_model.specs.declared.events.What.TheVariants.{UnmapWhole, UnmapSub, Unpin, Taken, Split, Pinned, Used, Back, Dropped}
 use Rattle.thp_model.specs.declared.shape.Shape.{Shape}
 use Rattle.thp_model.specs.History.{History, by}
-use Rattle.thp_model.specs.Counts.{is_closed}
+use Rattle.thp_model.specs.Counts.{pins}
+use Rattle.thp_model.specs.Legal.{is_dropped}
+use Rattle.thp_model.specs.Underused.{is_worth_split}
 use Rattle.thp_model.specs.FlightSteps.{flight_after, flight_by}
 use Rattle.thp_model.specs.Places.{flight, has_page, takes_by, without}
-use Rattle.thp_model.specs.Runs.{still_flying, next_page, split_next_events, tries_of, put_back_events}
+use Rattle.thp_model.specs.Runs.{still_flying, next_page, split_next_events, tries_of, put_back_events, return_event, unused}
 use Rattle.thp_model.proofs.Blocks.{filter-filter}
 use Rattle.thp_model.proofs.Bools.{by_bool, and_both, and_yes, not_true}
 use Rattle.thp_model.proofs.Flights.{flight_push}
@@ -62,11 +64,12 @@ keeps_if true p = record { test = λ q. not (nat_eq q p); is = λ ps. refl }
 keeps_if false p = keeps_all
 
 keeps : (c d : ℕ) (w : What) → takes_by c d w ≡ false → Keeps (λ ps. flight_after c ps d w)
-keeps c d (UnmapWhole p o set) e = keeps_by p o
-keeps c d (UnmapSub p first count o set) e = keeps_by p o
-keeps c d (Unpin p o set) e = keeps_by p o
+keeps c d (UnmapWhole o p set) e = keeps_by p o
+keeps c d (UnmapSub o p first count set) e = keeps_by p o
+keeps c d (Unpin o p set) e = keeps_by p o
 keeps c d (Taken p) e = record { test = λ q. true; is = λ ps. ap (λ b. cond b (ps ++ p ∷ []) ps) e ∙ sym (filter_all ps) }
 keeps c d (Split p set) e = keeps_if (nat_eq d c) p
+keeps c d (Used p) e = keeps_if (nat_eq d c) p
 keeps c d (Back p) e = keeps_if (nat_eq d c) p
 keeps c d (Dropped p) e = keeps_if (nat_eq d c) p
 keeps c d w e = keeps_all
@@ -129,6 +132,8 @@ gain_takes_none d c p gain.MapWhole = refl
 gain_takes_none d c p (gain.MapSub first count) = refl
 gain_takes_none d c p gain.SplitPmd = refl
 gain_takes_none d c p gain.Pin = refl
+gain_takes_none d c p (gain.Write first count) = refl
+gain_takes_none d c p (gain.Zero first count) = refl
 
 pub loss_takes_none : (d c p : ℕ) (l : Loss) (o : Outcome) (set : List Bool) → takes_none d (by c (loss_what l p o set) ∷ []) ≡ true
 loss_takes_none d c p loss.UnmapWhole o set = refl
@@ -137,20 +142,24 @@ loss_takes_none d c p loss.Unpin o set = refl
 
 pub try_takes_none : (d : ℕ) (s : Shape) (h : History) (c : ℕ) (rest : List ℕ) → takes_none d (split_next_events s h c rest) ≡ true
 try_takes_none d s h c rest = go (next_page h c rest) where
-  one : (b : Bool) (p : ℕ) (set : List Bool) → takes_none d (by c (cond b (Split p set) (Pinned p)) ∷ []) ≡ true
-  one true p set = refl
-  one false p set = refl
+  one : (a b : Bool) (p : ℕ) (set : List Bool) → takes_none d (by c (cond a (cond b (Split p set) (Pinned p)) (Used p)) ∷ []) ≡ true
+  one true true p set = refl
+  one true false p set = refl
+  one false b p set = refl
 
   go : (o : Option ℕ) → takes_none d (tries_of s h c o) ≡ true
   go None = refl
-  go (Some p) = one _ p _
+  go (Some p) = one (is_worth_split s h p) (nat_eq (pins h p) 0) p (unused s h p)
 
-pub return_takes_none : (d : ℕ) (h : History) (c : ℕ) (ps : List ℕ) → takes_none d (put_back_events h c ps) ≡ true
-return_takes_none d h c ps = go (is_closed h) (still_flying h c ps) where
-  go : (z : Bool) (qs : List ℕ) → takes_none d (map (λ p. by c (cond z (Dropped p) (Back p))) qs) ≡ true
-  go z [] = refl
-  go true (q ∷ qs) = go true qs
-  go false (q ∷ qs) = go false qs
+pub return_takes_none : (d : ℕ) (s : Shape) (h : History) (c : ℕ) (ps : List ℕ) → takes_none d (put_back_events s h c ps) ≡ true
+return_takes_none d s h c ps = go (still_flying h c ps) where
+  one : (z : Bool) (q : ℕ) (b : Bool) → b ≡ true → (not (takes_by d c (cond z (Dropped q) (Back q))) && b) ≡ true
+  one true q b e = e
+  one false q b e = e
+
+  go : (qs : List ℕ) → takes_none d (map (return_event s h c) qs) ≡ true
+  go [] = refl
+  go (q ∷ qs) = one (is_dropped s h q) q (takes_none d (map (return_event s h c) qs)) (go qs)
 
 -- a batch that is the whole flight of its caller is in front of it
 pub front_whole : (h : History) (b : BatchState) → flight h b.caller ≡ b.pages → IsInFront h b

@@ -8,7 +8,7 @@ use Rattle.thp_model.specs.declared.events.Event.{Event}
 use Rattle.thp_model.specs.declared.events.Outcome.{Outcome}
 use Rattle.thp_model.specs.declared.events.Outcome.TheVariants.{Freed, Queued, Stays}
 use Rattle.thp_model.specs.declared.events.What.{What}
-use Rattle.thp_model.specs.declared.events.What.TheVariants.{UnmapWhole, UnmapSub, Unpin, Taken, Split, Back, Dropped}
+use Rattle.thp_model.specs.declared.events.What.TheVariants.{UnmapWhole, UnmapSub, Unpin, Taken, Split, Used, Back, Dropped}
 use Rattle.thp_model.specs.declared.shape.Shape.{Shape}
 use Rattle.thp_model.specs.Shapes.{IsShape, subpages}
 use Rattle.thp_model.specs.History.{History, by}
@@ -55,11 +55,12 @@ leaves_step : (fs : List (ℕ × ℕ)) (c p : ℕ) → length (leaves c p fs) �
 leaves_step fs c p = omega (arith, length-kept (λ (f : ℕ × ℕ). not (nat_eq f.0 c && nat_eq f.1 p)) fs)
 
 flights_step : (fs : List (ℕ × ℕ)) (c : ℕ) (w : What) → length (flights_after fs c w) ≤ length fs + 1
-flights_step fs c (UnmapWhole p o r) = outcome_step fs p o
-flights_step fs c (UnmapSub p a n o r) = outcome_step fs p o
-flights_step fs c (Unpin p o r) = outcome_step fs p o
+flights_step fs c (UnmapWhole o p r) = outcome_step fs p o
+flights_step fs c (UnmapSub o p a n r) = outcome_step fs p o
+flights_step fs c (Unpin o p r) = outcome_step fs p o
 flights_step fs c (Taken p) = omega (arith, length_push fs (c, p))
 flights_step fs c (Split p r) = leaves_step fs c p
+flights_step fs c (Used p) = leaves_step fs c p
 flights_step fs c (Back p) = leaves_step fs c p
 flights_step fs c (Dropped p) = leaves_step fs c p
 flights_step fs c w = omega arith
@@ -128,14 +129,15 @@ by_outcome shape h c d p Stays l = refl
 
 moves : (shape : Shape) (h k : History) (c d : ℕ) (w : What) → IsLegal shape h → FitsBy shape h k c w →
     length (flight_after d (flight h d) c w) + one_for (leaves_of h c w) d ≡ length (flight h d) + one_for (joins_of c w) d
-moves shape h k c d (UnmapWhole p o r) l f = by_outcome shape h c d p o l
-moves shape h k c d (UnmapSub p a n o r) l f = by_outcome shape h c d p o l
-moves shape h k c d (Unpin p o r) l f = by_outcome shape h c d p o l
+moves shape h k c d (UnmapWhole o p r) l f = by_outcome shape h c d p o l
+moves shape h k c d (UnmapSub o p a n r) l f = by_outcome shape h c d p o l
+moves shape h k c d (Unpin o p r) l f = by_outcome shape h c d p o l
 moves shape h k c d (Taken p) l f = go (nat_eq c d) where
   go : (b : Bool) → length (cond b (flight h d ++ p ∷ []) (flight h d)) + 0 ≡ length (flight h d) + cond b 1 0
   go true = omega (arith, length_push (flight h d) p)
   go false = refl
 moves shape h k c d (Split p r) l f = leaving h c d p (one_flying shape h c p l f.in_flight)
+moves shape h k c d (Used p) l f = leaving h c d p (one_flying shape h c p l f.0)
 moves shape h k c d (Back p) l f = leaving h c d p (one_flying shape h c p l (first_has p (flight h c) f.0))
 moves shape h k c d (Dropped p) l f = leaving h c d p (one_flying shape h c p l (first_has p (flight h c) f.0))
 moves shape h k c d w l f = refl

@@ -36,20 +36,20 @@ node_relinked s h old new n r m = record {
 }
 
 -- out of whose flight a loss freed its page is what its event leaves unsaid
-loss_unsaid : (h : History) (c p : ℕ) (l : Loss) (o : Outcome) (set : List Bool) →
-    FreedFrom (if is_freed o then flier p (flights h) else None) ≡ unsaid_of h (loss_what l p o set)
-loss_unsaid h c p l Freed set = by_loss l where
-  by_loss : (l : Loss) → FreedFrom (flier p (flights h)) ≡ unsaid_of h (loss_what l p Freed set)
+loss_unsaid : (s : Shape) (h : History) (c p : ℕ) (l : Loss) (o : Outcome) (set : List Bool) →
+    FreedFrom (if is_freed o then flier p (flights h) else None) ≡ unsaid_of s h (loss_what l p o set)
+loss_unsaid s h c p l Freed set = by_loss l where
+  by_loss : (l : Loss) → FreedFrom (flier p (flights h)) ≡ unsaid_of s h (loss_what l p Freed set)
   by_loss loss.UnmapWhole = refl
   by_loss (loss.UnmapSub first count) = refl
   by_loss loss.Unpin = refl
-loss_unsaid h c p l Queued set = by_loss l where
-  by_loss : (l : Loss) → FreedFrom None ≡ unsaid_of h (loss_what l p Queued set)
+loss_unsaid s h c p l Queued set = by_loss l where
+  by_loss : (l : Loss) → FreedFrom None ≡ unsaid_of s h (loss_what l p Queued set)
   by_loss loss.UnmapWhole = refl
   by_loss (loss.UnmapSub first count) = refl
   by_loss loss.Unpin = refl
-loss_unsaid h c p l Stays set = by_loss l where
-  by_loss : (l : Loss) → FreedFrom None ≡ unsaid_of h (loss_what l p Stays set)
+loss_unsaid s h c p l Stays set = by_loss l where
+  by_loss : (l : Loss) → FreedFrom None ≡ unsaid_of s h (loss_what l p Stays set)
   by_loss loss.UnmapWhole = refl
   by_loss (loss.UnmapSub first count) = refl
   by_loss loss.Unpin = refl
@@ -58,7 +58,7 @@ loss_unsaid h c p l Stays set = by_loss l where
 pub record Losing (s : Shape) (h : History) (c p : ℕ) (l : Loss) (old new : PlacesState) (done : Done) (left : Option ℕ) : Type 0 where
   pub gives : Gives s h (h ++ by c (loss_what l p done.outcome done.released) ∷ []) p done.outcome done.released
   pub fits : Fits s h (by c (loss_what l p done.outcome done.released))
-  pub unsaid_is : FreedFrom left ≡ unsaid_of h (loss_what l p done.outcome done.released)
+  pub unsaid_is : FreedFrom left ≡ unsaid_of s h (loss_what l p done.outcome done.released)
   pub node : IsNode s (h ++ by c (loss_what l p done.outcome done.released) ∷ []) new.table new.queue
   pub work : new.table.accesses ≤ old.table.accesses + 8
 
@@ -79,7 +79,7 @@ losing s h c p b l closed old new done left m home shut allowed lost =
       fits = f.fits;
       unsaid_is =
           ap (λ (o : Option ℕ). FreedFrom o) (loss_left s h b w.slot l closed old what.between done left homed w.is what.lost)
-          ∙ loss_unsaid h c w.slot.id l done.outcome done.released;
+          ∙ loss_unsaid s h c w.slot.id l done.outcome done.released;
       node = node_relinked s e what.between new 2 what.relinks (lost_node s h c b w.slot l closed old what.between done left homed m w.at what.lost f);
       work = omega (arith, what.lost.edits.work, what.relinks.work);
     })

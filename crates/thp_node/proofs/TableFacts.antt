@@ -4,7 +4,7 @@ use Rattle.thp_model.specs.declared.shape.Shape.{Shape}
 use Rattle.thp_model.specs.History.{History}
 use Rattle.thp_model.specs.Counts.{is_live}
 use Rattle.thp_model.specs.Legal.{IsLegal}
-use Rattle.thp_page.specs.Slots.{IsHeld}
+use Rattle.thp_page.specs.Slots.{HoldsPage}
 use Rattle.thp_page.specs.Table.{Slot, Table}
 use Rattle.thp_places.specs.Holding.{IsNode, HasBlock}
 use Rattle.thp_places.specs.Homes.{LiesWherePlaced}
@@ -17,7 +17,7 @@ pub live_has_block : (s : Shape) (h : History) (t : Table) (q : List ℕ) → Is
 live_has_block s h t q m p l =
     let w = live_block s h p (legal_homed s h m.legal) l in
     let there : Found s h t p w.0 = at_home s h t q p w.0 m w.1 in
-    let P : Option Slot → Type 0 = λ o. IsHeld o p in
+    let P : Option Slot → Type 0 = λ o. HoldsPage o p in
     (w.0, subst P (sym there.at) there.id_is)
 
 -- and that is where its allocation put it

@@ -1,14 +1,12 @@
 -- The chain of a node's free blocks, and what the calls do that it takes part in. No public clause cites this module.
-use Rattle.std.specs.Prelude.{◌≡◌, ℕ, ◌<◌, length, Bool, List, Option, Some, None}
+use Rattle.std.specs.Prelude.{◌≡◌, ℕ, ◌<◌, length, Bool, List, Option, None}
 use Rattle.std.specs.List.{Contains}
-use Rattle.thp_model.specs.Pages.{PageState, IsFresh}
-use Rattle.thp_page.specs.declared.standing.Standing.TheVariants.{Nowhere}
 use Rattle.thp_page.specs.Table.{Slot, Table}
 use Rattle.thp_page.specs.Slots.{slot_at}
 use Rattle.thp_places.specs.declared.page_call.Done.{Done}
 use Rattle.thp_places.specs.declared.page_call.Loss.{Loss}
 use Rattle.thp_places.specs.FreeChains.{IsFreeChain, Relinks}
-use Rattle.thp_places.specs.PlacesState.{PlacesState, Edits, Lost}
+use Rattle.thp_places.specs.PlacesState.{PlacesState, Lost, Placed}
 
 -- the chain has all blocks without a page, and no other
 pub record HasChain (t : Table) (f : List ℕ) : Type 0 where
@@ -22,10 +20,8 @@ pub record LostChained (loss : Loss) (closed : Bool) (x : Slot) (old new : Place
   pub lost : Lost loss closed x old between b done left
   pub relinks : Relinks between new 2
 
--- block b, which had no page, goes out of the chain; then a new page lies there
-pub record PlacesFresh (old new : PlacesState) (b p : ℕ) : Type 0 where
+-- block b, which had no page, goes out of the chain; then a new page lies there, which joins the queue or doesn't
+pub record PlacesFresh (old new : PlacesState) (b p : ℕ) (queued : Bool) : Type 0 where
   pub between : PlacesState
-  pub state : PageState
-  pub fresh : IsFresh between.table.order state
   pub relinks : Relinks old between 2
-  pub edits : Edits between new b (Some (record { id = p; page = state; standing = Nowhere })) between.queue 0
+  pub placed : Placed p queued between new b

@@ -3,8 +3,8 @@ ghost use Rattle.std.specs.Prelude.{◌≡◌, ◌≢◌, ℕ, ◌<◌, [], ◌�
 ghost use Rattle.std.specs.Bool.{OnTrue, OnFalse};
 ghost use Rattle.thp_links.specs.Standing.{Stands};
 ghost use Rattle.thp_model.specs.Shapes.{IsShape};
-ghost use Rattle.thp_model.specs.Pages.{page_refusal, gives_frames, PageState, PageSplit};
-ghost use Rattle.thp_page.specs.Slots.{slot_at, IsHeld};
+ghost use Rattle.thp_model.specs.Pages.{page_refusal, gives_frames, is_worth, PageState, PageSplit};
+ghost use Rattle.thp_page.specs.Slots.{slot_at, HoldsPage};
 ghost use Rattle.thp_page.specs.Table.{Slot};
 ghost use Rattle.thp_places.specs.PageCalls.{gain_call, loss_call, page_call, Gains};
 ghost use Rattle.thp_places.specs.PlacesState.{AtSlot, Edits, TakesFirst, HasFree};
@@ -56,7 +56,7 @@ impl Blocks {
 
     // The block of a page.
     pub(crate) fn find(&self, page: PageId) -> Option<u32>
-        ensures { MatchOption result ((b : ℕ) → IsHeld (slot_at self.now.table b) page → ⊥) (λ b. IsHeld (slot_at self.now.table b) page) }
+        ensures { MatchOption result ((b : ℕ) → HoldsPage (slot_at self.now.table b) page → ⊥) (λ b. HoldsPage (slot_at self.now.table b) page) }
     {
         self.places.find(page)
     }
@@ -69,7 +69,7 @@ impl Blocks {
         self.places.refusal(block, call)
     }
 
-    // Gives the page of a block mappings or a pin, which isn't refused.
+    // Gives the page of a block mappings or a pin, or fills subpages of it, which isn't refused.
     pub(crate) fn gain(&mut self, block: u32, gain: Gain)
         requires occupied { IsSome (slot_at self.old.table block) }
         requires allowed { AtSlot self.old.table block (λ x. page_refusal x.page (gain_call gain 0) ≡ None) }
@@ -130,13 +130,29 @@ impl Blocks {
         self.places.whole(block)
     }
 
-    // Splits the page of a block, which stands in a batch, and takes it out of the batch. Answers the frames given back.
-    pub(crate) fn split(&mut self, block: u32) -> SubSet
+    // Whether the page of a block is partly mapped, and whether it is worth a split.
+    pub(crate) fn is_partly(&self, block: u32) -> bool
+        requires { IsSome (slot_at self.now.table block) }
+        ensures { AtSlot self.now.table block (λ x. result ≡ x.page.partly) }
+    {
+        self.places.is_partly(block)
+    }
+
+    pub(crate) fn is_worth(&self, block: u32, threshold: Option<u32>) -> bool
+        requires { IsSome (slot_at self.now.table block) }
+        ensures { AtSlot self.now.table block (λ x. result ≡ is_worth threshold x.page) }
+    {
+        self.places.is_worth(block, threshold)
+    }
+
+    // Splits the page of a block, which stands in a batch, and takes it out of the batch. Answers the frames given back,
+    // which are those of zero-filled subpages too where `give_zero` says so.
+    pub(crate) fn split(&mut self, block: u32, give_zero: bool) -> SubSet
         requires occupied { IsSome (slot_at self.old.table block) }
         requires allowed { AtSlot self.old.table block (λ x. (x.page.split ≡ false) × (x.page.pins ≡ 0) × (x.standing ≢ Standing.Queued)) }
-        ensures { AtSlot self.old.table block (λ x. (p : PageState) × PageSplit x.page p × (result ≡ gives_frames x.page p) × Edits self.old self.new block (Some (record x { page = p; standing = Standing.Nowhere })) self.old.queue 0) }
+        ensures { AtSlot self.old.table block (λ x. (p : PageState) × PageSplit give_zero x.page p × (result ≡ gives_frames x.page p) × Edits self.old self.new block (Some (record x { page = p; standing = Standing.Nowhere })) self.old.queue 0) }
     {
-        self.places.split(block)
+        self.places.split(block, give_zero)
     }
 
     // Puts the page of a block, which isn't in the queue, at the queue's tail.
@@ -168,17 +184,17 @@ impl Blocks {
         }
     }
 
-    // Puts a new page into a free block.
-    pub(crate) fn place(&mut self, page: PageId) -> u32
+    // Puts a new page into a free block, and at the queue's tail where it is to be queued.
+    pub(crate) fn place(&mut self, page: PageId, queued: bool) -> u32
         requires free { HasFree self.old.table }
-        requires new { (b : ℕ) → IsHeld (slot_at self.old.table b) page → ⊥ }
+        requires new { (b : ℕ) → HoldsPage (slot_at self.old.table b) page → ⊥ }
         ensures inside { result < length self.old.table.slots }
         ensures free { slot_at self.old.table result ≡ None }
-        ensures placed { PlacesFresh self.old self.new result page }
+        ensures placed { PlacesFresh self.old self.new result page queued }
     {
         match self.places.pop_free(&mut self.free) {
             Some(block) => {
-                self.places.place(block, page);
+                self.places.place(block, page, queued);
                 block
             }
             None => unreachable!(),

@@ -7,7 +7,7 @@ ghost use Rattle.thp_model.specs.Counters.{is_page_split, is_failed_try, queues}
 ghost use Rattle.thp_model.specs.Frames.{frames_given, frames_held};
 ghost use Rattle.thp_model.specs.Places.{flight};
 ghost use Rattle.thp_model.specs.Legal.{IsLegal, Fits};
-ghost use Rattle.thp_node.specs.Journals.{HasFlightRoom, unsaid_of, leaves_by, pmds_by, joins_of, one_for, counters_of, frames_of};
+ghost use Rattle.thp_node.specs.Journals.{HasFlightRoom, unsaid_of, leaves_by, pmds_by, splits_as_underused, joins_of, one_for, counters_of, frames_of};
 
 use crate::answers::Counters;
 use std::alloc::{AllocError, Global};
@@ -21,8 +21,8 @@ pub(crate) enum Unsaid {
     Nothing,
     // Out of whose flight, if any, an unmap or an unpin freed its page.
     FreedFrom(Option<u32>),
-    // How many PMD mappings a page had that its caller split.
-    Mapped(u32),
+    // How many PMD mappings a page had that its caller split, and whether it was partly mapped.
+    OfSplit { mappings: u32, partly: bool },
 }
 
 // What happened on a node, and the numbers of it that the calls need at once.
@@ -68,6 +68,7 @@ impl Journal {
                 split_page: 0,
                 split_page_failed: 0,
                 deferred_split_page: 0,
+                underused_split_page: 0,
                 split_pmd: 0,
             },
         }
@@ -91,7 +92,7 @@ impl Journal {
         requires room { 0 < self.old.room }
         requires fits { Fits self.old.shape self.old.events (by caller what) }
         requires flight { HasFlightRoom self.old.events caller what }
-        requires unsaid { unsaid ≡ unsaid_of self.old.events what }
+        requires unsaid { unsaid ≡ unsaid_of self.old.shape self.old.events what }
         ensures shape { self.new.shape ≡ self.old.shape }
         ensures events { self.new.events ≡ self.old.events ++ by caller what ∷ [] }
         ensures room { self.new.room + 1 ≡ self.old.room }
@@ -106,6 +107,7 @@ impl Journal {
         self.counters.split_page += u64::from(is_split(&what));
         self.counters.split_page_failed += u64::from(is_pinned(&what));
         self.counters.deferred_split_page += u64::from(is_queued(&what));
+        self.counters.underused_split_page += u64::from(is_underused_split(unsaid));
         self.counters.split_pmd += u128::from(split_pmds(&what, unsaid));
         let left = leaves(caller, &what, unsaid);
         count_moves(&mut self.flying, joins(caller, &what), left);
@@ -166,7 +168,7 @@ impl Journal {
 
     // The statistics.
     pub(crate) fn counters(&self) -> Counters
-        ensures { result ≡ counters_of self.now.events }
+        ensures { result ≡ counters_of self.now.shape self.now.events }
     {
         self.counters
     }
@@ -228,13 +230,20 @@ fn is_queued(what: &What) -> bool
     )
 }
 
+// Whether the event splits a page that isn't partly mapped.
+fn is_underused_split(unsaid: Unsaid) -> bool
+    ensures { result ≡ splits_as_underused unsaid }
+{
+    matches!(unsaid, Unsaid::OfSplit { partly: false, .. })
+}
+
 // How many PMD mappings the event splits.
 fn split_pmds(what: &What, unsaid: Unsaid) -> u32
     ensures value { result ≡ pmds_by what.now unsaid }
     ensures small { result < 2 ^ 32 }
 {
     match unsaid {
-        Unsaid::Mapped(pmds) => pmds,
+        Unsaid::OfSplit { mappings, .. } => mappings,
         _ => u32::from(matches!(what, What::SplitPmd { .. })),
     }
 }
@@ -245,9 +254,9 @@ fn leaves(caller: u32, what: &What, unsaid: Unsaid) -> Option<u32>
 {
     match unsaid {
         Unsaid::FreedFrom(flier) => flier,
-        Unsaid::Mapped(_) => Some(caller),
+        Unsaid::OfSplit { .. } => Some(caller),
         Unsaid::Nothing => match what {
-            What::Back { .. } | What::Dropped { .. } => Some(caller),
+            What::Used { .. } | What::Back { .. } | What::Dropped { .. } => Some(caller),
             _ => None,
         },
     }

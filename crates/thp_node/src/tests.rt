@@ -8,7 +8,15 @@ use thp_model::{Event, Outcome, PageId, Refusal, Shape, SubSet, What};
 
 // A node of order 9 with these blocks.
 fn node_of(rt: &impl Abort, alloc: Global, blocks: u32) -> Node {
-    Node::new(alloc, Shape { blocks, order: 9 }).expect(rt, "a node of this shape")
+    Node::new(
+        alloc,
+        Shape {
+            blocks,
+            order: 9,
+            underused: None,
+        },
+    )
+    .expect(rt, "a node of this shape")
 }
 
 // Allocates the page of this number, splits its PMD mapping and unmaps its first subpage, which queues it.
@@ -48,6 +56,7 @@ fn scanned(taken: u32, split: u32, pinned: u32, back: u32) -> ScanReply {
         pinned,
         back,
         dropped: 0,
+        used: 0,
     }
 }
 
@@ -82,6 +91,7 @@ fn two_of_three_oldest(rt: HostRuntime) {
         split_page: 2,
         split_page_failed: 0,
         deferred_split_page: 3,
+        underused_split_page: 0,
         split_pmd: 3,
     };
     assert_eq!(rt; node.counters(), counters);
@@ -273,7 +283,14 @@ fn limits_and_constructors(rt: HostRuntime) {
     for shape in [(0, 9), (4097, 9), (16, 1), (16, 10)] {
         let (blocks, order) = shape;
         let is_bad = matches!(
-            Node::new(alloc, Shape { blocks, order }),
+            Node::new(
+                alloc,
+                Shape {
+                    blocks,
+                    order,
+                    underused: None
+                }
+            ),
             Err(NewFault::BadSize)
         );
         assert!(rt; is_bad, "{blocks} blocks of order {order}");
@@ -283,7 +300,8 @@ fn limits_and_constructors(rt: HostRuntime) {
         node.shape(),
         Shape {
             blocks: 4096,
-            order: 9
+            order: 9,
+            underused: None
         }
     );
     assert_eq!(rt; node.reserve(5), Ok(()));

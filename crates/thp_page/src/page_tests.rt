@@ -9,7 +9,7 @@ use thp_model::{Refusal, SubSet};
 fn split(rt: &impl Abort, page: &mut Page) -> SubSet {
     assert!(rt; !page.is_split());
     assert_eq!(rt; page.pins(), 0);
-    page.split()
+    page.split(false)
 }
 
 // A change that gave nothing back.

@@ -12,7 +12,7 @@ use Rattle.thp_model.proofs.OnePlace.{flies_live}
 use Rattle.thp_page.specs.declared.standing.Standing.TheVariants.{Batch}
 use Rattle.thp_page.specs.Table.{Slot}
 use Rattle.thp_page.specs.Table.{Table}
-use Rattle.thp_page.specs.Slots.{slot_at, IsHeld}
+use Rattle.thp_page.specs.Slots.{slot_at, HoldsPage}
 use Rattle.thp_places.specs.declared.page_call.Gain.TheVariants as gain
 use Rattle.thp_places.specs.declared.page_call.Loss.TheVariants as loss
 use Rattle.thp_places.specs.declared.page_call.PageCall.{PageCall}
@@ -33,9 +33,9 @@ pub record Found (s : Shape) (h : History) (t : Table) (p b : ℕ) : Type 0 wher
   pub home : block_of h p ≡ Some b
   pub live : is_live h p ≡ true
 
-pub found : (s : Shape) (h : History) (t : Table) (q : List ℕ) (p b : ℕ) → IsNode s h t q → IsHeld (slot_at t b) p → Found s h t p b
+pub found : (s : Shape) (h : History) (t : Table) (q : List ℕ) (p b : ℕ) → IsNode s h t q → HoldsPage (slot_at t b) p → Found s h t p b
 found s h t q p b m held = go (slot_at t b) refl held where
-  go : (o : Option Slot) → slot_at t b ≡ o → IsHeld o p → Found s h t p b
+  go : (o : Option Slot) → slot_at t b ≡ o → HoldsPage o p → Found s h t p b
   go None e i = absurd i
   go (Some x) e i =
       let is : IsSlot s h b x = slot_is s h t q b x m e in
@@ -53,12 +53,12 @@ at_home s h t q p b m home = go (slot_at t b) refl (m.fills b) where
   go (Some x) e f = record { slot = x; at = e; id_is = homed.once x.id p b f.home home; is = f; home = home; live = (homed.from p b home).live }
 
 -- a page that stands in no block isn't live
-pub not_live : (s : Shape) (h : History) (t : Table) (q : List ℕ) (p : ℕ) → IsNode s h t q → ((b : ℕ) → IsHeld (slot_at t b) p → ⊥) → is_live h p ≡ false
+pub not_live : (s : Shape) (h : History) (t : Table) (q : List ℕ) (p : ℕ) → IsNode s h t q → ((b : ℕ) → HoldsPage (slot_at t b) p → ⊥) → is_live h p ≡ false
 not_live s h t q p m none = by_bool (is_live h p) _ (λ y. absurd (let w = live_block s h p (legal_homed s h m.legal) y in go w.0 (at_home s h t q p w.0 m w.1))) (λ y. y) where
   go : (b : ℕ) → Found s h t p b → ⊥
-  go b w = let P : Option Slot → Type 0 = λ o. IsHeld o p in none b (subst P (sym w.at) w.id_is)
+  go b w = let P : Option Slot → Type 0 = λ o. HoldsPage o p in none b (subst P (sym w.at) w.id_is)
 
-pub refused_gone_page : (s : Shape) (h : History) (t : Table) (q : List ℕ) (p : ℕ) (a : PageCall) → IsNode s h t q → ((b : ℕ) → IsHeld (slot_at t b) p → ⊥) →
+pub refused_gone_page : (s : Shape) (h : History) (t : Table) (q : List ℕ) (p : ℕ) (a : PageCall) → IsNode s h t q → ((b : ℕ) → HoldsPage (slot_at t b) p → ⊥) →
     refusal s h (page_call a p) ≡ Some reason.NoPage
 refused_gone_page s h t q p a m none = refusal_gone s h p a (not_live s h t q p m none)
 
@@ -75,6 +75,8 @@ refusal_any t (either.Gain gain.MapWhole) p q = refl
 refusal_any t (either.Gain (gain.MapSub f n)) p q = refl
 refusal_any t (either.Gain gain.SplitPmd) p q = refl
 refusal_any t (either.Gain gain.Pin) p q = refl
+refusal_any t (either.Gain (gain.Write f n)) p q = refl
+refusal_any t (either.Gain (gain.Zero f n)) p q = refl
 refusal_any t (either.Loss loss.UnmapWhole) p q = refl
 refusal_any t (either.Loss (loss.UnmapSub f n)) p q = refl
 refusal_any t (either.Loss loss.Unpin) p q = refl
@@ -96,10 +98,10 @@ no_both z e f = cc
 pub flies_not_there : (s : Shape) (h : History) (t : Table) (q : List ℕ) (c p b : ℕ) → IsNode s h t q → (w : Found s h t p b) → (w.slot.standing ≡ Batch c → ⊥) → has_page p (flight h c) ≡ false
 flies_not_there s h t q c p b m w f =
     by_bool (has_page p (flight h c)) _
-    (λ y. absurd (f (w.is.stands ∙ standing_flying h w.slot.id c (legal_homed s h m.legal).grown.sound (ap (λ r. has_page r (flight h c)) w.id_is ∙ y))))
+    (λ y. absurd (f (w.is.stands ∙ standing_flying s h w.slot.id c (legal_homed s h m.legal).grown.sound (ap (λ r. has_page r (flight h c)) w.id_is ∙ y))))
     (λ y. y)
 
 -- a page that lies nowhere is in no flight
-pub flies_nowhere : (s : Shape) (h : History) (t : Table) (q : List ℕ) (c p : ℕ) → IsNode s h t q → ((b : ℕ) → IsHeld (slot_at t b) p → ⊥) → has_page p (flight h c) ≡ false
+pub flies_nowhere : (s : Shape) (h : History) (t : Table) (q : List ℕ) (c p : ℕ) → IsNode s h t q → ((b : ℕ) → HoldsPage (slot_at t b) p → ⊥) → has_page p (flight h c) ≡ false
 flies_nowhere s h t q c p m none =
     by_bool (has_page p (flight h c)) _ (λ y. absurd (no_both (is_live h p) (not_live s h t q p m none) (flies_live s h c p m.legal y).0)) (λ y. y)

@@ -12,7 +12,7 @@ use Rattle.thp_model.specs.Refusals as call
 use Rattle.thp_model.proofs.Below.{each_below-ext, each-not, some_yes, some_no}
 use Rattle.thp_model.proofs.Numbers.{Fresh}
 use Rattle.thp_page.specs.Table.{Slot, Table}
-use Rattle.thp_page.specs.Slots.{slot_at, IsHeld}
+use Rattle.thp_page.specs.Slots.{slot_at, HoldsPage}
 use Rattle.thp_places.specs.PlacesState.{HasFree}
 use Rattle.thp_places.specs.Holding.{Fills, IsNode}
 use Rattle.thp_places.proofs.Admitting.{found}
@@ -71,7 +71,7 @@ no_both : (z : Bool) → z ≡ false → z ≡ true → ⊥
 no_both z e f = cc
 
 -- the next number is that of no page in the table
-pub next_is_new : (s : Shape) (h : History) (t : Table) (q : List ℕ) (p : ℕ) → IsNode s h t q → p ≡ allocations h → (b : ℕ) → IsHeld (slot_at t b) p → ⊥
+pub next_is_new : (s : Shape) (h : History) (t : Table) (q : List ℕ) (p : ℕ) → IsNode s h t q → p ≡ allocations h → (b : ℕ) → HoldsPage (slot_at t b) p → ⊥
 next_is_new s h t q p m e b held =
     let none : Fresh h p = (legal_homed s h m.legal).grown.numbered.fresh p (omega (arith, e)) in
     no_both (is_live h p) (ap (λ z. z && not (some_event (frees p) h)) none.never) (found s h t q p b m held).live

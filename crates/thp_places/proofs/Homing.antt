@@ -32,9 +32,9 @@ by_stays p q o u e = go (nat_eq p q) (is_freed u) e where
 -- an event that neither allocates nor frees a page leaves its block
 pub block_stays : (p : ℕ) (o : Option ℕ) (w : What) → allocates p w ≡ false → frees p w ≡ false → block_after p o w ≡ o
 block_stays p o (Alloc q b) a f = ap (λ x. cond x (Some b) o) a
-block_stays p o (UnmapWhole q u r) a f = by_stays p q o u f
-block_stays p o (UnmapSub q x m u r) a f = by_stays p q o u f
-block_stays p o (Unpin q u r) a f = by_stays p q o u f
+block_stays p o (UnmapWhole u q r) a f = by_stays p q o u f
+block_stays p o (UnmapSub u q x m r) a f = by_stays p q o u f
+block_stays p o (Unpin u q r) a f = by_stays p q o u f
 block_stays p o w a f = refl
 
 by_freed : (p q : ℕ) (o : Option ℕ) (u : Outcome) → (nat_eq p q && is_freed u) ≡ true → block_by p o q u ≡ None
@@ -46,9 +46,9 @@ by_freed p q o u e = go (nat_eq p q) (is_freed u) e where
 
 -- a page that is freed has no block
 pub block_freed : (p : ℕ) (o : Option ℕ) (w : What) → frees p w ≡ true → block_after p o w ≡ None
-block_freed p o (UnmapWhole q u r) f = by_freed p q o u f
-block_freed p o (UnmapSub q x m u r) f = by_freed p q o u f
-block_freed p o (Unpin q u r) f = by_freed p q o u f
+block_freed p o (UnmapWhole u q r) f = by_freed p q o u f
+block_freed p o (UnmapSub u q x m r) f = by_freed p q o u f
+block_freed p o (Unpin u q r) f = by_freed p q o u f
 block_freed p o w f = absurd (cc)
 
 -- what allocates a page is its allocation

@@ -6,7 +6,7 @@ use Rattle.std.proofs.lemmas.Bool.Decides.{eqb_tells}
 use Rattle.thp_links.specs.Indices.{without as without_index}
 use Rattle.thp_model.specs.declared.events.Event.{Event}
 use Rattle.thp_model.specs.declared.events.What.{What}
-use Rattle.thp_model.specs.declared.events.What.TheVariants.{Alloc, MapWhole, UnmapWhole, MapSub, UnmapSub, SplitPmd, Pin, Unpin, Split}
+use Rattle.thp_model.specs.declared.events.What.TheVariants.{Alloc, MapWhole, UnmapWhole, MapSub, UnmapSub, SplitPmd, Pin, Unpin, Write, Zero, Split}
 use Rattle.thp_model.specs.declared.shape.Shape.{Shape}
 use Rattle.thp_model.specs.History.{History}
 use Rattle.thp_model.specs.Legal.{Fits}
@@ -29,12 +29,14 @@ unnamed p w e = untouched p w (go w e) where
   go : (w : What) → names p w ≡ false → is_about p w ≡ false
   go (Alloc q b) e = e
   go (MapWhole q) e = e
-  go (UnmapWhole q o r) e = e
+  go (UnmapWhole o q r) e = e
   go (MapSub q a m) e = e
-  go (UnmapSub q a m o r) e = e
+  go (UnmapSub o q a m r) e = e
   go (SplitPmd q) e = e
   go (Pin q) e = e
-  go (Unpin q o r) e = e
+  go (Unpin o q r) e = e
+  go (Write q a m) e = e
+  go (Zero q a m) e = e
   go (Split q r) e = e
   go w e = refl
 
@@ -75,7 +77,7 @@ module _ (s : Shape) (h : History) (e : Event) (p b : ℕ) where
   -- a node after an event of page p, which lies in block b and nowhere else: the slot of the block may change, no other
   pub node_moved : (t u : Table) (q r : List ℕ) (o : Option Slot) → IsNode s h t q → Fits s h e → NamesOnly → OnlyIn h p b → OnlyIn (h ++ e ∷ []) p b →
       u.slots ≡ slice_set t.slots b o → u.order ≡ t.order → b < s.blocks → Fills s (h ++ e ∷ []) b o →
-      map (block_of (h ++ e ∷ [])) (queue (h ++ e ∷ [])) ≡ map (λ b. Some b) r → IsNode s (h ++ e ∷ []) u r
+      map (block_of (h ++ e ∷ [])) (queue s (h ++ e ∷ [])) ≡ map (λ b. Some b) r → IsNode s (h ++ e ∷ []) u r
   node_moved t u q r o m f only was is slots order inside fill qs = record {
     legal = legal_push s h e m.legal f;
     size = ap length slots ∙ length-set t.slots b o ∙ m.size;
@@ -96,7 +98,7 @@ module _ (s : Shape) (h : History) (e : Event) (p b : ℕ) where
   -- a node after an event that changes no slot
   pub node_stays : (t u : Table) (q r : List ℕ) → IsNode s h t q → Fits s h e → u.slots ≡ t.slots → u.order ≡ t.order →
       ((k : ℕ) (o : Option Slot) → Fills s h k o → Fills s (h ++ e ∷ []) k o) →
-      map (block_of (h ++ e ∷ [])) (queue (h ++ e ∷ [])) ≡ map (λ b. Some b) r → IsNode s (h ++ e ∷ []) u r
+      map (block_of (h ++ e ∷ [])) (queue s (h ++ e ∷ [])) ≡ map (λ b. Some b) r → IsNode s (h ++ e ∷ []) u r
   node_stays t u q r m f slots order fill qs = record {
     legal = legal_push s h e m.legal f;
     size = ap length slots ∙ m.size;

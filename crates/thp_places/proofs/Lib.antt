@@ -1,6 +1,7 @@
 pub mod Relinking
 pub mod FreeChains
 pub mod PageUses
+pub mod Worth
 pub mod Homing
 pub mod Standings
 pub mod Keeping

@@ -4,9 +4,9 @@ use Rattle.std.proofs.lemmas.Bool.Decides.{nat_tests}
 use Rattle.thp_model.specs.declared.events.Outcome.{Outcome}
 use Rattle.thp_model.specs.declared.events.Outcome.TheVariants.{Freed, Queued, Stays}
 use Rattle.thp_model.specs.Counts.{is_freed}
-use Rattle.thp_model.specs.Pages.{PageState, Pinned, size, total_at, holds, has_use, drops_use}
+use Rattle.thp_model.specs.Pages.{PageState, Pinned, size, total_at, zero_at, holds, has_use, drops_use}
 use Rattle.thp_model.specs.PageChanges.{page_outcome, page_released}
-use Rattle.thp_model.specs.Sets.{set_of}
+use Rattle.thp_model.specs.Sets.{set_of, has}
 use Rattle.thp_model.proofs.Below.{some_no, some_none}
 use Rattle.thp_model.proofs.Bools.{by_bool}
 use Rattle.thp_model.proofs.WordLemmas.{set_of-ext}
@@ -26,11 +26,13 @@ same_sizes a b e = ap (λ n. 2 ^ n) e
 neither : (a b : ℕ) → a ≡ b → (nat_lt 0 a && nat_eq b 0) ≡ false
 neither a b e = grind (arith, nat_tests)
 
-same_use : (x x' s s' : Bool) (a b : ℕ) → x ≡ x' → s ≡ s' → (x ≡ true → a ≡ b) → (x && (not s || nat_lt 0 a)) ≡ (x' && (not s' || nat_lt 0 b))
-same_use true true s s' a b e f g = ap₂ (λ (p : Bool) (n : ℕ). not p || nat_lt 0 n) f (g refl)
-same_use true false s s' a b e f g = absurd (cc)
-same_use false true s s' a b e f g = absurd (cc)
-same_use false false s s' a b e f g = refl
+same_use : (x x' s s' g g' z z' : Bool) (a b : ℕ) → x ≡ x' → s ≡ s' → g ≡ g' → z ≡ z' → (x ≡ true → a ≡ b) →
+    (x && (not s || (nat_lt 0 a && not (g && z)))) ≡ (x' && (not s' || (nat_lt 0 b && not (g' && z'))))
+same_use true true s s' g g' z z' a b e f i j t =
+    ap₂ (λ (p q : Bool). not p || q) f (ap₂ (λ (n : ℕ) (r : Bool). nat_lt 0 n && not r) (t refl) (ap₂ (λ (u v : Bool). u && v) i j))
+same_use true false s s' g g' z z' a b e f i j t = absurd (cc)
+same_use false true s s' g g' z z' a b e f i j t = absurd (cc)
+same_use false false s s' g g' z z' a b e f i j t = refl
 
 below_size : (i n : ℕ) → nat_lt i n ≡ true → i < n
 below_size i n e = grind (arith, nat_tests)
@@ -47,7 +49,7 @@ unpin_change old new used none p u n = record {
   totals i below = ap₂ (λ a b. a + b) p.whole (p.own i (omega (arith, same_sizes old new p.order)))
 
   same : (i : ℕ) → holds old i ≡ holds new i
-  same i = same_use _ _ _ _ _ _ (ap (nat_lt i) (same_sizes old new p.order)) p.split (λ y. totals i (below_size i (size old) y))
+  same i = same_use _ _ _ _ _ _ _ _ _ _ (ap (nat_lt i) (same_sizes old new p.order)) p.split p.kept.gave_zero (ap (λ (set : List Bool). has set i) p.kept.zero) (λ y. totals i (below_size i (size old) y))
 
   gone : (a b : Bool) → a ≡ b → (a && not b) ≡ false
   gone true true e = refl
@@ -56,13 +58,13 @@ unpin_change old new used none p u n = record {
 
 -- a loss leaves the order of its page, and whether it is split
 pub loss_order : (l : Loss) (old new : PageState) → Loses l old new → old.order ≡ new.order
-loss_order loss.UnmapWhole old new w = w.order
-loss_order (loss.UnmapSub f n) old new w = w.order
+loss_order loss.UnmapWhole old new w = sym w.order
+loss_order (loss.UnmapSub f n) old new w = sym w.order
 loss_order loss.Unpin old new w = w.order
 
 pub loss_split : (l : Loss) (old new : PageState) → Loses l old new → old.split ≡ new.split
-loss_split loss.UnmapWhole old new w = w.split
-loss_split (loss.UnmapSub f n) old new w = w.split
+loss_split loss.UnmapWhole old new w = sym w.split
+loss_split (loss.UnmapSub f n) old new w = sym w.split
 loss_split loss.Unpin old new w = w.split
 
 -- the outcome, by the change
@@ -111,10 +113,10 @@ released_is_by l old new change closed standing o w c e =
     (λ f. by_bool new.split _
     (λ y. pick (is_freed o && not new.split) (both_no (is_freed o) new.split y) ∙ c.released
     ∙ set_of-ext _ _ (λ i below. partly_kept (holds old i) (holds new i) (is_freed o) f
-    (not_held (nat_lt i (size new)) new.split (nat_lt 0 (total_at new i)) y
-    (λ z. some_none (size new) (λ j. nat_lt 0 (total_at new j)) (freed_unused old new closed standing o f e) i (below_size i (size new) z)))))
+    (not_held (nat_lt i (size new)) new.split (nat_lt 0 (total_at new i) && not (new.gave_zero && zero_at new i)) y
+    (λ z. ap (λ u. u && not (new.gave_zero && zero_at new i)) (some_none (size new) (λ j. nat_lt 0 (total_at new j)) (freed_unused old new closed standing o f e) i (below_size i (size new) z))))))
     (λ y. all (is_freed o && not new.split) (both_yes (is_freed o) new.split f y)
-    ∙ set_of-ext _ _ (λ i below. whole_gone (nat_lt i (2 ^ new.order)) (nat_lt i (size old)) old.split (nat_lt 0 (total_at old i)) (is_freed o) (holds new i)
+    ∙ set_of-ext _ _ (λ i below. whole_gone (nat_lt i (2 ^ new.order)) (nat_lt i (size old)) old.split (nat_lt 0 (total_at old i) && not (old.gave_zero && zero_at old i)) (is_freed o) (holds new i)
     (ap (nat_lt i) (power_size new ∙ same_sizes new old (sym (loss_order l old new w)))) (loss_split l old new w ∙ y) f)))
     (λ f. pick (is_freed o && not new.split) (ap (λ x. x && not new.split) f) ∙ c.released
     ∙ set_of-ext _ _ (λ i below. ap (λ x. holds old i && (x || not (holds new i))) (sym f))) where

@@ -1,5 +1,5 @@
 -- The queue after an edit of one block: it still stands, with the blocks that it should have. What an edit does to one slot.
-use Rattle.std.proofs.Common.{◌≡◌, ◌≢◌, ℕ, zero, suc, ◌+◌, ◌<◌, ◌≤◌, List, [], ◌∷◌, ◌++◌, Option, Some, None, IsSome, length, drop, refl, ap, ap₂, sym, ◌∙◌, subst, arith, inl, inr, get_or, length-set, replicate}
+use Rattle.std.proofs.Common.{◌≡◌, ◌≢◌, ℕ, true, false, zero, suc, ◌+◌, ◌<◌, ◌≤◌, List, [], ◌∷◌, ◌++◌, Option, Some, None, IsSome, length, drop, refl, ap, ap₂, sym, ◌∙◌, subst, arith, inl, inr, get_or, length-set, replicate}
 use Rattle.std.specs.Prelude.{slice_set, slice_get}
 use Rattle.std.specs.List.{Contains}
 use Rattle.std.specs.Option.{IfSome}
@@ -14,11 +14,11 @@ use Rattle.thp_links.proofs.OneTable.{Stands-nil}
 use Rattle.thp_model.specs.declared.events.Outcome.{Outcome}
 use Rattle.thp_model.specs.Pages.{PageState}
 use Rattle.thp_page.specs.declared.standing.Standing.{Standing}
-use Rattle.thp_page.specs.declared.standing.Standing.TheVariants.{Queued}
+use Rattle.thp_page.specs.declared.standing.Standing.TheVariants.{Nowhere, Queued}
 use Rattle.thp_page.specs.Table.{Slot, Table}
 use Rattle.thp_page.specs.Slots.{slot_at, with_slot, stood, paged, page_in}
 use Rattle.thp_page.proofs.TableSlots.{slot_at-with_slot-same, slot_at-inside, slot_at-new}
-use Rattle.thp_places.specs.PlacesState.{PlacesState, Edits, EmptyLinksStay, slot_after, queue_after}
+use Rattle.thp_places.specs.PlacesState.{PlacesState, Edits, EmptyLinksStay, Placed, slot_after, queue_after}
 use Rattle.thp_places.specs.Linking.{IsQueued, IsListed, IsLinked}
 
 queued_none : (o : Option Slot) → IsQueued o → o ≡ None → ⊥
@@ -214,6 +214,10 @@ stood_paged t u b x w p at e =
 pub edited_slot : (old new : PlacesState) (b : ℕ) (x : Slot) (o : Option Slot) (q : List ℕ) (most : ℕ) → slot_at old.table b ≡ Some x → Edits old new b o q most → slot_at new.table b ≡ o
 edited_slot old new b x o q most at e = ap (λ (xs : List (Option Slot)). get_or xs b None) e.slots ∙ get_or-set_same old.table.slots b o None (slot_at-inside old.table b x at)
 
+-- and in a block that was empty before, where it is one of the table's
+pub placed_slot : (old new : PlacesState) (b : ℕ) (o : Option Slot) (q : List ℕ) (most : ℕ) → b < length old.table.slots → Edits old new b o q most → slot_at new.table b ≡ o
+placed_slot old new b o q most inside e = ap (λ (xs : List (Option Slot)). get_or xs b None) e.slots ∙ get_or-set_same old.table.slots b o None inside
+
 -- a write of what stands there
 pub set_same : (xs : List (Option Slot)) (b : ℕ) (x : Slot) → get_or xs b None ≡ Some x → slice_set xs b (Some x) ≡ xs
 set_same [] b x e = refl
@@ -237,6 +241,19 @@ edits_then old mid new b o p q r m n d e = record {
 -- an edit with another queue of the same blocks, within more accesses
 pub edits_as : (old new : PlacesState) (b : ℕ) (o : Option Slot) (q r : List ℕ) (m n : ℕ) → q ≡ r → m ≤ n → Edits old new b o q m → Edits old new b o r n
 edits_as old new b o q r m n same l e = record { slots = e.slots; order = e.order; queue_is = e.queue_is ∙ same; links = e.links; work = omega (arith, e.work, l) }
+
+-- a new page and then its place in the queue
+pub placed_queued : (id : ℕ) (old mid new : PlacesState) (b : ℕ) → b < length old.table.slots → Placed id false old mid b →
+    ((x : Slot) → slot_at mid.table b ≡ Some x → Edits mid new b (Some (record x { standing = Queued })) (mid.queue ++ b ∷ []) 4) → Placed id true old new b
+placed_queued id old mid new b inside d e =
+    let x : Slot = record { id = id; page = d.page; standing = Nowhere } in
+    let y : Slot = record { id = id; page = d.page; standing = Queued } in
+    record {
+      page = d.page;
+      fresh = d.fresh;
+      edits = edits_as old new b (Some y) (mid.queue ++ b ∷ []) (old.queue ++ b ∷ []) (0 + 4) 4 (ap (λ q. q ++ b ∷ []) d.edits.queue_is) (omega arith)
+          (edits_then old mid new b (Some x) (Some y) old.queue (mid.queue ++ b ∷ []) 0 4 d.edits (e x (placed_slot old mid b (Some x) old.queue 0 inside d.edits)));
+    }
 
 -- a page changes and then goes where its outcome says
 pub edits_settled : (old mid new : PlacesState) (b : ℕ) (y : Slot) (o : Outcome) (n : ℕ) → Edits old mid b (Some y) old.queue 0 → Edits mid new b (slot_after o y) (queue_after o b mid.queue) n → n ≤ 6 →

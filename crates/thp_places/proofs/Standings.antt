@@ -8,11 +8,12 @@ use Rattle.thp_model.specs.declared.events.Event.{Event}
 use Rattle.thp_model.specs.declared.events.Outcome.{Outcome}
 use Rattle.thp_model.specs.declared.events.Outcome.TheVariants.{Freed, Queued as ToQueue, Stays}
 use Rattle.thp_model.specs.declared.events.What.{What}
-use Rattle.thp_model.specs.declared.events.What.TheVariants.{Alloc, MapWhole, UnmapWhole, MapSub, UnmapSub, SplitPmd, Pin, Unpin, Taken, Split, Pinned, Back, Dropped, Close}
+use Rattle.thp_model.specs.declared.events.What.TheVariants.{Alloc, MapWhole, UnmapWhole, MapSub, UnmapSub, SplitPmd, Pin, Unpin, Write, Zero, Taken, Split, Pinned, Used, Back, Dropped, Close}
 use Rattle.thp_model.specs.declared.shape.Shape.{Shape}
 use Rattle.thp_model.specs.History.{History}
 use Rattle.thp_model.specs.Legal.{Fits, FitsBy}
 use Rattle.thp_model.specs.Places.{queue, flights, flight, has_page, stands, queue_after, queue_by, flights_after, flights_by, without, leaves}
+use Rattle.thp_model.specs.Underused.{shrinks_underused}
 use Rattle.thp_model.proofs.Bools.{by_bool, or_none, or-false}
 use Rattle.thp_model.proofs.Counting.{count_any}
 use Rattle.thp_model.proofs.Pushes.{queue_push, flights_push}
@@ -25,15 +26,18 @@ use Rattle.thp_places.specs.Homes.{standing_of, flier, stands_by}
 abbrev pub names : ℕ → What → Bool
 names p (Alloc q block) = nat_eq p q
 names p (MapWhole q) = nat_eq p q
-names p (UnmapWhole q outcome set) = nat_eq p q
+names p (UnmapWhole outcome q set) = nat_eq p q
 names p (MapSub q first count) = nat_eq p q
-names p (UnmapSub q first count outcome set) = nat_eq p q
+names p (UnmapSub outcome q first count set) = nat_eq p q
 names p (SplitPmd q) = nat_eq p q
 names p (Pin q) = nat_eq p q
-names p (Unpin q outcome set) = nat_eq p q
+names p (Unpin outcome q set) = nat_eq p q
+names p (Write q first count) = nat_eq p q
+names p (Zero q first count) = nat_eq p q
 names p (Taken q) = nat_eq p q
 names p (Split q set) = nat_eq p q
 names p (Pinned q) = nat_eq p q
+names p (Used q) = nat_eq p q
 names p (Back q) = nat_eq p q
 names p (Dropped q) = nat_eq p q
 names p Close = false
@@ -106,41 +110,46 @@ has_rest q p [] f e = refl
 has_rest q p (x ∷ ps) f e = sym (ap (λ b. b || has_page q ps) (let same : x ≡ p = cc in ap (λ n. nat_eq n q) same ∙ turn q p e))
 
 -- the queue and the fliers of a page that an event doesn't name
-queue_other : (s : Shape) (h k : History) (c : ℕ) (w : What) (q : ℕ) → FitsBy s h k c w → names q w ≡ false → has_page q (queue_after (queue h) w) ≡ has_page q (queue h)
-queue_other s h k c (UnmapWhole p o r) q f e = has_by q p o (queue h) e
-queue_other s h k c (UnmapSub p a m o r) q f e = has_by q p o (queue h) e
-queue_other s h k c (Unpin p o r) q f e = has_by q p o (queue h) e
-queue_other s h k c (Taken p) q f e = has_rest q p (queue h) f.oldest e
-queue_other s h k c (Back p) q f e = has_push q p (queue h) e
+queue_other : (s : Shape) (h k : History) (c : ℕ) (w : What) (q : ℕ) → FitsBy s h k c w → names q w ≡ false → has_page q (queue_after s (queue s h) w) ≡ has_page q (queue s h)
+queue_other s h k c (Alloc p b) q f e = go (shrinks_underused s) where
+  go : (on : Bool) → has_page q (cond on (queue s h ++ p ∷ []) (queue s h)) ≡ has_page q (queue s h)
+  go true = has_push q p (queue s h) e
+  go false = refl
+queue_other s h k c (UnmapWhole o p r) q f e = has_by q p o (queue s h) e
+queue_other s h k c (UnmapSub o p a m r) q f e = has_by q p o (queue s h) e
+queue_other s h k c (Unpin o p r) q f e = has_by q p o (queue s h) e
+queue_other s h k c (Taken p) q f e = has_rest q p (queue s h) f.oldest e
+queue_other s h k c (Back p) q f e = has_push q p (queue s h) e
 queue_other s h k c w q f e = refl
 
 flier_other : (h : History) (c : ℕ) (w : What) (q : ℕ) → names q w ≡ false → flier q (flights_after (flights h) c w) ≡ flier q (flights h)
-flier_other h c (UnmapWhole p o r) q e = flier_by q p o (flights h) e
-flier_other h c (UnmapSub p a m o r) q e = flier_by q p o (flights h) e
-flier_other h c (Unpin p o r) q e = flier_by q p o (flights h) e
+flier_other h c (UnmapWhole o p r) q e = flier_by q p o (flights h) e
+flier_other h c (UnmapSub o p a m r) q e = flier_by q p o (flights h) e
+flier_other h c (Unpin o p r) q e = flier_by q p o (flights h) e
 flier_other h c (Taken p) q e = flier_push q p c (flights h) e
 flier_other h c (Split p r) q e = flier_leaves q p c (flights h) e
+flier_other h c (Used p) q e = flier_leaves q p c (flights h) e
 flier_other h c (Back p) q e = flier_leaves q p c (flights h) e
 flier_other h c (Dropped p) q e = flier_leaves q p c (flights h) e
 flier_other h c w q e = refl
 
 -- the last event changes where a page stands so
-pub standing_push : (h : History) (e : Event) (p : ℕ) →
-    standing_of (h ++ e ∷ []) p ≡ stands_by (has_page p (queue_after (queue h) e.what)) (flier p (flights_after (flights h) e.caller e.what))
+pub standing_push : (s : Shape) (h : History) (e : Event) (p : ℕ) →
+    standing_of s (h ++ e ∷ []) p ≡ stands_by (has_page p (queue_after s (queue s h) e.what)) (flier p (flights_after (flights h) e.caller e.what))
 unfolding standing_of
-standing_push h e p = ap₂ (λ ps fs. stands_by (has_page p ps) (flier p fs)) (queue_push h e) (flights_push h e)
+standing_push s h e p = ap₂ (λ ps fs. stands_by (has_page p ps) (flier p fs)) (queue_push s h e) (flights_push h e)
 
 -- a page that an event doesn't name stands where it stood
-pub standing_other : (s : Shape) (h : History) (e : Event) (q : ℕ) → Fits s h e → names q e.what ≡ false → standing_of (h ++ e ∷ []) q ≡ standing_of h q
+pub standing_other : (s : Shape) (h : History) (e : Event) (q : ℕ) → Fits s h e → names q e.what ≡ false → standing_of s (h ++ e ∷ []) q ≡ standing_of s h q
 unfolding standing_of
 standing_other s h e q f n =
-    standing_push h e q ∙ ap₂ stands_by (queue_other s h (h ++ e ∷ []) e.caller e.what q f n) (flier_other h e.caller e.what q n)
+    standing_push s h e q ∙ ap₂ stands_by (queue_other s h (h ++ e ∷ []) e.caller e.what q f n) (flier_other h e.caller e.what q n)
 
 -- an event that leaves the queue and the flights leaves each page where it stands
-pub standing_same : (h : History) (e : Event) (q : ℕ) → queue_after (queue h) e.what ≡ queue h → flights_after (flights h) e.caller e.what ≡ flights h →
-    standing_of (h ++ e ∷ []) q ≡ standing_of h q
+pub standing_same : (s : Shape) (h : History) (e : Event) (q : ℕ) → queue_after s (queue s h) e.what ≡ queue s h → flights_after (flights h) e.caller e.what ≡ flights h →
+    standing_of s (h ++ e ∷ []) q ≡ standing_of s h q
 unfolding standing_of
-standing_same h e q f g = standing_push h e q ∙ ap₂ (λ ps fs. stands_by (has_page q ps) (flier q fs)) f g
+standing_same s h e q f g = standing_push s h e q ∙ ap₂ (λ ps fs. stands_by (has_page q ps) (flier q fs)) f g
 
 -- a page in no flight has no flier
 pub no_flier : (p : ℕ) (fs : List (ℕ × ℕ)) → has_page p (pages fs) ≡ false → flier p fs ≡ None
@@ -205,19 +214,19 @@ flier_once p c (f ∷ fs) l e = go (nat_eq f.1 p) (nat_eq f.0 c) refl refl (omeg
   go false false x y m z u n = n (omega (arith, m)) z
 
 -- where a page of the queue, of a flight, and of neither stands
-pub standing_queued : (h : History) (p : ℕ) → has_page p (queue h) ≡ true → standing_of h p ≡ Queued
+pub standing_queued : (s : Shape) (h : History) (p : ℕ) → has_page p (queue s h) ≡ true → standing_of s h p ≡ Queued
 unfolding standing_of
-standing_queued h p e = ap (λ b. stands_by b (flier p (flights h))) e
+standing_queued s h p e = ap (λ b. stands_by b (flier p (flights h))) e
 
-pub standing_flying : (h : History) (p c : ℕ) → Sound h → has_page p (flight h c) ≡ true → standing_of h p ≡ Batch c
+pub standing_flying : (s : Shape) (h : History) (p c : ℕ) → Sound s h → has_page p (flight h c) ≡ true → standing_of s h p ≡ Batch c
 unfolding standing_of
-standing_flying h p c s e =
+standing_flying s h p c sound e =
     let up : 0 < flying p (flights h) = flight_flies p c (flights h) e in
-    ap₂ stands_by (none_of p (queue h) (omega (arith, s.once p))) (flier_once p c (flights h) (omega (arith, s.once p)) e)
+    ap₂ stands_by (none_of p (queue s h) (omega (arith, sound.once p))) (flier_once p c (flights h) (omega (arith, sound.once p)) e)
 
-pub standing_none : (h : History) (p : ℕ) → stand h p ≡ 0 → standing_of h p ≡ Nowhere
+pub standing_none : (s : Shape) (h : History) (p : ℕ) → stand s h p ≡ 0 → standing_of s h p ≡ Nowhere
 unfolding standing_of
-standing_none h p e = ap₂ stands_by (none_of p (queue h) (omega arith)) (no_flying p (flights h) (omega arith))
+standing_none s h p e = ap₂ stands_by (none_of p (queue s h) (omega arith)) (no_flying p (flights h) (omega arith))
 
 -- the other way round: what a standing says
 by_standing : (b : Bool) (o : Option ℕ) → stands_by b o ≡ Queued → b ≡ true
@@ -225,9 +234,9 @@ by_standing true o e = refl
 by_standing false None e = absurd (cc)
 by_standing false (Some c) e = absurd (cc)
 
-pub queued_has : (h : History) (p : ℕ) → standing_of h p ≡ Queued → has_page p (queue h) ≡ true
+pub queued_has : (s : Shape) (h : History) (p : ℕ) → standing_of s h p ≡ Queued → has_page p (queue s h) ≡ true
 unfolding standing_of
-queued_has h p e = by_standing _ _ e
+queued_has s h p e = by_standing _ _ e
 
 by_batch : (b : Bool) (o : Option ℕ) (c : ℕ) → stands_by b o ≡ Batch c → (b ≡ false) × (o ≡ Some c)
 by_batch true o c e = absurd (cc)
@@ -235,9 +244,9 @@ by_batch false None c e = absurd (cc)
 by_batch false (Some d) c e = (refl, cc)
 
 -- a page that stands in the batch of a caller is in its flight, and not in the queue
-pub batch_has : (h : History) (p c : ℕ) → standing_of h p ≡ Batch c → (has_page p (flight h c) ≡ true) × (flier p (flights h) ≡ Some c) × (has_page p (queue h) ≡ false)
+pub batch_has : (s : Shape) (h : History) (p c : ℕ) → standing_of s h p ≡ Batch c → (has_page p (flight h c) ≡ true) × (flier p (flights h) ≡ Some c) × (has_page p (queue s h) ≡ false)
 unfolding standing_of
-batch_has h p c e = let w = by_batch _ _ c e in (flier_has p c (flights h) w.1, w.1, w.0)
+batch_has s h p c e = let w = by_batch _ _ c e in (flier_has p c (flights h) w.1, w.1, w.0)
 
 by_nowhere : (b : Bool) (o : Option ℕ) → stands_by b o ≡ Nowhere → (b ≡ false) × (o ≡ None)
 by_nowhere true o e = absurd (cc)
@@ -245,9 +254,9 @@ by_nowhere false None e = (refl, refl)
 by_nowhere false (Some d) e = absurd (cc)
 
 -- the flier of a page is told by where the page stands
-pub batch_is : (h : History) (p : ℕ) → Sound h → batch_of (standing_of h p) ≡ flier p (flights h)
+pub batch_is : (s : Shape) (h : History) (p : ℕ) → Sound s h → batch_of (standing_of s h p) ≡ flier p (flights h)
 unfolding standing_of
-batch_is h p s = go (has_page p (queue h)) (flier p (flights h)) (λ y. no_flying p (flights h) (omega (arith, s.once p, some_of p (queue h) y))) where
+batch_is s h p sound = go (has_page p (queue s h)) (flier p (flights h)) (λ y. no_flying p (flights h) (omega (arith, sound.once p, some_of p (queue s h) y))) where
   go : (b : Bool) (o : Option ℕ) → (b ≡ true → o ≡ None) → batch_of (stands_by b o) ≡ o
   go true o f = sym (f refl)
   go false None f = refl
@@ -261,10 +270,10 @@ has_pages p (f ∷ fs) = go (nat_eq f.1 p) (has_pages p fs) where
   go false n = n
 
 -- whether a page stands in the queue or a flight is told by where it stands
-pub stands_is : (h : History) (p : ℕ) → stands h p ≡ not (is_nowhere (standing_of h p))
+pub stands_is : (s : Shape) (h : History) (p : ℕ) → stands s h p ≡ not (is_nowhere (standing_of s h p))
 unfolding standing_of
-stands_is h p =
-    list_any-append (λ q. nat_eq q p) (queue h) (pages (flights h)) ∙ ap (λ b. has_page p (queue h) || b) (has_pages p (flights h)) ∙ go (has_page p (queue h)) (flier p (flights h)) where
+stands_is s h p =
+    list_any-append (λ q. nat_eq q p) (queue s h) (pages (flights h)) ∙ ap (λ b. has_page p (queue s h) || b) (has_pages p (flights h)) ∙ go (has_page p (queue s h)) (flier p (flights h)) where
       go : (b : Bool) (o : Option ℕ) → (b || is_some o) ≡ not (is_nowhere (stands_by b o))
       go true o = refl
       go false None = refl

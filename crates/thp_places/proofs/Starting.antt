@@ -16,9 +16,9 @@ lies_nowhere : (p b : ℕ) → block_of [] p ≡ Some b → ⊥
 unfolding block_of
 lies_nowhere p b e = cc
 
-queue_none : map (block_of []) (queue []) ≡ []
+queue_none : (s : Shape) → map (block_of []) (queue s []) ≡ []
 unfolding queue
-queue_none = refl
+queue_none s = refl
 
 -- an empty table and an empty queue are those of the empty history
 pub node_none : (s : Shape) (t : Table) (q : List ℕ) → length t.slots ≡ s.blocks → t.order ≡ s.order → ((b : ℕ) → slot_at t b ≡ None) → q ≡ [] → IsNode s [] t q
@@ -27,7 +27,7 @@ node_none s t q size order empty none = record {
   size = size;
   order = order;
   fills = λ b. let P : Option Slot → Type 0 = λ o. Fills s [] b o in subst P (sym (empty b)) (λ p e. lies_nowhere p b e);
-  queue_is = queue_none ∙ ap (map (λ b. Some b)) (sym none);
+  queue_is = queue_none s ∙ ap (map (λ b. Some b)) (sym none);
 }
 
 -- no more events pass a test than there are

@@ -7,14 +7,14 @@ use Rattle.thp_model.specs.Pages.{Tallies}
 use Rattle.thp_model.specs.Places.{queue}
 use Rattle.thp_page.specs.Table.{Slot}
 use Rattle.thp_page.specs.Table.{Table}
-use Rattle.thp_page.specs.Slots.{slot_at, IsHeld}
+use Rattle.thp_page.specs.Slots.{slot_at, HoldsPage}
 use Rattle.thp_places.specs.Homes.{block_of, standing_of}
 
 -- what stands in block b is what the history says of its page
 pub record IsSlot (s : Shape) (h : History) (b : ℕ) (x : Slot) : Type 0 where
   pub home : block_of h x.id ≡ Some b
   pub tallies : Tallies s h x.id x.page
-  pub stands : x.standing ≡ standing_of h x.id
+  pub stands : x.standing ≡ standing_of s h x.id
 
 -- block b holds what it should: the page that lies there, or nothing where none does
 abbrev pub Fills : Shape → History → ℕ → Option Slot → Type 0
@@ -23,7 +23,7 @@ Fills s h b (Some x) = IsSlot s h b x
 
 -- page p stands in some block
 abbrev pub HasBlock : Table → ℕ → Type 0
-HasBlock t p = (b : ℕ) × IsHeld (slot_at t b) p
+HasBlock t p = (b : ℕ) × HoldsPage (slot_at t b) p
 
 -- the history is legal, the table's slots are the live pages, and the queue's indices are the blocks of the queued pages
 -- in order
@@ -32,4 +32,4 @@ pub record IsNode (s : Shape) (h : History) (t : Table) (q : List ℕ) : Type 0 
   pub size : length t.slots ≡ s.blocks
   pub order : t.order ≡ s.order
   pub fills : (b : ℕ) → Fills s h b (slot_at t b)
-  pub queue_is : map (block_of h) (queue h) ≡ map (λ b. Some b) q
+  pub queue_is : map (block_of h) (queue s h) ≡ map (λ b. Some b) q

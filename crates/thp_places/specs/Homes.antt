@@ -5,6 +5,7 @@ use Rattle.thp_model.specs.declared.events.Event.{Event}
 use Rattle.thp_model.specs.declared.events.Outcome.{Outcome}
 use Rattle.thp_model.specs.declared.events.What.{What}
 use Rattle.thp_model.specs.declared.events.What.TheVariants.{Alloc, UnmapWhole, UnmapSub, Unpin}
+use Rattle.thp_model.specs.declared.shape.Shape.{Shape}
 use Rattle.thp_model.specs.History.{History, some_event}
 use Rattle.thp_model.specs.Counts.{is_freed, is_live}
 use Rattle.thp_model.specs.Frames.{places}
@@ -19,9 +20,9 @@ block_by p o q outcome = if nat_eq p q then (if is_freed outcome then None else 
 -- the block of page p after an event: that of its allocation, until it is freed
 abbrev pub block_after : ℕ → Option ℕ → What → Option ℕ
 block_after p o (Alloc q b) = if nat_eq p q then Some b else o
-block_after p o (UnmapWhole q outcome set) = block_by p o q outcome
-block_after p o (UnmapSub q first count outcome set) = block_by p o q outcome
-block_after p o (Unpin q outcome set) = block_by p o q outcome
+block_after p o (UnmapWhole outcome q set) = block_by p o q outcome
+block_after p o (UnmapSub outcome q first count set) = block_by p o q outcome
+block_after p o (Unpin outcome q set) = block_by p o q outcome
 block_after p o _ = o
 
 -- the block in which live page p lies
@@ -43,5 +44,5 @@ stands_by false None = Nowhere
 stands_by false (Some c) = Batch c
 
 -- where page p stands: in the queue, in a caller's batch, or nowhere
-unfoldable pub standing_of : History → ℕ → Standing
-standing_of h p = stands_by (has_page p (queue h)) (flier p (flights h))
+unfoldable pub standing_of : Shape → History → ℕ → Standing
+standing_of s h p = stands_by (has_page p (queue s h)) (flier p (flights h))

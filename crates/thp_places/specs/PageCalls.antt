@@ -4,7 +4,7 @@ use Rattle.thp_model.specs.declared.events.Outcome.{Outcome}
 use Rattle.thp_model.specs.declared.events.Outcome.TheVariants.{Freed, Queued, Stays}
 use Rattle.thp_model.specs.declared.events.What.{What}
 use Rattle.thp_model.specs.declared.events.What.TheVariants as what
-use Rattle.thp_model.specs.Pages.{PageState, WholeMapped, RangeMapped, PmdSplit, Pinned}
+use Rattle.thp_model.specs.Pages.{PageState, WholeMapped, WholeUnmapped, RangeMapped, RangeUnmapped, PmdSplit, Pinned, RangeWritten, RangeZeroed}
 use Rattle.thp_model.specs.Counts.{is_freed}
 use Rattle.thp_model.specs.Refusals.{Call}
 use Rattle.thp_model.specs.Refusals as call
@@ -23,6 +23,8 @@ gain_call gain.MapWhole p = call.map_whole p
 gain_call (gain.MapSub first count) p = call.map_sub p first count
 gain_call gain.SplitPmd p = call.split_pmd p
 gain_call gain.Pin p = call.pin p
+gain_call (gain.Write first count) p = call.write p first count
+gain_call (gain.Zero first count) p = call.zero_fill p first count
 
 abbrev pub loss_call : Loss → ℕ → Call
 loss_call loss.UnmapWhole p = call.unmap_whole p
@@ -39,11 +41,13 @@ gain_what gain.MapWhole p = what.MapWhole p
 gain_what (gain.MapSub first count) p = what.MapSub p first count
 gain_what gain.SplitPmd p = what.SplitPmd p
 gain_what gain.Pin p = what.Pin p
+gain_what (gain.Write first count) p = what.Write p first count
+gain_what (gain.Zero first count) p = what.Zero p first count
 
 abbrev pub loss_what : Loss → ℕ → Outcome → List Bool → What
-loss_what loss.UnmapWhole p outcome set = what.UnmapWhole p outcome set
-loss_what (loss.UnmapSub first count) p outcome set = what.UnmapSub p first count outcome set
-loss_what loss.Unpin p outcome set = what.Unpin p outcome set
+loss_what loss.UnmapWhole p outcome set = what.UnmapWhole outcome p set
+loss_what (loss.UnmapSub first count) p outcome set = what.UnmapSub outcome p first count set
+loss_what loss.Unpin p outcome set = what.Unpin outcome p set
 
 -- what it does to the page
 abbrev pub Gains : Gain → PageState → PageState → Type 0
@@ -51,10 +55,12 @@ Gains gain.MapWhole old new = WholeMapped old new
 Gains (gain.MapSub first count) old new = RangeMapped first count old new
 Gains gain.SplitPmd old new = PmdSplit old new
 Gains gain.Pin old new = Pinned old new
+Gains (gain.Write first count) old new = RangeWritten first count old new
+Gains (gain.Zero first count) old new = RangeZeroed first count old new
 
 abbrev pub Loses : Loss → PageState → PageState → Type 0
-Loses loss.UnmapWhole old new = WholeMapped new old
-Loses (loss.UnmapSub first count) old new = RangeMapped first count new old
+Loses loss.UnmapWhole old new = WholeUnmapped old new
+Loses (loss.UnmapSub first count) old new = RangeUnmapped first count old new
 Loses loss.Unpin old new = Pinned new old
 
 -- how many PMD mappings it splits

@@ -1,14 +1,14 @@
 -- What contracts see of the pages of a node with their places, and what the calls of `Places` do.
-use Rattle.std.specs.Prelude.{◌≡◌, ◌≢◌, ℕ, ◌+◌, ◌<◌, ◌≤◌, Bool, true, false, not, length, drop, List, [], ◌∷◌, ◌++◌, Option, Some, None, slice_get, slice_set, ◌⊎◌}
+use Rattle.std.specs.Prelude.{◌≡◌, ◌≢◌, ℕ, ◌+◌, ◌<◌, ◌≤◌, Bool, true, false, not, if◌then◌else◌, length, drop, List, [], ◌∷◌, ◌++◌, Option, Some, None, slice_get, slice_set, ◌⊎◌}
 use Rattle.thp_links.specs.Indices.{without}
 use Rattle.thp_model.specs.declared.events.Outcome.{Outcome}
 use Rattle.thp_model.specs.declared.events.Outcome.TheVariants as outcome
 use Rattle.thp_model.specs.PageChanges.{page_outcome, page_released}
-use Rattle.thp_model.specs.Pages.{PageState}
+use Rattle.thp_model.specs.Pages.{IsFresh, PageState}
 use Rattle.thp_page.specs.declared.standing.Standing.{Standing}
 use Rattle.thp_page.specs.declared.standing.Standing.TheVariants.{Nowhere, Queued, Batch}
 use Rattle.thp_page.specs.Table.{Slot, Table}
-use Rattle.thp_page.specs.Slots.{slot_at, IsHeld}
+use Rattle.thp_page.specs.Slots.{slot_at, HoldsPage}
 use Rattle.thp_places.specs.declared.page_call.Done.{Done}
 use Rattle.thp_places.specs.declared.page_call.Loss.{Loss}
 use Rattle.thp_places.specs.PageCalls.{Loses}
@@ -76,6 +76,21 @@ pub record Lost (loss : Loss) (closed : Bool) (x : Slot) (old new : PlacesState)
   pub left_is : left ≡ left_by done.outcome x.standing
   pub edits : Edits old new b (slot_after done.outcome (record x { page = page })) (queue_after done.outcome b old.queue) 6
 
+-- where a new page stands, which joins the queue or doesn't, and the queue then
+abbrev pub new_standing : Bool → Standing
+new_standing true = Queued
+new_standing false = Nowhere
+
+abbrev pub new_queue : Bool → ℕ → List ℕ → List ℕ
+new_queue true b q = q ++ b ∷ []
+new_queue false b q = q
+
+-- a new page goes into block b, and joins the queue or doesn't
+pub record Placed (id : ℕ) (queued : Bool) (old new : PlacesState) (b : ℕ) : Type 0 where
+  pub page : PageState
+  pub fresh : IsFresh old.table.order page
+  pub edits : Edits old new b (Some (record { id = id; page = page; standing = new_standing queued })) (new_queue queued b old.queue) (if queued then 4 else 0)
+
 -- the oldest page of the queue goes into a caller's batch
 pub record TakesFirst (old new : PlacesState) (caller id : ℕ) : Type 0 where
   pub block : ℕ
@@ -100,4 +115,4 @@ pub record HasFree (t : Table) : Type 0 where
 -- page p is in no block, or in one where it doesn't stand in a batch of caller c
 abbrev pub IsElsewhere : Table → ℕ → ℕ → Type 0
 IsElsewhere t c p =
-    ((b : ℕ) → IsHeld (slot_at t b) p → ⊥) ⊎ ((b : ℕ) × (x : Slot) × (slot_at t b ≡ Some x) × (x.id ≡ p) × (x.standing ≢ Batch c))
+    ((b : ℕ) → HoldsPage (slot_at t b) p → ⊥) ⊎ ((b : ℕ) × (x : Slot) × (slot_at t b ≡ Some x) × (x.id ≡ p) × (x.standing ≢ Batch c))

@@ -8,7 +8,8 @@
 //! For callers' proofs, in `proofs/`: `Homing` says where a legal history puts a page, `Standings` where the page stands,
 //! `Keeping` what an event leaves as it is. `Admitting` finds the page of a call and says why it is refused, `Closing` says
 //! so of a close and an allocation. `PageEvents` goes on by a page call, `ListEvents` by any other event, and `Starting`
-//! begins. `Relinking` has what an edit does to one slot, and `FreeChains` how a chain of free blocks gets by.
+//! begins; `Worth` says whether a page is worth a split. `Relinking` has what an edit does to one slot, and `FreeChains` how
+//! a chain of free blocks gets by.
 #![tactic(auto)]
 
 mod page_call;

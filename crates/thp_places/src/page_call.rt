@@ -10,7 +10,8 @@ ghost use Rattle.thp_places.specs.PlacesState.{is_nowhere};
 use thp_model::{Outcome, PageId, Refusal, SubSet, What};
 use thp_page::{Change, Page, Standing};
 
-/// What gives a page mappings or a pin, or turns one mapping into smaller ones. The page stays where it stands.
+/// What gives a page mappings or a pin, turns one mapping into smaller ones, or fills subpages. The page stays where it
+/// stands.
 #[derive(Clone, Copy, PartialEq, Eq, Debug)]
 pub enum Gain {
     /// One more mapping of the whole page.
@@ -21,6 +22,10 @@ pub enum Gain {
     SplitPmd,
     /// One more pin.
     Pin,
+    /// Data into each of the `count` subpages from `first` on.
+    Write { first: u32, count: u32 },
+    /// Zeros into each of the `count` subpages from `first` on.
+    Zero { first: u32, count: u32 },
 }
 
 /// What takes mappings or a pin away. The page can be queued or freed by it.
@@ -58,6 +63,8 @@ impl PageCall {
             PageCall::Gain(Gain::MapSub { first, count }) => page.refusal_map_sub(first, count),
             PageCall::Gain(Gain::SplitPmd) => page.refusal_split_pmd(),
             PageCall::Gain(Gain::Pin) => page.refusal_pin(),
+            PageCall::Gain(Gain::Write { first, count }) => page.refusal_write(first, count),
+            PageCall::Gain(Gain::Zero { first, count }) => page.refusal_zero(first, count),
             PageCall::Loss(Loss::UnmapWhole) => page.refusal_unmap_whole(),
             PageCall::Loss(Loss::UnmapSub { first, count }) => page.refusal_unmap_sub(first, count),
             PageCall::Loss(Loss::Unpin) => page.refusal_unpin(),
@@ -76,6 +83,8 @@ impl Gain {
             Gain::MapSub { first, count } => page.do_map_sub(first, count),
             Gain::SplitPmd => page.do_split_pmd(),
             Gain::Pin => page.do_pin(),
+            Gain::Write { first, count } => page.do_write(first, count),
+            Gain::Zero { first, count } => page.do_zero(first, count),
         }
     }
 
@@ -88,6 +97,8 @@ impl Gain {
             Gain::MapSub { first, count } => What::MapSub { page, first, count },
             Gain::SplitPmd => What::SplitPmd { page },
             Gain::Pin => What::Pin { page },
+            Gain::Write { first, count } => What::Write { page, first, count },
+            Gain::Zero { first, count } => What::Zero { page, first, count },
         }
     }
 
@@ -137,20 +148,20 @@ impl Loss {
         let Done { outcome, released } = *done;
         match self {
             Loss::UnmapWhole => What::UnmapWhole {
-                page,
                 outcome,
+                page,
                 released,
             },
             Loss::UnmapSub { first, count } => What::UnmapSub {
+                outcome,
                 page,
                 first,
                 count,
-                outcome,
                 released,
             },
             Loss::Unpin => What::Unpin {
-                page,
                 outcome,
+                page,
                 released,
             },
         }

@@ -3,13 +3,13 @@ ghost use Rattle.std.specs.Prelude.{◌≡◌, ◌≢◌, ℕ, ◌+◌, ◌<◌,
 ghost use Rattle.std.specs.Bool.{OnTrue, OnFalse};
 ghost use Rattle.thp_links.specs.Indices.{without};
 ghost use Rattle.thp_links.specs.Standing.{Stands};
-ghost use Rattle.thp_model.specs.Pages.{gives_frames, page_refusal, IsFresh, PageSplit, PageState};
-ghost use Rattle.thp_page.specs.Slots.{slot_at, IsHeld};
+ghost use Rattle.thp_model.specs.Pages.{gives_frames, is_worth, page_refusal, PageSplit, PageState};
+ghost use Rattle.thp_page.specs.Slots.{slot_at, HoldsPage};
 ghost use Rattle.thp_page.specs.Table.{Slot};
 ghost use Rattle.thp_places.specs.Flying.{IsFlyingAt};
 ghost use Rattle.thp_places.specs.FreeChains.{IsFreeChain, Relinks};
 ghost use Rattle.thp_places.specs.PageCalls.{gain_call, loss_call, page_call, Gains};
-ghost use Rattle.thp_places.specs.PlacesState.{AtSlot, Edits, batch_of, IsElsewhere, LeavesQueue, Lost, Reduced, TakesFirst};
+ghost use Rattle.thp_places.specs.PlacesState.{AtSlot, Edits, batch_of, IsElsewhere, LeavesQueue, Lost, Placed, Reduced, TakesFirst};
 
 use crate::page_call::{Done, Gain, Loss, PageCall};
 use std::alloc::{AllocError, Global};
@@ -86,19 +86,22 @@ impl Places {
         }
     }
 
-    /// Puts a new page into a free block.
-    pub fn place(&mut self, block: u32, page: PageId)
+    /// Puts a new page into a free block, and at the queue's tail where it is to be queued.
+    pub fn place(&mut self, block: u32, page: PageId, queued: bool)
         requires inside { block < length self.old.table.slots }
         requires free { slot_at self.old.table block ≡ None }
-        requires new { (b : ℕ) → IsHeld (slot_at self.old.table b) page → ⊥ }
-        ensures { (p : PageState) × IsFresh self.old.table.order p × Edits self.old self.new block (Some (record { id = page; page = p; standing = Standing.Nowhere })) self.old.queue 0 }
+        requires new { (b : ℕ) → HoldsPage (slot_at self.old.table b) page → ⊥ }
+        ensures { Placed page queued self.old self.new block }
     {
-        self.table.place(block, page);
+        self.put(block, page);
+        if queued {
+            self.enqueue(block);
+        }
     }
 
     /// The block of a page.
     pub fn find(&self, page: PageId) -> Option<u32>
-        ensures { MatchOption result ((b : ℕ) → IsHeld (slot_at self.now.table b) page → ⊥) (λ b. IsHeld (slot_at self.now.table b) page) }
+        ensures { MatchOption result ((b : ℕ) → HoldsPage (slot_at self.now.table b) page → ⊥) (λ b. HoldsPage (slot_at self.now.table b) page) }
     {
         self.table.block_of(page)
     }
@@ -114,7 +117,7 @@ impl Places {
         }
     }
 
-    /// Gives the page of a block mappings or a pin, which isn't refused.
+    /// Gives the page of a block mappings or a pin, or fills subpages of it, which isn't refused.
     pub fn gain(&mut self, block: u32, gain: Gain)
         requires occupied { IsSome (slot_at self.old.table block) }
         requires allowed { AtSlot self.old.table block (λ x. page_refusal x.page (gain_call gain 0) ≡ None) }
@@ -222,15 +225,39 @@ impl Places {
         }
     }
 
-    /// Splits the page of a block, which stands in a batch, and takes it out of the batch. Answers the frames given back.
-    pub fn split(&mut self, block: u32) -> SubSet
+    /// Whether the page of a block is partly mapped: an unmap took a subpage out of use and left another in use.
+    pub fn is_partly(&self, block: u32) -> bool
+        requires { IsSome (slot_at self.now.table block) }
+        ensures { AtSlot self.now.table block (λ x. result ≡ x.page.partly) }
+    {
+        match self.table.page(block) {
+            Some((_, page)) => page.is_partly(),
+            None => unreachable!(),
+        }
+    }
+
+    /// Whether the page of a block is worth a split: it is partly mapped, or more of its subpages are zero-filled than the
+    /// threshold says, where there is one.
+    pub fn is_worth(&self, block: u32, threshold: Option<u32>) -> bool
+        requires { IsSome (slot_at self.now.table block) }
+        ensures { AtSlot self.now.table block (λ x. result ≡ is_worth threshold x.page) }
+    {
+        match self.table.page(block) {
+            Some((_, page)) => page.is_worth(threshold),
+            None => unreachable!(),
+        }
+    }
+
+    /// Splits the page of a block, which stands in a batch, and takes it out of the batch. Answers the frames given back:
+    /// those of the subpages out of use, and of the zero-filled ones too where `give_zero` says so.
+    pub fn split(&mut self, block: u32, give_zero: bool) -> SubSet
         requires occupied { IsSome (slot_at self.old.table block) }
         requires allowed { AtSlot self.old.table block (λ x. (x.page.split ≡ false) × (x.page.pins ≡ 0) × (x.standing ≢ Standing.Queued)) }
-        ensures { AtSlot self.old.table block (λ x. (p : PageState) × PageSplit x.page p × (result ≡ gives_frames x.page p) × Edits self.old self.new block (Some (record x { page = p; standing = Standing.Nowhere })) self.old.queue 0) }
+        ensures { AtSlot self.old.table block (λ x. (p : PageState) × PageSplit give_zero x.page p × (result ≡ gives_frames x.page p) × Edits self.old self.new block (Some (record x { page = p; standing = Standing.Nowhere })) self.old.queue 0) }
     {
         self.table.set_standing(block, Standing::Nowhere);
         match self.table.page_mut(block) {
-            Some(page) => page.split(),
+            Some(page) => page.split(give_zero),
             None => unreachable!(),
         }
     }
@@ -289,6 +316,16 @@ impl Places {
             Some(page) => loss.apply(page, standing, closed),
             None => unreachable!(),
         }
+    }
+
+    // Puts a new page into a free block, and nowhere else.
+    fn put(&mut self, block: u32, page: PageId)
+        requires inside { block < length self.old.table.slots }
+        requires free { slot_at self.old.table block ≡ None }
+        requires new { (b : ℕ) → HoldsPage (slot_at self.old.table b) page → ⊥ }
+        ensures { Placed page false self.old self.new block }
+    {
+        self.table.place(block, page);
     }
 
     // Takes the page of a block out of the table, and out of the queue where it stands there.

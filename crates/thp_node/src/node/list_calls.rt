@@ -12,8 +12,8 @@ use crate::node::Node;
 use thp_model::{PageId, Refusal, What};
 
 impl Node {
-    /// A new page, mapped whole once, in a block of no live page. Its number is the count of allocations before it.
-    /// Refused as `Closed` and `NoBlock`.
+    /// A new page, mapped whole once, in a block of no live page. Its number is the count of allocations before it. It is
+    /// queued where the shrinker looks for underused pages. Refused as `Closed` and `NoBlock`.
     pub fn alloc_page(&mut self, caller: u32) -> Result<PageId, Refusal>
         requires { caller < 64 }
         ensures allowed { OnOk result (refusal self.old.shape self.old.journal call.alloc_page ≡ None) }
@@ -32,7 +32,8 @@ impl Node {
             return Err(Refusal::OutOfMemory);
         }
         let page = PageId(self.journal.next());
-        let block = self.blocks.place(page);
+        let queued = self.journal.shape().shrinks_underused();
+        let block = self.blocks.place(page, queued);
         self.journal
             .record(caller, What::Alloc { page, block }, Unsaid::Nothing);
         Ok(page)

@@ -30,7 +30,7 @@ impl Node {
     pub fn unmap_whole(&mut self, caller: u32, page: PageId) -> Result<Done, Refusal>
         requires { caller < 64 }
         ensures allowed { OnOk result (refusal self.old.shape self.old.journal (call.unmap_whole page) ≡ None) }
-        ensures recorded { IfOk result (λ d. Did self.old self.new caller (by caller (What.UnmapWhole page d.outcome d.released) ∷ [])) }
+        ensures recorded { IfOk result (λ d. Did self.old self.new caller (by caller (What.UnmapWhole d.outcome page d.released) ∷ [])) }
         ensures outcome { IfOk result (λ d. d.outcome ≡ outcome self.old.shape self.old.journal self.new.journal page) }
         ensures released { IfOk result (λ d. d.released ≡ released self.old.shape self.old.journal self.new.journal page) }
         ensures refused { IfErr result (Refused self.old self.new (refusal self.old.shape self.old.journal (call.unmap_whole page)) 1) }
@@ -70,7 +70,7 @@ impl Node {
     ) -> Result<Done, Refusal>
         requires { caller < 64 }
         ensures allowed { OnOk result (refusal self.old.shape self.old.journal (call.unmap_sub page first count) ≡ None) }
-        ensures recorded { IfOk result (λ d. Did self.old self.new caller (by caller (What.UnmapSub page first count d.outcome d.released) ∷ [])) }
+        ensures recorded { IfOk result (λ d. Did self.old self.new caller (by caller (What.UnmapSub d.outcome page first count d.released) ∷ [])) }
         ensures outcome { IfOk result (λ d. d.outcome ≡ outcome self.old.shape self.old.journal self.new.journal page) }
         ensures released { IfOk result (λ d. d.released ≡ released self.old.shape self.old.journal self.new.journal page) }
         ensures refused { IfErr result (Refused self.old self.new (refusal self.old.shape self.old.journal (call.unmap_sub page first count)) 1) }
@@ -106,7 +106,7 @@ impl Node {
     pub fn unpin(&mut self, caller: u32, page: PageId) -> Result<Done, Refusal>
         requires { caller < 64 }
         ensures allowed { OnOk result (refusal self.old.shape self.old.journal (call.unpin page) ≡ None) }
-        ensures recorded { IfOk result (λ d. Did self.old self.new caller (by caller (What.Unpin page d.outcome d.released) ∷ [])) }
+        ensures recorded { IfOk result (λ d. Did self.old self.new caller (by caller (What.Unpin d.outcome page d.released) ∷ [])) }
         ensures outcome { IfOk result (λ d. d.outcome ≡ outcome self.old.shape self.old.journal self.new.journal page) }
         ensures released { IfOk result (λ d. d.released ≡ released self.old.shape self.old.journal self.new.journal page) }
         ensures refused { IfErr result (Refused self.old self.new (refusal self.old.shape self.old.journal (call.unpin page)) 1) }
@@ -115,7 +115,36 @@ impl Node {
         self.lose(caller, page, Loss::Unpin)
     }
 
-    // A call that gives a page mappings or a pin.
+    /// Data is written to each of the `count` subpages from `first` on, which are no longer zero-filled. Refused as `NoPage`,
+    /// `BadRange`, `IsSplit` and `NotMapped` where one of them isn't mapped.
+    pub fn write(
+        &mut self,
+        caller: u32,
+        page: PageId,
+        first: u32,
+        count: u32,
+    ) -> Result<(), Refusal>
+        requires { caller < 64 }
+        ensures allowed { OnOk result (refusal self.old.shape self.old.journal (call.write page first count) ≡ None) }
+        ensures recorded { OnOk result (Did self.old self.new caller (by caller (What.Write page first count) ∷ [])) }
+        ensures refused { IfErr result (Refused self.old self.new (refusal self.old.shape self.old.journal (call.write page first count)) 1) }
+        ensures fronts { FrontsStay self.old.journal self.new.journal }
+    {
+        self.gain(caller, page, Gain::Write { first, count })
+    }
+
+    /// Zeros are written to each of the `count` subpages from `first` on, which are zero-filled then. Refused as `write` is.
+    pub fn zero(&mut self, caller: u32, page: PageId, first: u32, count: u32) -> Result<(), Refusal>
+        requires { caller < 64 }
+        ensures allowed { OnOk result (refusal self.old.shape self.old.journal (call.zero_fill page first count) ≡ None) }
+        ensures recorded { OnOk result (Did self.old self.new caller (by caller (What.Zero page first count) ∷ [])) }
+        ensures refused { IfErr result (Refused self.old self.new (refusal self.old.shape self.old.journal (call.zero_fill page first count)) 1) }
+        ensures fronts { FrontsStay self.old.journal self.new.journal }
+    {
+        self.gain(caller, page, Gain::Zero { first, count })
+    }
+
+    // A call that gives a page mappings or a pin, or fills subpages of it.
     fn gain(&mut self, caller: u32, page: PageId, gain: Gain) -> Result<(), Refusal>
         requires { caller < 64 }
         ensures allowed { OnOk result (refusal self.old.shape self.old.journal (gain_call gain page) ≡ None) }

@@ -1,7 +1,6 @@
 use Rattle.std.proofs.Common.{length, ap, sym, ◌∙◌, arith}
-use Rattle.thp_page.specs.declared.standing.Standing.TheVariants.{Nowhere}
 use Rattle.thp_links.proofs.Members.{Contains-from_first}
-use Rattle.thp_places.specs.PlacesState.{PlacesState}
+use Rattle.thp_places.specs.PlacesState.{PlacesState, new_standing, new_queue}
 use Rattle.thp_node.proofs.ChainLemmas.{chain_placed}
 use Rattle.thp_node.proofs.blocks.Blocks.place.Goals as goal
 
@@ -20,5 +19,6 @@ returns-clause-inside c =
 pub invariant_of-self : goal.invariant_of-self
 invariant_of-self c =
     let put = c.place.ensures in
-    chain_placed c.self.inside.places c.pop_free.new.self c.place.new.self c.self.inside.free c.pop_free.new.chain c.in-Some.block (record { id = c.args.page; page = put.0; standing = Nowhere })
-    c.pop_free.new.self.queue 0 c.self.invariant (sym c.pop_free.ensures.value ∙ c.in-Some.is) c.self.invariant.chain.stands.distinct c.pop_free.ensures.list c.pop_free.ensures.chain c.pop_free.ensures.same put.2
+    chain_placed c.self.inside.places c.pop_free.new.self c.place.new.self c.self.inside.free c.pop_free.new.chain c.in-Some.block (record { id = c.args.page; page = put.page; standing = new_standing c.args.queued })
+    (new_queue c.args.queued c.in-Some.block c.pop_free.new.self.queue) _ c.self.invariant (sym c.pop_free.ensures.value ∙ c.in-Some.is) c.self.invariant.chain.stands.distinct c.pop_free.ensures.list c.pop_free.ensures.chain
+    c.pop_free.ensures.same put.edits

@@ -7,6 +7,7 @@ use Rattle.thp_model.specs.History.{History, by}
 use Rattle.thp_model.specs.Legal.{Fits}
 use Rattle.thp_model.specs.Refusals.{refusal}
 use Rattle.thp_model.specs.Refusals as call
+use Rattle.thp_model.specs.Underused.{shrinks_underused}
 use Rattle.thp_page.specs.Slots.{slot_at}
 use Rattle.thp_node.specs.contracts.node.Node.{the_view}
 use Rattle.thp_places.specs.PlacesState.{HasFree}
@@ -84,9 +85,10 @@ invariant_of-self-2 c =
     let fits : Fits j.shape j.events (by c.args.caller w) =
     placed_fits j.shape j.events c.args.caller c.next.result c.place-block.result b.table b.queue homed c.self.invariant allowed number c.place-block.ensures.inside c.place-block.ensures.free in
     let put = c.place-block.ensures.placed in
+    let switch : c.shrinks_underused-queued.result ≡ shrinks_underused j.shape = c.shrinks_underused-queued.ensures ∙ ap shrinks_underused (c.shape.ensures.value ∙ c.in_default.ensures.shape) in
     let node : IsNode j.shape (j.events ++ by c.args.caller w ∷ []) c.place-block.new.self.table c.place-block.new.self.queue =
-    placed_node j.shape j.events c.args.caller c.next.result c.place-block.result put.state put.between c.place-block.new.self homed (node_relinked j.shape j.events b put.between 2 put.relinks c.self.invariant) fits
-    (omega (arith, c.place-block.ensures.inside, ap length put.relinks.slots)) put.fresh put.edits in
+    placed_node j.shape j.events c.args.caller c.next.result c.place-block.result homed fits c.shrinks_underused-queued.result put.between c.place-block.new.self
+    (node_relinked j.shape j.events b put.between 2 put.relinks c.self.invariant) (omega (arith, c.place-block.ensures.inside, ap length put.relinks.slots)) switch put.placed in
     let N : Shape → History → Type 0 = λ s h. IsNode s h c.place-block.new.self.table c.place-block.new.self.queue in
     let shape : c.record.new.self.shape ≡ j.shape = c.record.ensures.shape ∙ c.in_default.ensures.shape in
     let events : c.record.new.self.events ≡ j.events ++ by c.args.caller w ∷ [] = c.record.ensures.events ∙ ap (λ h. h ++ by c.args.caller w ∷ []) c.in_default.ensures.events in

@@ -56,7 +56,7 @@ record-requires-clause-fits c =
     subst P (sym c.what.ensures) (before c).fits
 
 pub record-requires-clause-unsaid : goal.record-requires-clause-unsaid
-record-requires-clause-unsaid c = (before c).unsaid_is ∙ ap (unsaid_of c.self.inside.journal.events) (sym c.what.ensures)
+record-requires-clause-unsaid c = (before c).unsaid_is ∙ ap (unsaid_of c.self.inside.journal.shape c.self.inside.journal.events) (sym c.what.ensures)
 
 events : (c : goal.After-record) → c.record.new.self.events ≡ c.self.inside.journal.events ++ by c.args.caller (loss_what c.args.loss c.args.page c.lose-done.result.0.outcome c.lose-done.result.0.released) ∷ []
 events c = c.record.ensures.events ∙ ap (λ v. c.self.inside.journal.events ++ by c.args.caller v ∷ []) c.what.ensures

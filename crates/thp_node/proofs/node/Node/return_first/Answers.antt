@@ -1,4 +1,5 @@
-use Rattle.std.proofs.Common.{[], ◌∷◌, Option, refl, sym, subst}
+use Rattle.std.proofs.Common.{[], ◌∷◌, Option, map, refl, ap, sym, subst}
+use Rattle.thp_model.specs.Runs.{return_event}
 use Rattle.std.specs.Prelude.{IsSome}
 use Rattle.thp_page.specs.Table.{Slot}
 use Rattle.thp_node.specs.Calls.{Did}
@@ -27,4 +28,8 @@ return_page-requires-clause-flies c =
 pub returns : goal.returns
 returns c =
     let w = first_leaves c.args.self.now _ c.args.caller c.args.block c.number-page.result c.self.view_is c.self.invariant c.requires.front c.number-page.ensures in
-    record { did = subst (Did c.args.self.now c.return_page.new.self c.args.caller) (sym w.alone) c.return_page.ensures.did }
+    let n : NodeState = c.args.self.now in
+    record {
+      back = record { page = c.number-page.result; alone = w.alone; goes = c.return_page.ensures.back };
+      did = subst (Did n c.return_page.new.self c.args.caller) (ap (map (return_event n.shape n.journal c.args.caller)) (sym w.alone)) c.return_page.ensures.did;
+    }

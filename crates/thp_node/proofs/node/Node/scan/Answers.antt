@@ -14,7 +14,7 @@ use Rattle.thp_node.proofs.node.Node.scan.Goals as goal
 pub returns-in_err-count-clause-refused : goal.returns-in_err-count-clause-refused
 returns-in_err-count-clause-refused c =
     let a : NodeState = c.args.self.now in
-    let P : Option Refusal → Type 0 = λ why. IfErr c.from_residual.result (Refused a c.admit_take.new.self why (3 * length (take_events a.journal c.args.caller c.args.n))) in
+    let P : Option Refusal → Type 0 = λ why. IfErr c.from_residual.result (Refused a c.admit_take.new.self why (3 * length (take_events a.shape a.journal c.args.caller c.args.n))) in
     subst P (sym (scan_as_take a.shape a.journal c.args.caller)) (search rules)
 
 pub returns-clause-allowed : goal.returns-clause-allowed

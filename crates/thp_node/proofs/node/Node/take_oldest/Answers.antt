@@ -24,13 +24,14 @@ take_one-page-requires-clause-few c = omega (arith, c.loop-taken.invariant.flyin
 
 pub take_one-page-requires-clause-queued : goal.take_one-page-requires-clause-queued
 take_one-page-requires-clause-queued c =
-    subst (λ (ps : List ℕ). 0 < length ps) (sym c.loop-taken.invariant.took.left)
-    (some_left c.loop-taken._taken c.args.count (queue c.args.self.now.journal) (omega arith) c.requires.queued)
+    subst (λ s. 0 < length (queue s c.loop-taken.self.journal)) (sym c.loop-taken.invariant.took.did.shape)
+    (subst (λ (ps : List ℕ). 0 < length ps) (sym c.loop-taken.invariant.took.left)
+    (some_left c.loop-taken._taken c.args.count (queue c.args.self.now.shape c.args.self.now.journal) (omega arith) c.requires.queued))
 
 pub loop-taken-preserved : goal.loop-taken-preserved
 loop-taken-preserved c =
     let first = c.take_one-page.ensures.oldest in
-    let more = (more_taken c.loop-taken._taken (queue c.args.self.now.journal) c.take_one-page.result (ap (λ qs. slice_get qs 0) (sym c.loop-taken.invariant.took.left) ∙ first)).0 in
+    let more = (more_taken c.loop-taken._taken (queue c.args.self.now.shape c.args.self.now.journal) c.take_one-page.result (ap (λ qs. slice_get qs 0) (sym c.loop-taken.invariant.took.left) ∙ ap (λ s. slice_get (queue s c.loop-taken.self.journal) 0) (sym c.loop-taken.invariant.took.did.shape) ∙ first)).0 in
     record {
       took = took_more c.args.self.now c.loop-taken.self c.take_one-page.new.self c.args.caller c.loop-taken._taken c.take_one-page.result c.loop-taken.invariant.took first c.take_one-page.ensures.did;
       batch =

@@ -45,7 +45,7 @@ returns c = λ x e.
     let at : slot_at t b ≡ Some x = ap (λ (n : PlacesState). slot_at n.table b) c.self.view_is ∙ e in
     let page : c.in-Some.page.now ≡ x.page =
     page_there c.set_standing.new.self b (record x { standing = Nowhere }) c.in-Some.page.now (stood_slot t c.set_standing.new.self b x Nowhere at c.set_standing.ensures) c.in-Some.ensures.value in
-    let P : PageState → Type 0 = λ p. PageSplit p c.split.new.self in (
+    let P : PageState → Type 0 = λ p. PageSplit c.args.give_zero p c.split.new.self in (
       c.split.new.self,
       subst P page c.split.ensures.counts,
       c.split.ensures.released ∙ ap (λ (p : PageState). gives_frames p c.split.new.self) page,
