@@ -1,4 +1,6 @@
 //! Events and short histories of them, and whether their check answers as it should.
+ghost use Rattle.std.specs.Prelude.{◌≡◌, ◌≤◌};
+
 use std::alloc::Global;
 use std::process::Abort;
 use thp_check::{CheckFault, check};
@@ -34,6 +36,26 @@ pub(crate) fn close() -> Event {
 
 pub(crate) fn pin(page: PageId) -> Event {
     by(0, What::Pin { page })
+}
+
+pub(crate) fn split_pmd(page: PageId) -> Event {
+    by(0, What::SplitPmd { page })
+}
+
+pub(crate) fn pinned(page: PageId) -> Event {
+    by(0, What::Pinned { page })
+}
+
+pub(crate) fn used(page: PageId) -> Event {
+    by(0, What::Used { page })
+}
+
+pub(crate) fn write(page: PageId, first: u32, count: u32) -> Event {
+    by(0, What::Write { page, first, count })
+}
+
+pub(crate) fn zero(page: PageId, first: u32, count: u32) -> Event {
+    by(0, What::Zero { page, first, count })
 }
 
 pub(crate) fn split(page: PageId, released: SubSet) -> Event {
@@ -94,7 +116,7 @@ pub(crate) fn queued_then(
         let page = PageId(u64::from(block));
         for event in [
             alloc_in(page, block),
-            by(0, What::SplitPmd { page }),
+            split_pmd(page),
             unmap(page, 0, 1, Outcome::Queued, SubSet::empty()),
         ] {
             events.push(event).expect(rt, "memory");
@@ -107,23 +129,55 @@ pub(crate) fn queued_then(
 }
 
 // A node of 16 blocks, whose pages have 512 subpages.
-pub(crate) fn check_large(alloc: Global, events: &[Event]) -> Result<(), CheckFault> {
-    check(
-        alloc,
-        Shape {
-            blocks: 16,
-            order: 9,
-        },
-        events,
-    )
+pub(crate) fn large() -> Shape
+    ensures { result.order ≡ 9 }
+{
+    Shape {
+        blocks: 16,
+        order: 9,
+        underused: None,
+    }
 }
 
+// The history is legal on a node of this shape.
+pub(crate) fn expect_legal(rt: &impl Abort, alloc: Global, shape: Shape, events: &[Event])
+    requires least { 2 ≤ shape.order }
+    requires most { shape.order ≤ 9 }
+{
+    assert_eq!(rt; check(alloc, shape, events), Ok(()));
+}
+
+// The last of the events doesn't fit on a node of this shape, and all before it do.
+pub(crate) fn expect_misfit(
+    rt: &impl Abort,
+    alloc: Global,
+    shape: Shape,
+    name: &str,
+    events: &[Event],
+)
+    requires least { 2 ≤ shape.order }
+    requires most { shape.order ≤ 9 }
+{
+    let last = events.len().saturating_sub(1);
+    assert_eq!(rt;
+        check(alloc, shape, events),
+        Err(CheckFault::Illegal { place: last }),
+        "{name}"
+    );
+    assert_eq!(rt;
+        check(alloc, shape, &events[..last]),
+        Ok(()),
+        "before {name}"
+    );
+}
+
+// So many queued pages and then these events are legal on a large node.
 pub(crate) fn legal(rt: &impl Abort, alloc: Global, queued: u32, then: &[Event]) {
     let events = queued_then(rt, alloc, queued, then);
-    assert_eq!(rt; check_large(alloc, &events), Ok(()));
+    expect_legal(rt, alloc, large(), &events);
 }
 
-// The last of the events doesn't fit, and all before it do.
+// Behind so many queued pages the last of these events doesn't fit on a large node.
 pub(crate) fn last_misfits(
     rt: &impl Abort,
     alloc: Global,
@@ -132,15 +186,5 @@ pub(crate) fn last_misfits(
     then: &[Event],
 ) {
     let events = queued_then(rt, alloc, queued, then);
-    let last = events.len().saturating_sub(1);
-    assert_eq!(rt;
-        check_large(alloc, &events),
-        Err(CheckFault::Illegal { place: last }),
-        "{name}"
-    );
-    assert_eq!(rt;
-        check_large(alloc, &events[..last]),
-        Ok(()),
-        "before {name}"
-    );
+    expect_misfit(rt, alloc, large(), name, &events);
 }

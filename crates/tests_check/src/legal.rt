@@ -1,7 +1,7 @@
 //! Worked histories that are legal, one of them with every kind of event.
 use crate::histories::{
-    ONE, ZERO, alloc_in, back, by, check_large, dropped, legal, pin, split, taken, unmap,
-    unmap_whole, unpin,
+    ONE, ZERO, alloc_in, back, by, dropped, expect_legal, large, legal, pin, pinned, split,
+    split_pmd, taken, unmap, unmap_whole, unpin,
 };
 use thp_check::{CheckFault, check};
 use thp_model::{Outcome, PageId, Shape, SubSet, What};
@@ -13,7 +13,7 @@ fn rows_are_legal(rt: HostRuntime) {
     let half = SubSet::range(0, 256);
     let first_run = [
         alloc_in(ZERO, 0),
-        by(0, What::SplitPmd { page: ZERO }),
+        split_pmd(ZERO),
         unmap(ZERO, 0, 256, Outcome::Queued, SubSet::empty()),
         taken(ZERO),
         split(ZERO, half),
@@ -33,7 +33,7 @@ fn rows_are_legal(rt: HostRuntime) {
         taken(ONE),
         taken(PageId(2)),
         split(ZERO, first),
-        by(0, What::Pinned { page: ONE }),
+        pinned(ONE),
         split(PageId(2), first),
         back(ONE),
         unpin(ONE, Outcome::Stays, SubSet::empty()),
@@ -87,17 +87,18 @@ fn small_page_split_is_legal(rt: HostRuntime) {
     let shape = Shape {
         blocks: 16,
         order: 2,
+        underused: None,
     };
     let events = [
         alloc_in(ZERO, 3),
-        by(0, What::SplitPmd { page: ZERO }),
+        split_pmd(ZERO),
         unmap(ZERO, 0, 3, Outcome::Queued, SubSet::empty()),
         taken(ZERO),
         split(ZERO, SubSet::range(0, 3)),
         unmap(ZERO, 3, 1, Outcome::Freed, SubSet::range(3, 1)),
         alloc_in(ONE, 3),
     ];
-    assert_eq!(rt; check(rt.alloc(), shape, &events), Ok(()));
+    expect_legal(&rt, rt.alloc(), shape, &events);
 }
 
 // Want of memory is told as such: for the table of pages, for the lists of flights, and for a flight that grows.
@@ -105,11 +106,11 @@ fn small_page_split_is_legal(rt: HostRuntime) {
 fn each_growth_refused(rt: HostRuntime) {
     let events = [
         alloc_in(ZERO, 0),
-        by(0, What::SplitPmd { page: ZERO }),
+        split_pmd(ZERO),
         unmap(ZERO, 0, 1, Outcome::Queued, SubSet::empty()),
         taken(ZERO),
     ];
-    match check_large(rt.alloc(), &events) {
+    match check(rt.alloc(), large(), &events) {
         Ok(()) => {}
         Err(fault) => assert_eq!(rt; fault, CheckFault::OutOfMemory),
     }

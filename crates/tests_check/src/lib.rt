@@ -8,3 +8,5 @@ mod histories;
 mod legal;
 #[cfg(test)]
 mod misfits;
+#[cfg(test)]
+mod underused;

@@ -1,7 +1,7 @@
 //! For each kind of event histories whose last event doesn't fit.
 use crate::histories::{
-    ONE, ZERO, alloc_in, back, by, close, dropped, last_misfits, pin, split, taken, unmap,
-    unmap_whole, unpin,
+    ONE, ZERO, alloc_in, back, by, close, dropped, last_misfits, pin, pinned, split, split_pmd,
+    taken, unmap, unmap_whole, unpin,
 };
 use thp_model::{Outcome, PageId, SubSet, What};
 
@@ -20,7 +20,7 @@ fn misfits_of_pages(rt: HostRuntime) {
         ("a number too high", alloc_in(PageId(2), 1)),
         ("no such page", by(0, What::MapWhole { page: ONE })),
         ("a range past the end", by(0, past_the_end)),
-        ("no PMD mapping", by(0, What::SplitPmd { page: ZERO })),
+        ("no PMD mapping", split_pmd(ZERO)),
         ("no such page to pin", by(0, What::Pin { page: ONE })),
         ("no whole mapping", unmap_whole(ZERO, Outcome::Stays, none)),
         ("no mapping", unmap(ZERO, 0, 2, Outcome::Stays, none)),
@@ -65,16 +65,8 @@ fn misfits_after_other_events(rt: HostRuntime) {
             taken(ZERO),
             split(ZERO, SubSet::range(0, 2)),
         ),
-        (
-            "a page without pins",
-            taken(ZERO),
-            by(0, What::Pinned { page: ZERO }),
-        ),
-        (
-            "a pinned page in the queue",
-            pin(ZERO),
-            by(0, What::Pinned { page: ZERO }),
-        ),
+        ("a page without pins", taken(ZERO), pinned(ZERO)),
+        ("a pinned page in the queue", pin(ZERO), pinned(ZERO)),
         (
             "another's page",
             by(1, What::Taken { page: ZERO }),
