@@ -8,10 +8,10 @@ use Rattle.thp_model.specs.declared.events.Event.{Event}
 use Rattle.thp_model.specs.declared.events.Outcome.{Outcome}
 use Rattle.thp_model.specs.declared.events.Outcome.TheVariants.{Freed, Queued, Stays}
 use Rattle.thp_model.specs.declared.events.What.{What}
-use Rattle.thp_model.specs.declared.events.What.TheVariants.{UnmapWhole, UnmapSub, Unpin, Taken, Split, Back, Dropped}
+use Rattle.thp_model.specs.declared.events.What.TheVariants.{UnmapWhole, UnmapSub, Unpin, Taken, Split, Used, Back, Dropped}
 use Rattle.thp_model.specs.declared.shape.Shape.{Shape}
 use Rattle.thp_model.specs.Shapes.{IsShape, subpages}
-use Rattle.thp_model.specs.History.{History, by, count_of}
+use Rattle.thp_model.specs.History.{History, by}
 use Rattle.thp_model.specs.Counts.{is_alloc, allocations}
 use Rattle.thp_model.specs.Frames.{frames_given, frames_held}
 use Rattle.thp_model.specs.FlightSteps.{flight_after, flight_by}
@@ -23,13 +23,9 @@ use Rattle.thp_model.proofs.Kept.{frames_kept}
 use Rattle.thp_model.proofs.OnePlace.{times_flight, has_times, once_flies}
 use Rattle.thp_model.proofs.Sizes.{few_subpages}
 use Rattle.thp_model.proofs.Standing.{times, flying, pages, times-cons, flying-cons, first_has, legal_sound}
-use Rattle.thp_node.specs.Homes.{flier}
+use Rattle.thp_places.specs.Homes.{flier}
+use Rattle.thp_places.proofs.Starting.{few_events}
 use Rattle.thp_node.specs.Journals.{leaves_of, left_by, joins_of, one_for}
-
--- no more events pass a test than there are
-pub few_events : (test : What → Bool) (h : History) → count_of test h ≤ length h
-unfolding count_of
-few_events test h = count_by-le-length (λ (e : Event). test e.what) h
 
 -- each page had 512 frames at most to give back
 pub few_frames_given : (shape : Shape) (h : History) → shape.order ≤ 9 → IsLegal shape h → frames_given h ≤ 512 * length h
@@ -59,11 +55,12 @@ leaves_step : (fs : List (ℕ × ℕ)) (c p : ℕ) → length (leaves c p fs) �
 leaves_step fs c p = omega (arith, length-kept (λ (f : ℕ × ℕ). not (nat_eq f.0 c && nat_eq f.1 p)) fs)
 
 flights_step : (fs : List (ℕ × ℕ)) (c : ℕ) (w : What) → length (flights_after fs c w) ≤ length fs + 1
-flights_step fs c (UnmapWhole p o r) = outcome_step fs p o
-flights_step fs c (UnmapSub p a n o r) = outcome_step fs p o
-flights_step fs c (Unpin p o r) = outcome_step fs p o
+flights_step fs c (UnmapWhole o p r) = outcome_step fs p o
+flights_step fs c (UnmapSub o p a n r) = outcome_step fs p o
+flights_step fs c (Unpin o p r) = outcome_step fs p o
 flights_step fs c (Taken p) = omega (arith, length_push fs (c, p))
 flights_step fs c (Split p r) = leaves_step fs c p
+flights_step fs c (Used p) = leaves_step fs c p
 flights_step fs c (Back p) = leaves_step fs c p
 flights_step fs c (Dropped p) = leaves_step fs c p
 flights_step fs c w = omega arith
@@ -132,14 +129,15 @@ by_outcome shape h c d p Stays l = refl
 
 moves : (shape : Shape) (h k : History) (c d : ℕ) (w : What) → IsLegal shape h → FitsBy shape h k c w →
     length (flight_after d (flight h d) c w) + one_for (leaves_of h c w) d ≡ length (flight h d) + one_for (joins_of c w) d
-moves shape h k c d (UnmapWhole p o r) l f = by_outcome shape h c d p o l
-moves shape h k c d (UnmapSub p a n o r) l f = by_outcome shape h c d p o l
-moves shape h k c d (Unpin p o r) l f = by_outcome shape h c d p o l
+moves shape h k c d (UnmapWhole o p r) l f = by_outcome shape h c d p o l
+moves shape h k c d (UnmapSub o p a n r) l f = by_outcome shape h c d p o l
+moves shape h k c d (Unpin o p r) l f = by_outcome shape h c d p o l
 moves shape h k c d (Taken p) l f = go (nat_eq c d) where
   go : (b : Bool) → length (cond b (flight h d ++ p ∷ []) (flight h d)) + 0 ≡ length (flight h d) + cond b 1 0
   go true = omega (arith, length_push (flight h d) p)
   go false = refl
 moves shape h k c d (Split p r) l f = leaving h c d p (one_flying shape h c p l f.in_flight)
+moves shape h k c d (Used p) l f = leaving h c d p (one_flying shape h c p l f.0)
 moves shape h k c d (Back p) l f = leaving h c d p (one_flying shape h c p l (first_has p (flight h c) f.0))
 moves shape h k c d (Dropped p) l f = leaving h c d p (one_flying shape h c p l (first_has p (flight h c) f.0))
 moves shape h k c d w l f = refl
@@ -149,6 +147,11 @@ pub flight_moves : (shape : Shape) (h : History) (c d : ℕ) (w : What) → IsLe
     length (flight (h ++ by c w ∷ []) d) + one_for (leaves_of h c w) d ≡ length (flight h d) + one_for (joins_of c w) d
 flight_moves shape h c d w l f =
     ap (λ ps. length ps + one_for (leaves_of h c w) d) (flight_push h d c w) ∙ moves shape h (h ++ by c w ∷ []) c d w l f
+
+-- a page that is taken joins the taker's flight
+pub flight_grows : (h : History) (c p : ℕ) → length (flight (h ++ by c (Taken p) ∷ []) c) ≡ length (flight h c) + 1
+flight_grows h c p =
+    ap length (flight_push h c c (Taken p)) ∙ (ap (λ b. length (cond b (flight h c ++ p ∷ []) (flight h c))) (eq-eqb c c refl) ∙ length_push (flight h c) p)
 
 apart : (h : History) (c d : ℕ) (w : What) → Some d ≡ leaves_of h c w → joins_of c w ≡ None
 apart h c d (Taken p) e = absurd (cc)

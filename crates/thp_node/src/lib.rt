@@ -19,8 +19,8 @@ mod batch;
 mod blocks;
 mod journal;
 mod node;
-mod page_call;
 
-pub use answers::{BackReply, Counters, Done, NewFault, ScanReply, Tried};
+pub use answers::{BackReply, Counters, NewFault, ScanReply, Tried};
 pub use batch::Batch;
 pub use node::Node;
+pub use thp_places::Done;

@@ -192,6 +192,17 @@ impl Places {
         }
     }
 
+    /// The number of the page of a block.
+    pub fn number(&self, block: u32) -> PageId
+        requires { IsSome (slot_at self.now.table block) }
+        ensures { AtSlot self.now.table block (λ x. result ≡ x.id) }
+    {
+        match self.table.page(block) {
+            Some((id, _)) => id,
+            None => unreachable!(),
+        }
+    }
+
     /// The pins of the page of a block.
     pub fn pins(&self, block: u32) -> u32
         requires { IsSome (slot_at self.now.table block) }
@@ -294,27 +305,6 @@ impl Places {
         chain.pop(&mut self.table)
     }
 
-    // Puts a new page into a free block, and nowhere else.
-    fn put(&mut self, block: u32, page: PageId)
-        requires inside { block < length self.old.table.slots }
-        requires free { slot_at self.old.table block ≡ None }
-        requires new { (b : ℕ) → HoldsPage (slot_at self.old.table b) page → ⊥ }
-        ensures { Placed page false self.old self.new block }
-    {
-        self.table.place(block, page);
-    }
-
-    // The number of the page of a block.
-    fn number(&self, block: u32) -> PageId
-        requires { IsSome (slot_at self.now.table block) }
-        ensures { AtSlot self.now.table block (λ x. result ≡ x.id) }
-    {
-        match self.table.page(block) {
-            Some((id, _)) => id,
-            None => unreachable!(),
-        }
-    }
-
     // Takes mappings or a pin from the page of a block, which isn't refused, and answers what becomes of it.
     fn reduce(&mut self, block: u32, loss: Loss, closed: bool) -> Done
         requires occupied { IsSome (slot_at self.old.table block) }
@@ -326,6 +316,16 @@ impl Places {
             Some(page) => loss.apply(page, standing, closed),
             None => unreachable!(),
         }
+    }
+
+    // Puts a new page into a free block, and nowhere else.
+    fn put(&mut self, block: u32, page: PageId)
+        requires inside { block < length self.old.table.slots }
+        requires free { slot_at self.old.table block ≡ None }
+        requires new { (b : ℕ) → HoldsPage (slot_at self.old.table b) page → ⊥ }
+        ensures { Placed page false self.old self.new block }
+    {
+        self.table.place(block, page);
     }
 
     // Takes the page of a block out of the table, and out of the queue where it stands there.
