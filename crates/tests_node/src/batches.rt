@@ -13,7 +13,13 @@ pub(crate) fn scanned(taken: u32, split: u32, pinned: u32, back: u32, dropped: u
         pinned,
         back,
         dropped,
+        used: 0,
     }
+}
+
+// A scan that also found so many pages in use.
+pub(crate) fn with_used(reply: ScanReply, used: u32) -> ScanReply {
+    ScanReply { used, ..reply }
 }
 
 // A batch of up to `n` pages.

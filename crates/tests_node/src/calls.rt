@@ -4,8 +4,8 @@ ghost use Rattle.thp_node.specs.Batches.{FrontsStay};
 
 use std::alloc::Global;
 use std::process::Abort;
-use thp_model::{Event, Outcome, PageId, Refusal, Shape, SubSet};
-use thp_node::{Done, Node};
+use thp_model::{Event, Outcome, PageId, Refusal, Shape, SubSet, What};
+use thp_node::{Counters, Done, Node};
 
 // A call about a page or about the node.
 #[derive(Clone, Copy, Debug)]
@@ -19,6 +19,9 @@ pub(crate) enum Call {
     SplitPmd(PageId),
     Pin(PageId),
     Unpin(PageId),
+    // of `count` subpages from `first` on
+    Write(PageId, u32, u32),
+    Zero(PageId, u32, u32),
     Close,
 }
 
@@ -50,7 +53,12 @@ pub(crate) fn changed(outcome: Outcome, released: SubSet) -> Answer {
 
 // A node of order 9 with these blocks.
 pub(crate) fn node_of(rt: &impl Abort, alloc: Global, blocks: u32) -> Node {
-    node_of_shape(rt, alloc, Shape { blocks, order: 9 })
+    let shape = Shape {
+        blocks,
+        order: 9,
+        underused: None,
+    };
+    node_of_shape(rt, alloc, shape)
 }
 
 pub(crate) fn node_of_shape(rt: &impl Abort, alloc: Global, shape: Shape) -> Node {
@@ -85,6 +93,8 @@ pub(crate) fn answer_of(node: &mut Node, caller: u32, call: Call) -> Answer
         Call::SplitPmd(page) => done(node.split_pmd(caller, page)),
         Call::Pin(page) => done(node.pin(caller, page)),
         Call::Unpin(page) => outcome(node.unpin(caller, page)),
+        Call::Write(page, first, count) => done(node.write(caller, page, first, count)),
+        Call::Zero(page, first, count) => done(node.zero(caller, page, first, count)),
         Call::Close => done(node.close(caller)),
     }
 }
@@ -138,6 +148,19 @@ pub(crate) fn expect_frames(rt: &impl Abort, node: &Node, held: u128, given: u12
 // How many events the node's journal has.
 pub(crate) fn event_count(node: &Node) -> usize {
     node.journal().len()
+}
+
+// What caller 0 did since the journal had `from` events.
+pub(crate) fn expect_since(rt: &impl Abort, node: &Node, from: usize, whats: &[What]) {
+    let events = node.journal();
+    assert_eq!(rt; events.len(), from.saturating_add(whats.len()));
+    for (place, (event, &what)) in events.iter().skip(from).zip(whats).enumerate() {
+        assert_eq!(rt; *event, Event { caller: 0, what }, "event {place}");
+    }
+}
+
+pub(crate) fn expect_counters(rt: &impl Abort, node: &Node, counters: Counters) {
+    assert_eq!(rt; node.counters(), counters);
 }
 
 pub(crate) fn last_event(node: &Node) -> Option<Event> {

@@ -137,6 +137,7 @@ fn put_back_after_pins(rt: &impl Abort, alloc: Global, pins: usize) {
     let shape = Shape {
         blocks: 16,
         order: 9,
+        underused: None,
     };
     let mut node = node_at_last(rt, alloc, shape);
     queue_at_last(rt, &mut node, page);
@@ -175,6 +176,8 @@ fn calls_about_one_page(rt: &impl Abort, node: &mut Node, page: PageId) {
         (Call::MapSub(page, 0, 2), Answer::Done),
         (Call::UnmapWhole(page), stays()),
         (Call::Unpin(page), stays()),
+        (Call::Write(page, 1, 3), Answer::Done),
+        (Call::Zero(page, 2, 1), Answer::Done),
     ];
     expect_at_last(rt, node, 1, &steps);
 }
@@ -184,6 +187,7 @@ fn each_growth_refused(rt: HostRuntime) {
     let shape = Shape {
         blocks: 64,
         order: 2,
+        underused: None,
     };
     let mut node = node_at_last(&rt, rt.alloc(), shape);
     for number in 0..12 {
@@ -214,6 +218,7 @@ fn reserved_calls_want_no_memory(rt: HostRuntime) {
     let shape = Shape {
         blocks: 1,
         order: 9,
+        underused: None,
     };
     let mut node = node_at_last(&rt, rt.alloc(), shape);
     if node.reserve(3).is_err() {

@@ -16,3 +16,5 @@ mod growth;
 mod page_rows;
 #[cfg(test)]
 mod scan_rows;
+#[cfg(test)]
+mod underused_rows;

@@ -1,25 +1,11 @@
 //! Rows on scans, with the events that they record.
 use crate::batches::{expect_scan, scanned};
 use crate::calls::{
-    Answer, Call, expect, expect_frames, expect_queued, freed, node_of, node_with_queued,
-    queue_page, stays,
+    Answer, Call, expect, expect_counters, expect_frames, expect_queued, expect_since, freed,
+    node_of, node_with_queued, queue_page, stays,
 };
-use std::process::Abort;
-use thp_model::{Event, Outcome, PageId, Shape, SubSet, What};
+use thp_model::{Outcome, PageId, Shape, SubSet, What};
 use thp_node::{Counters, NewFault, Node};
-
-// What caller 0 did since the journal had `from` events.
-fn expect_since(rt: &impl Abort, node: &Node, from: usize, whats: &[What]) {
-    let events = node.journal();
-    assert_eq!(rt; events.len(), from.saturating_add(whats.len()));
-    for (place, (event, &what)) in events.iter().skip(from).zip(whats).enumerate() {
-        assert_eq!(rt; *event, Event { caller: 0, what }, "event {place}");
-    }
-}
-
-fn expect_counters(rt: &impl Abort, node: &Node, counters: Counters) {
-    assert_eq!(rt; node.counters(), counters);
-}
 
 fn taken(page: PageId) -> What {
     What::Taken { page }
@@ -54,6 +40,7 @@ fn two_of_three_oldest(rt: HostRuntime) {
         split_page: 2,
         split_page_failed: 0,
         deferred_split_page: 3,
+        underused_split_page: 0,
         split_pmd: 3,
     };
     expect_counters(&rt, &node, counters);
@@ -145,6 +132,7 @@ fn all_pinned_rotate(rt: HostRuntime) {
         split_page: 0,
         split_page_failed: 5,
         deferred_split_page: 3,
+        underused_split_page: 0,
         split_pmd: 3,
     };
     expect_counters(&rt, &node, counters);
@@ -161,6 +149,7 @@ fn split_of_a_mapped_page(rt: HostRuntime) {
         split_page: 1,
         split_page_failed: 0,
         deferred_split_page: 1,
+        underused_split_page: 0,
         split_pmd: 2,
     };
     expect_counters(&rt, &node, counters);
@@ -169,17 +158,27 @@ fn split_of_a_mapped_page(rt: HostRuntime) {
 #[test]
 fn limits_and_constructors(rt: HostRuntime) {
     let alloc = rt.alloc();
-    for (blocks, order) in [(0, 9), (4097, 9), (16, 1), (16, 10)] {
-        let is_bad = matches!(
-            Node::new(alloc, Shape { blocks, order }),
-            Err(NewFault::BadSize)
-        );
-        assert!(rt; is_bad, "{blocks} blocks of order {order}");
+    for (blocks, order, underused) in [
+        (0, 9, None),
+        (4097, 9, None),
+        (16, 1, None),
+        (16, 10, None),
+        (16, 2, Some(4)),
+        (16, 9, Some(512)),
+    ] {
+        let shape = Shape {
+            blocks,
+            order,
+            underused,
+        };
+        let is_bad = matches!(Node::new(alloc, shape), Err(NewFault::BadSize));
+        assert!(rt; is_bad, "{shape:?}");
     }
     let mut node = node_of(&rt, alloc, 4096);
     let shape = Shape {
         blocks: 4096,
         order: 9,
+        underused: None,
     };
     assert_eq!(rt; node.shape(), shape);
     assert_eq!(rt; node.reserve(5), Ok(()));
