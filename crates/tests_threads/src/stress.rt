@@ -268,7 +268,7 @@ fn cell_of(rt: &impl Abort, alloc: Global, blocks: u32, callers: u32) -> (NodeCe
     ensures callers { result.1.callers ≡ callers }
     ensures few { callers ≤ 64 }
 {
-    let node = Node::new(alloc, Shape { blocks, order: 9 }).expect(rt, "a node of this shape");
+    let node = Node::new(alloc, Shape { blocks, order: 9, underused: None }).expect(rt, "a node of this shape");
     NodeCell::new(alloc, node, callers).expect(rt, "a cell of these callers")
 }
 
