@@ -2,17 +2,18 @@
 //! journal, and the journal passes the check of a history.
 ghost use Rattle.std.specs.Prelude.{◌≡◌, ◌<◌, ◌≤◌, ◌+◌, IfSome};
 ghost use Rattle.thp_node.specs.Batches.{IsInFront};
-ghost use Rattle.thp_cell.specs.Views.{HasCaller, HasAll};
+ghost use Rattle.thp_cell.specs.Views.{HasCaller};
 ghost use Rattle.thp_cell.specs.Calls.{at_front, BatchesStay};
 
+use crate::cells::cell_of;
 use std::alloc::Global;
 use std::process::Abort;
 use std::thread;
 use std::thread::Threads;
 use thp_cell::{NodeCell, Pass};
 use thp_check::check;
-use thp_model::{Event, Outcome, PageId, Shape, What};
-use thp_node::{BackReply, Batch, Node, Tried};
+use thp_model::{Event, Outcome, PageId, What};
+use thp_node::{BackReply, Batch, Tried};
 
 // What a call was answered, as far as the answer tells it.
 #[derive(Clone, Copy, PartialEq, Eq, Debug)]
@@ -259,17 +260,6 @@ fn work_in_pairs<R: Threads + Sync>(
         move || work(alloc, cell, left, caller),
         move || work(alloc, cell, right, next),
     )
-}
-
-// A cell over a node of order 9 with these blocks, and the pass that has all its callers.
-fn cell_of(rt: &impl Abort, alloc: Global, blocks: u32, callers: u32) -> (NodeCell, Pass)
-    ensures cell { result.1.cell ≡ result.0 }
-    ensures all { HasAll result.1 }
-    ensures callers { result.1.callers ≡ callers }
-    ensures few { callers ≤ 64 }
-{
-    let node = Node::new(alloc, Shape { blocks, order: 9, underused: None }).expect(rt, "a node of this shape");
-    NodeCell::new(alloc, node, callers).expect(rt, "a cell of these callers")
 }
 
 #[test]

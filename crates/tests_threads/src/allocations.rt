@@ -3,11 +3,11 @@ ghost use Rattle.std.specs.Prelude.{◌≡◌};
 ghost use Rattle.thp_cell.specs.Views.{HasCaller};
 ghost use Rattle.thp_cell.specs.Calls.{at_front};
 
-use crate::steps::{cell_of, is_allocation};
+use crate::cells::cell_of;
 use std::process::Abort;
 use std::thread;
 use thp_cell::{NodeCell, Pass};
-use thp_model::{Event, PageId};
+use thp_model::{Event, PageId, What};
 
 // Allocates until 20 pages were answered, or gives up after 50,000,000 calls.
 fn allocate_20(cell: &NodeCell, pass: Pass, caller: u32) -> (Pass, u32)
@@ -26,6 +26,17 @@ fn allocate_20(cell: &NodeCell, pass: Pass, caller: u32) -> (Pass, u32)
         }
     }
     (pass, pages)
+}
+
+// The event is the allocation of this page by this caller.
+fn is_allocation(event: &Event, caller: u32, page: PageId) -> bool {
+    match event.what {
+        What::Alloc {
+            page: allocated,
+            block: _,
+        } => event.caller == caller && allocated == page,
+        _ => false,
+    }
 }
 
 // The events are 40 allocations, in the order of the pages' numbers, and 20 of them by caller 1.

@@ -1,7 +1,7 @@
 use Rattle.std.proofs.Common.{◌≡◌}
 use Rattle.thp_node.specs.Batches.{IsInFront}
 use Rattle.thp_cell.specs.Calls.{at_front}
-use Rattle.tests_cell.proofs.memory.each_growth_refused.Given as goal
+use Rattle.tests_growth.proofs.cell.each_growth_refused.Given as goal
 
 abbrev pub invariant-loop-number : goal.invariant-loop-number
 invariant-loop-number g l = l.pass ≡ at_front l.initial.pass l.pass.front
