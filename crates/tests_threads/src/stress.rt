@@ -1,8 +1,9 @@
 //! Four threads with mixed calls on a shared node. Each keeps a log of what it was answered, which is to be its part of the
 //! journal, and the journal passes the check of a history.
 ghost use Rattle.std.specs.Prelude.{◌≡◌, ◌<◌, ◌≤◌, ◌+◌, IfSome};
+ghost use Rattle.std.specs.Thread.{IsSync};
 ghost use Rattle.thp_node.specs.Batches.{IsInFront};
-ghost use Rattle.thp_cell.specs.Views.{HasCaller};
+ghost use Rattle.thp_cell.specs.Views.{HasCaller, HasAll};
 ghost use Rattle.thp_cell.specs.Calls.{at_front, BatchesStay};
 
 use crate::cells::cell_of;
@@ -14,6 +15,9 @@ use thp_cell::{NodeCell, Pass};
 use thp_check::check;
 use thp_model::{Event, Outcome, PageId, What};
 use thp_node::{BackReply, Batch, Tried};
+
+// The pass of a thread that is done, and what its calls were answered.
+type Logged = (Pass, Vec<Answer>);
 
 // What a call was answered, as far as the answer tells it.
 #[derive(Clone, Copy, PartialEq, Eq, Debug)]
@@ -221,7 +225,7 @@ fn put_back(cell: &NodeCell, pass: &mut Pass, batch: Batch, log: &mut Vec<Answer
 }
 
 // The turns of one thread, and the log of its answers. A batch that it has at the end is abandoned.
-fn work(alloc: Global, cell: &NodeCell, pass: Pass, caller: u32) -> (Pass, Vec<Answer>)
+fn work(alloc: Global, cell: &NodeCell, pass: Pass, caller: u32) -> Logged
     requires cell { pass.cell ≡ cell.now }
     requires caller { HasCaller pass caller }
     ensures same { result.0 ≡ at_front pass result.0.front }
@@ -245,7 +249,7 @@ fn work_in_pairs<R: Threads + Sync>(
     left: Pass,
     right: Pass,
     caller: u32,
-) -> ((Pass, Vec<Answer>), (Pass, Vec<Answer>))
+) -> (Logged, Logged)
     requires few { caller < 63 }
     requires left_cell { left.cell ≡ cell.now }
     requires right_cell { right.cell ≡ cell.now }
@@ -262,19 +266,68 @@ fn work_in_pairs<R: Threads + Sync>(
     )
 }
 
+// The passes of one caller each, of the pass that has all four.
+fn split_in_four(cell: &NodeCell, pass: Pass) -> ((Pass, Pass), (Pass, Pass))
+    requires cell { pass.cell ≡ cell.now }
+    requires all { HasAll pass }
+    requires four { pass.callers ≡ 4 }
+    ensures first { result.0.0 ≡ record pass { first = 0; end = 1 } }
+    ensures second { result.0.1 ≡ record pass { first = 1; end = 2 } }
+    ensures third { result.1.0 ≡ record pass { first = 2; end = 3 } }
+    ensures fourth { result.1.1 ≡ record pass { first = 3; end = 4 } }
+{
+    let (low, high) = cell.split(pass, 2);
+    (cell.split(low, 1), cell.split(high, 3))
+}
+
+// Four threads, with the callers 0 to 3.
+fn work_in_fours<R: Threads + Sync>(
+    rt: &R,
+    alloc: Global,
+    cell: &NodeCell,
+    a: Pass,
+    b: Pass,
+    c: Pass,
+    d: Pass,
+) -> ((Logged, Logged), (Logged, Logged))
+    requires first_cell { a.cell ≡ cell.now }
+    requires second_cell { b.cell ≡ cell.now }
+    requires third_cell { c.cell ≡ cell.now }
+    requires fourth_cell { d.cell ≡ cell.now }
+    requires first { HasCaller a 0 }
+    requires second { HasCaller b 1 }
+    requires third { HasCaller c 2 }
+    requires fourth { HasCaller d 3 }
+    ensures first { result.0.0.0 ≡ at_front a result.0.0.0.front }
+    ensures second { result.0.1.0 ≡ at_front b result.0.1.0.front }
+    ensures third { result.1.0.0 ≡ at_front c result.1.0.0.front }
+    ensures fourth { result.1.1.0 ≡ at_front d result.1.1.0.front }
+{
+    thread::join(
+        rt,
+        move || -> (Logged, Logged)
+            requires { IsSync R.row × (a.cell ≡ cell.now) × (b.cell ≡ cell.now) × HasCaller a 0 × HasCaller b 1 }
+            ensures { (result.0.0 ≡ at_front a result.0.0.front) × (result.1.0 ≡ at_front b result.1.0.front) }
+        { work_in_pairs(rt, alloc, cell, a, b, 0) },
+        move || -> (Logged, Logged)
+            requires { IsSync R.row × (c.cell ≡ cell.now) × (d.cell ≡ cell.now) × HasCaller c 2 × HasCaller d 3 }
+            ensures { (result.0.0 ≡ at_front c result.0.0.front) × (result.1.0 ≡ at_front d result.1.0.front) }
+        { work_in_pairs(rt, alloc, cell, c, d, 2) },
+    )
+}
+
 #[test]
 fn four_threads_mix_calls(rt: HostRuntime) {
     let (cell, pass) = cell_of(&rt, rt.alloc(), 64, 4);
-    let (low, high) = cell.split(pass, 2);
-    let (a, b) = cell.split(low, 1);
-    let (c, d) = cell.split(high, 3);
-    let shared = &cell;
-    let runtime = &rt;
-    let alloc = rt.alloc();
-    let (((a, of_a), (b, of_b)), ((c, of_c), (d, of_d))) = thread::join(
-        runtime,
-        move || work_in_pairs(runtime, alloc, shared, a, b, 0),
-        move || work_in_pairs(runtime, alloc, shared, c, d, 2),
+    let ((a, b), (c, d)) = split_in_four(&cell, pass);
+    let (((a, of_a), (b, of_b)), ((c, of_c), (d, of_d))) = work_in_fours(
+        &rt,
+        rt.alloc(),
+        &cell,
+        a,
+        b,
+        c,
+        d,
     );
     let low = cell.join(a, b);
     let high = cell.join(c, d);
