@@ -1,0 +1,63 @@
+-- Passes with their open batches, divided and joined.
+use Rattle.std.proofs.Common.{◌≡◌, ◌∙◌, ◌⊎◌, ◌++◌, ◌+◌, ◌≤◌, ap, ℕ, zero, suc, List, [], ◌∷◌, length, take, drop, refl, sym, inl, inr, arith, length-append, length-drop, Option, Some}
+use Rattle.std.specs.Prelude.{slice_get}
+use Rattle.std.proofs.lemmas.List.{length-take}
+use Rattle.std.proofs.lemmas.Option.{slice_get_within}
+use Rattle.atomic_table.specs.Seated.{TableId}
+use Rattle.thp_node.specs.Batches.{BatchState}
+use Rattle.thp_cell.specs.Calls.{BatchesStay, below, from, IsJoined}
+use Rattle.thp_cell.specs.Views.{PassState, HasCaller}
+use Rattle.thp_work.specs.Holdings.{IsHeld}
+
+module _ {A : Type 0} where
+  slice_get-take : (xs : List A) (k i : ℕ) (x : A) → slice_get (take k xs) i ≡ Some x → slice_get xs i ≡ Some x
+  slice_get-take [] zero i x e = e
+  slice_get-take [] (suc k) i x e = e
+  slice_get-take (y ∷ xs) zero i x e = absurd (cc)
+  slice_get-take (y ∷ xs) (suc k) zero x e = e
+  slice_get-take (y ∷ xs) (suc k) (suc i) x e = slice_get-take xs k i x e
+
+  slice_get-drop : (xs : List A) (k i : ℕ) → slice_get (drop k xs) i ≡ slice_get xs (k + i)
+  slice_get-drop xs zero i = let e : 0 + i ≡ i = omega arith in rw e refl
+  slice_get-drop [] (suc k) i = refl
+  slice_get-drop (y ∷ xs) (suc k) i = let e : suc k + i ≡ suc (k + i) = omega arith in rw e (slice_get-drop xs k i)
+
+  slice_get-append : (xs ys : List A) (i : ℕ) (x : A) → slice_get (xs ++ ys) i ≡ Some x → (slice_get xs i ≡ Some x) ⊎ ((j : ℕ) × (i ≡ length xs + j) × (slice_get ys j ≡ Some x))
+  slice_get-append [] ys i x e = inr (i, omega arith, e)
+  slice_get-append (y ∷ xs) ys zero x e = inl e
+  slice_get-append (y ∷ xs) ys (suc i) x e = elim (slice_get-append xs ys i x e) [ inl l ↦ inl l | inr r ↦ inr (r.0, omega (arith, r.1), r.2) ]
+
+pub held_below : (cell : TableId) (p : PassState) (bs : List (Option BatchState)) (at k : ℕ) → IsHeld cell p bs → k + p.first ≡ at → at ≤ p.end → IsHeld cell (below p at) (take k bs)
+held_below cell p bs at k held is le = record {
+  cell_is = held.cell_is;
+  callers = omega (arith, length-take k bs, held.callers, is, le);
+  each = λ i b e. held.each i b (slice_get-take bs k i (Some b) e);
+}
+
+pub held_from : (cell : TableId) (p : PassState) (bs : List (Option BatchState)) (at k : ℕ) → IsHeld cell p bs → k + p.first ≡ at → at ≤ p.end → IsHeld cell (from p at) (drop k bs)
+held_from cell p bs at k held is le = record {
+  cell_is = held.cell_is;
+  callers = omega (arith, length-drop k bs, held.callers, is, le);
+  each = λ i b e. let was = held.each (k + i) b (sym (slice_get-drop bs k i) ∙ e) in (omega (arith, was.0, is), was.1);
+}
+
+pub held_joined : (cell : TableId) (p q r : PassState) (bs cs all : List (Option BatchState)) → IsHeld cell p bs → IsHeld q.cell q cs → IsJoined p q r → BatchesStay p r → BatchesStay q r → p.end ≡ q.first → all ≡ bs ++ cs → IsHeld cell r all
+held_joined cell p q r bs cs all left right j left-stay right-stay adjacent is =
+    let first : r.first ≡ p.first = ap (λ (x : PassState). x.first) j.callers in
+    let end : r.end ≡ q.end = ap (λ (x : PassState). x.end) j.callers in
+    rw is (record {
+      cell_is = ap (λ (x : PassState). x.cell) j.callers ∙ left.cell_is;
+      callers = omega (arith, first, end, length-append bs cs, left.callers, right.callers, adjacent);
+      each = λ i b e. elim (slice_get-append bs cs i (Some b) e) [
+        | inl l ↦
+            let was = left.each i b l in
+            let within = slice_get_within bs i (Some b) l in
+            let has : HasCaller p b.caller = record { from = omega (arith, was.0); below = omega (arith, was.0, left.callers, within) } in
+            (omega (arith, was.0, first), left-stay b has was.1)
+        | inr x ↦
+            let was = right.each x.0 b x.2 in
+            let within = slice_get_within cs x.0 (Some b) x.2 in
+            let has : HasCaller q b.caller = record { from = omega (arith, was.0); below = omega (arith, was.0, right.callers, within) } in
+            (omega (arith, was.0, first, x.1, left.callers, adjacent), right-stay b has was.1)
+      ];
+    })
