@@ -10,7 +10,7 @@ use Rattle.thp_work.specs.Fronts.{Fronts, HasCaller, Goes, Answered}
 use Rattle.thp_work.specs.Turns.{IsReady, next_step, goes_on}
 use Rattle.thp_work.specs.Sections.{Made, Proceeds, told_by}
 use Rattle.thp_work.proofs.TurnLaws.{turned, fares}
-use Rattle.thp_work.proofs.StepLaws.{made_by, steps_none, steps_one, steps_then, moves_goes}
+use Rattle.thp_work.proofs.StepLaws.{made_by, steps_none, steps_one, steps_then, moves_goes, goes_grows}
 
 -- no step yet
 pub proceeds_none : (c : ℕ) (command : Command) (begun : Begun) (f : Fronts) → IsReady (f.batches c command.node) begun → Proceeds c command begun f f (On begun)
@@ -33,7 +33,7 @@ proceeds_more c command first begun old mid new answer has fit g p a =
     let fare = fares (mid.shape command.node) (mid.front command.node ++ a.others) c command.op (mid.batches c command.node) begun a.own answer a.after fit p.ready a.does in
     record {
       made = p.made ++ made ∷ [];
-      steps = steps_then c old mid new p.made (made ∷ []) g (goes_by c command.node begun command mid new answer a) p.steps (steps_one c command.node (next_step command.op begun) mid new answer a has);
+      steps = steps_then c old mid new p.made (made ∷ []) (goes_grows c old mid g) (goes_grows c mid new (goes_by c command.node begun command mid new answer a)) p.steps (steps_one c command.node (next_step command.op begun) mid new answer a has);
       on_node = All-push (λ (m : Made). m.node ≡ command.node) p.made made p.on_node refl;
       turned = λ told is. rw (map-append (λ (m : Made). m.told) p.made (made ∷ []), ← append_assoc told (told_by p.made) (record { step = next_step command.op begun; answer = answer } ∷ []))
           (turned command.op begun answer (told ++ told_by p.made) (p.turned told is) fare.0);

@@ -1,187 +1,344 @@
--- Commands, one after another.
-use Rattle.std.proofs.Common.{◌≡◌, ◌∙◌, ◌++◌, ◌+◌, ◌-◌, ◌<◌, ◌≤◌, ap, ℕ, zero, suc, List, [], ◌∷◌, length, take, map, get_or, refl, sym, subst, inl, inr, arith, append_assoc, length-append, Option, Some, None}
-use Rattle.std.specs.Prelude.{Vec, vec_len}
+-- Commands, one after another, and the put-backs at a section's end.
+use Rattle.std.proofs.Common.{◌≡◌, ◌∙◌, ◌⊎◌, ◌++◌, ◌+◌, ◌-◌, ◌<◌, ◌≤◌, ap, ℕ, zero, suc, Bool, true, false, List, [], ◌∷◌, length, take, map, refl, sym, subst, inl, inr, arith, append_assoc, length-append, Option, Some, None, Ok, Err}
+use Rattle.std.specs.Prelude.{All, slice_get, Result, IfOk, Vec, vec_capacity}
 use Rattle.std.specs.declared.alloc.Global.{Global}
-use Rattle.std.proofs.lemmas.List.{append-nil, map-append, length-map, length-take, take_all, take-append-le}
-use Rattle.std.proofs.Math.Seq.{take-append_seam}
-use Rattle.std.proofs.lemmas.Option.{slice_get-get_or}
+use Rattle.std.specs.declared.alloc.AllocError.{AllocError}
+use Rattle.std.proofs.lemmas.List.{append-nil, map-append, length-map, take_all}
+use Rattle.std.proofs.lemmas.Bool.{cases_lt}
+use Rattle.std.proofs.lemmas.Option.{slice_get_past}
 use Rattle.std.proofs.lemmas.Grind.{flat_map-append}
 use Rattle.std.proofs.lemmas.List.Elements.{All-nil, All-push, All-append}
 use Rattle.thp_work.specs.declared.op.Command.{Command}
 use Rattle.thp_work.specs.declared.op.Op.{Op}
 use Rattle.thp_work.specs.declared.op.Op.TheVariants as op
+use Rattle.thp_work.specs.declared.op.Step.TheVariants.{PutBack}
 use Rattle.thp_work.specs.declared.reply.Answer.{Answer}
 use Rattle.thp_work.specs.declared.reply.Rest.{Rest}
 use Rattle.thp_work.specs.declared.scanning.Begun.{Begun}
+use Rattle.thp_work.specs.declared.scanning.Progress.{Progress}
 use Rattle.thp_work.specs.declared.scanning.Progress.TheVariants.{On, Ended}
-use Rattle.thp_work.specs.Does.{Reaction}
-use Rattle.thp_work.specs.Fronts.{Fronts, Goes}
-use Rattle.thp_work.specs.Turns.{IsBegun, first_begun}
-use Rattle.thp_work.specs.Sections.{Made, Steps, Proceeds, told_by, Turn, IsTurn, command_of, steps_of, Done, closing_from, closing, Closes, ClosesTo, answers_from, IsRest, Works}
-use Rattle.thp_work.proofs.StepLaws.{steps_none, steps_then}
+use Rattle.thp_work.specs.Does.{Open, Reaction}
+use Rattle.thp_work.specs.Fronts.{Fronts, Goes, Grows}
+use Rattle.thp_work.specs.Turns.{Told, IsBegun, TurnsOut, first_begun}
+use Rattle.thp_work.specs.Sections.{Made, Steps, Proceeds, told_by, Turn, IsTurn, command_of, steps_of, batches_after, is_open, put_back_on, closing_from, closing, answers_from, IsBegunOn, IsNext, Begins, Ends, PutsBack, Works, begun_of}
+use Rattle.thp_work.proofs.StepLaws.{steps_none, steps_then, goes_grows, grows_refl, grows_trans, batches_elsewhere, closed_by}
 
-pub done_none : (c : ℕ) (f : Fronts) → Done c f f [] []
-done_none c f = record { steps = steps_none c f; each = All-nil IsTurn; are = refl }
+-- below the next is below or there
+split_lt : (k n : ℕ) → k < suc n → (k < n) ⊎ (k ≡ n)
+split_lt k n lt = by_order (cases_lt k n)
+  where
+    by_order : (k < n) ⊎ (n ≤ k) → (k < n) ⊎ (k ≡ n)
+    by_order (inl lo) = inl lo
+    by_order (inr hi) = inr (omega (arith, lt, hi))
 
 steps_of-append : (ts us : List Turn) → steps_of (ts ++ us) ≡ steps_of ts ++ steps_of us
 steps_of-append ts us = flat_map-append (λ (t : Turn). t.steps) ts us
 
-pub done_then : (c : ℕ) (old mid new : Fronts) (cs ds : List Command) (ts us : List Turn) → Goes c old mid → Goes c mid new → Done c old mid cs ts → Done c mid new ds us → Done c old new (cs ++ ds) (ts ++ us)
-done_then c old mid new cs ds ts us g k a b = record {
-  steps = rw (steps_of-append ts us) (steps_then c old mid new (steps_of ts) (steps_of us) g k a.steps b.steps);
-  each = All-append IsTurn ts us a.each b.each;
-  are = rw (map-append command_of ts us, a.are, b.are) refl;
-}
-
--- the turn of a command that ended
-abbrev pub turn_by : (c : ℕ) (command : Command) (old new : Fronts) (answer : Reaction) → Proceeds c command first_begun old new (Ended answer) → Turn
-turn_by c command old new answer p = record { command = command; steps = p.made; answer = answer }
+steps_of-push : (ts : List Turn) (t : Turn) → steps_of (ts ++ t ∷ []) ≡ steps_of ts ++ t.steps
+steps_of-push ts t = steps_of-append ts (t ∷ []) ∙ ap (λ l. steps_of ts ++ l) (append-nil t.steps)
 
 not_begun : (o : Op) → IsBegun o [] first_begun
 not_begun o = record { count = refl; so_far = inl (refl, refl) }
 
-done_one : (c : ℕ) (command : Command) (old new : Fronts) (answer : Reaction) (p : Proceeds c command first_begun old new (Ended answer)) → Done c old new (command ∷ []) (turn_by c command old new answer p ∷ [])
-done_one c command old new answer p = record {
-  steps = rw (append-nil p.made) p.steps;
-  each = All-push IsTurn [] _ (All-nil IsTurn) (record { on_node = p.on_node; turns_out = p.turned [] (not_begun command.op) });
-  are = refl;
-}
+-- ---- answers by their numbers
 
--- one command more
-pub done_more : (c : ℕ) (old mid new : Fronts) (cs : List Command) (ts : List Turn) (command : Command) (answer : Reaction) (p : Proceeds c command first_begun mid new (Ended answer)) → Goes c old mid → Goes c mid new → Done c old mid cs ts
-    → Done c old new (cs ++ command ∷ []) (ts ++ turn_by c command mid new answer p ∷ [])
-done_more c old mid new cs ts command answer p g k done = done_then c old mid new cs (command ∷ []) ts (turn_by c command mid new answer p ∷ []) g k done (done_one c command mid new answer p)
-
-pub done_length : (c : ℕ) (old new : Fronts) (cs : List Command) (ts : List Turn) → Done c old new cs ts → length ts ≡ length cs
-done_length c old new cs ts done = let e : length (map command_of ts) ≡ length cs = ap length done.are in omega (arith, e, length-map ts command_of)
-
-pub answers-push : (k : ℕ) (ts : List Turn) (t : Turn) → answers_from k (ts ++ t ∷ []) ≡ answers_from k ts ++ record { command = k + length ts; reply = t.answer } ∷ []
+answers-push : (k : ℕ) (ts : List Turn) (t : Turn) → answers_from k (ts ++ t ∷ []) ≡ answers_from k ts ++ record { command = k + length ts; reply = t.answer } ∷ []
 answers-push k [] t = let e : k + 0 ≡ k = omega arith in rw e refl
 answers-push k (x ∷ ts) t =
     let e : k + 1 + length ts ≡ k + length (x ∷ ts) = omega arith in
     rw (answers-push (k + 1) ts t, e) refl
 
-pub answers-push_first : (ts : List Turn) (t : Turn) → answers_from 0 (ts ++ t ∷ []) ≡ answers_from 0 ts ++ record { command = length ts; reply = t.answer } ∷ []
+answers-push_first : (ts : List Turn) (t : Turn) → answers_from 0 (ts ++ t ∷ []) ≡ answers_from 0 ts ++ record { command = length ts; reply = t.answer } ∷ []
 answers-push_first ts t = let e : 0 + length ts ≡ length ts = omega arith in let push = answers-push 0 ts t in rw e at push
 
 pub length-answers : (k : ℕ) (ts : List Turn) → length (answers_from k ts) ≡ length ts
 length-answers k [] = refl
 length-answers k (t ∷ ts) = rw (length-answers (k + 1) ts) refl
 
--- a command of one step that is postponed made no step
+-- ---- commands
+
+is_next_first : (bs : ℕ → Option Open) (o : Option Command) → IsNext bs o [] first_begun
+is_next_first bs None = (refl, refl)
+is_next_first bs (Some command) = record { on_node = All-nil (λ (m : Made). m.node ≡ command.node); begun = not_begun command.op; ready = inl refl }
+
+-- no command yet
+pub begins_first : (c : ℕ) (f : Fronts) (commands : List Command) (answers : List Answer) → answers ≡ [] → Begins c f f commands answers first_begun
+begins_first c f commands answers none = record {
+  turns = [];
+  made = [];
+  grows = grows_refl f;
+  steps = steps_none c f;
+  each = All-nil IsTurn;
+  done = refl;
+  answered = none;
+  next = is_next_first (f.batches c) (slice_get commands 0);
+}
+
+take_one_more : {A : Type 0} (xs : List A) (n : ℕ) (x : A) → slice_get xs n ≡ Some x → take (suc n) xs ≡ take n xs ++ x ∷ []
+take_one_more [] n x e = absurd (cc)
+take_one_more (y ∷ xs) zero x e = let heads : y ≡ x = cc in ap (λ z. z ∷ []) heads
+take_one_more (y ∷ xs) (suc n) x e = ap (λ l. y ∷ l) (take_one_more xs n x e)
+
+module _ (c : ℕ) (old mid new : Fronts) (commands : List Command) (answers : List Answer) (begun : Begun) (command : Command) (at : slice_get commands (length answers) ≡ Some command) (b : Begins c old mid commands answers begun) (g : Goes c mid new) where
+  as_many : length b.turns ≡ length answers
+  as_many = sym (ap length b.answered ∙ length-answers 0 b.turns)
+
+  here : slice_get commands (length b.turns) ≡ Some command
+  here = ap (slice_get commands) as_many ∙ at
+
+  next : IsBegunOn (mid.batches c) command b.made begun
+  next = subst (λ o. IsNext (mid.batches c) o b.made begun) here b.next
+
+  -- the command that comes next was done
+  pub begins_more : (answer : Reaction) → Proceeds c command begun mid new (Ended answer) → Begins c old new commands (answers ++ record { command = length answers; reply = answer } ∷ []) first_begun
+  begins_more answer p =
+      let turn : Turn = record { command = command; steps = b.made ++ p.made; answer = answer } in
+      let st : Steps c old new ((steps_of b.turns ++ b.made) ++ p.made) = steps_then c old mid new (steps_of b.turns ++ b.made) p.made b.grows (goes_grows c mid new g) b.steps p.steps in
+      let all : steps_of (b.turns ++ turn ∷ []) ++ [] ≡ (steps_of b.turns ++ b.made) ++ p.made = append-nil (steps_of (b.turns ++ turn ∷ [])) ∙ steps_of-push b.turns turn ∙ sym (append_assoc (steps_of b.turns) b.made p.made) in
+      let told : told_by (b.made ++ p.made) ≡ told_by b.made ++ told_by p.made = map-append (λ (m : Made). m.told) b.made p.made in
+      let len : length (b.turns ++ turn ∷ []) ≡ suc (length b.turns) = omega (arith, length-append b.turns (turn ∷ [])) in
+      let said : answers_from 0 b.turns ++ record { command = length b.turns; reply = answer } ∷ [] ≡ answers ++ record { command = length answers; reply = answer } ∷ [] = λ i. sym b.answered i ++ record { command = as_many i; reply = answer } ∷ [] in
+      record {
+        turns = b.turns ++ turn ∷ [];
+        made = [];
+        grows = grows_trans old mid new b.grows (goes_grows c mid new g);
+        steps = subst (Steps c old new) (sym all) st;
+        each = All-push IsTurn b.turns turn b.each (record {
+          on_node = All-append (λ (m : Made). m.node ≡ command.node) b.made p.made next.on_node p.on_node;
+          turns_out = subst (λ (l : List Told). TurnsOut command.op l answer) (sym told) (p.turned (told_by b.made) next.begun);
+        });
+        done = map-append command_of b.turns (turn ∷ []) ∙ ap (λ l. l ++ command ∷ []) b.done ∙ sym (take_one_more commands (length b.turns) command here) ∙ ap (λ n. take n commands) (sym len);
+        answered = sym (answers-push_first b.turns turn ∙ said);
+        next = is_next_first (new.batches c) (slice_get commands (length (b.turns ++ turn ∷ [])));
+      }
+
+  -- the command that comes next is postponed
+  pub begins_stop : (more : Begun) → Proceeds c command begun mid new (On more) → Begins c old new commands answers more
+  begins_stop more p =
+      let st : Steps c old new ((steps_of b.turns ++ b.made) ++ p.made) = steps_then c old mid new (steps_of b.turns ++ b.made) p.made b.grows (goes_grows c mid new g) b.steps p.steps in
+      let told : told_by (b.made ++ p.made) ≡ told_by b.made ++ told_by p.made = map-append (λ (m : Made). m.told) b.made p.made in
+      let on : IsBegunOn (new.batches c) command (b.made ++ p.made) more = record {
+        on_node = All-append (λ (m : Made). m.node ≡ command.node) b.made p.made next.on_node p.on_node;
+        begun = subst (λ (l : List Told). IsBegun command.op l more) (sym told) (p.turned (told_by b.made) next.begun);
+        ready = p.ready;
+      } in
+      record {
+        turns = b.turns;
+        made = b.made ++ p.made;
+        grows = grows_trans old mid new b.grows (goes_grows c mid new g);
+        steps = subst (Steps c old new) (append_assoc (steps_of b.turns) b.made p.made) st;
+        each = b.each;
+        done = b.done;
+        answered = b.answered;
+        next = subst (λ o. IsNext (new.batches c) o (b.made ++ p.made) more) (sym here) on;
+      }
+
+-- a command that was begun can go on
+pub begun_on : (c : ℕ) (old mid : Fronts) (commands : List Command) (answers : List Answer) (begun : Begun) (command : Command) → slice_get commands (length answers) ≡ Some command → (b : Begins c old mid commands answers begun) → IsBegunOn (mid.batches c) command b.made begun
+begun_on c old mid commands answers begun command at b =
+    let count : length b.turns ≡ length answers = sym (ap length b.answered ∙ length-answers 0 b.turns) in
+    subst (λ o. IsNext (mid.batches c) o b.made begun) (ap (slice_get commands) count ∙ at) b.next
+
+-- all commands were done
+pub ends_first : (c : ℕ) (old mid : Fronts) (commands : List Command) (answers : List Answer) (begun : Begun) → length commands ≤ length answers → Begins c old mid commands answers begun → Ends c old mid commands answers 0
+ends_first c old mid commands answers begun le b =
+    let count : length b.turns ≡ length answers = sym (ap length b.answered ∙ length-answers 0 b.turns) in
+    let past : length commands ≤ length b.turns = omega (arith, le, count) in
+    let none = subst (λ o. IsNext (mid.batches c) o b.made begun) (slice_get_past commands (length b.turns) past) b.next in
+    let st : Steps c old mid (steps_of b.turns ++ []) = subst (λ ms. Steps c old mid (steps_of b.turns ++ ms)) none.0 b.steps in
+    let plain : Steps c old mid (steps_of b.turns) = subst (Steps c old mid) (append-nil (steps_of b.turns)) st in
+    let batches : batches_after (old.batches c) (steps_of b.turns) ≡ mid.batches c = λ i n. sym (plain.batches n) i in
+    record {
+      turns = b.turns;
+      closed = [];
+      grows = b.grows;
+      steps = st;
+      each = b.each;
+      each_closed = All-nil IsTurn;
+      done = b.done ∙ take_all (length b.turns) commands past;
+      answered = b.answered;
+      closes = ap (λ bs. closing old.nodes bs) batches;
+      count = refl;
+    }
+
+-- ---- put-backs
+
+module _ (bs : ℕ → Option Open) where
+  closing_open : (first n : ℕ) → is_open (bs first) ≡ true → closing_from bs first (suc n) ≡ put_back_on first ∷ closing_from bs (first + 1) n
+  closing_open first n e = rw e refl
+
+  closing_shut : (first n : ℕ) → is_open (bs first) ≡ false → closing_from bs first (suc n) ≡ closing_from bs (first + 1) n
+  closing_shut first n e = rw e refl
+
+  -- nodes without an open batch are passed over
+  closing_none : (first k m : ℕ) → ((i : ℕ) → first ≤ i → i < first + k → bs i ≡ None) → closing_from bs first (k + m) ≡ closing_from bs (first + k) m
+  closing_none first zero m none =
+      let e : first + 0 ≡ first = omega arith in
+      let z : 0 + m ≡ m = omega arith in
+      rw (e, z) refl
+  closing_none first (suc k) m none =
+      let n : suc k + m ≡ suc (k + m) = omega arith in
+      let e : first + suc k ≡ first + 1 + k = omega arith in
+      rw (n, e) (closing_shut first (k + m) (ap is_open (none first (omega arith) (omega arith))) ∙ closing_none (first + 1) k m (λ i lo hi. none i (omega (arith, lo)) (omega (arith, hi))))
+
+  length-closing : (first n : ℕ) → length (closing_from bs first n) ≤ n
+  length-closing first zero = omega arith
+  length-closing first (suc n) = by_test (length-closing (first + 1) n) (is_open (bs first)) refl
+    where
+      by_test : length (closing_from bs (first + 1) n) ≤ n → (b : Bool) → is_open (bs first) ≡ b → length (closing_from bs first (suc n)) ≤ suc n
+      by_test le true e = let s = ap length (closing_open first n e) in omega (arith, le, s)
+      by_test le false e = let s = ap length (closing_shut first n e) in omega (arith, le, s)
+
+closing_same : (bs cs : ℕ → Option Open) (first n : ℕ) → ((k : ℕ) → first ≤ k → cs k ≡ bs k) → closing_from cs first n ≡ closing_from bs first n
+closing_same bs cs first zero same = refl
+closing_same bs cs first (suc n) same = by_test (closing_same bs cs (first + 1) n (λ k le. same k (omega (arith, le)))) (is_open (bs first)) refl
+  where
+    here : is_open (cs first) ≡ is_open (bs first)
+    here = ap is_open (same first (omega arith))
+
+    by_test : closing_from cs (first + 1) n ≡ closing_from bs (first + 1) n → (b : Bool) → is_open (bs first) ≡ b → closing_from cs first (suc n) ≡ closing_from bs first (suc n)
+    by_test rest true e = closing_open cs first n (here ∙ e) ∙ ap (λ l. put_back_on first ∷ l) rest ∙ sym (closing_open bs first n e)
+    by_test rest false e = closing_shut cs first n (here ∙ e) ∙ rest ∙ sym (closing_shut bs first n e)
+
+-- the first open batch is on this node
+first_open : (bs : ℕ → Option Open) (node nodes : ℕ) → node < nodes → ((k : ℕ) → k < node → bs k ≡ None) → is_open (bs node) ≡ true → closing nodes bs ≡ put_back_on node ∷ closing_from bs (node + 1) (nodes - suc node)
+first_open bs node nodes lt below open-here =
+    let all : node + suc (nodes - suc node) ≡ nodes = omega (arith, lt) in
+    let z : 0 + node ≡ node = omega arith in
+    let skipped : closing_from bs 0 (node + suc (nodes - suc node)) ≡ closing_from bs (0 + node) (suc (nodes - suc node)) = closing_none bs 0 node (suc (nodes - suc node)) (λ i lo hi. below i (omega (arith, hi))) in
+    ap (closing_from bs 0) (sym all) ∙ skipped ∙ ap (λ k. closing_from bs k (suc (nodes - suc node))) z ∙ closing_open bs node (nodes - suc node) open-here
+
+-- and the others come behind it
+behind_open : (bs : ℕ → Option Open) (node nodes : ℕ) → node < nodes → ((k : ℕ) → k < suc node → bs k ≡ None) → closing nodes bs ≡ closing_from bs (node + 1) (nodes - suc node)
+behind_open bs node nodes lt below =
+    let all : suc node + (nodes - suc node) ≡ nodes = omega (arith, lt) in
+    let z : 0 + suc node ≡ node + 1 = omega arith in
+    let skipped : closing_from bs 0 (suc node + (nodes - suc node)) ≡ closing_from bs (0 + suc node) (nodes - suc node) = closing_none bs 0 (suc node) (nodes - suc node) (λ i lo hi. below i (omega (arith, hi))) in
+    ap (closing_from bs 0) (sym all) ∙ skipped ∙ ap (λ k. closing_from bs k (nodes - suc node)) z
+
+-- no batch is open
+pub closing_all : (bs : ℕ → Option Open) (nodes : ℕ) → ((k : ℕ) → k < nodes → bs k ≡ None) → closing nodes bs ≡ []
+closing_all bs nodes none =
+    let z : nodes + 0 ≡ nodes = omega arith in
+    ap (closing_from bs 0) (sym z) ∙ closing_none bs 0 nodes 0 (λ i lo hi. none i (omega (arith, hi)))
+
 no_steps : (ms : List Made) → told_by ms ≡ [] → ms ≡ []
 no_steps [] e = refl
 no_steps (m ∷ ms) e = absurd (cc)
 
-pub nothing_made : (c : ℕ) (command : Command) (old new : Fronts) (more : Begun) (p : Proceeds c command first_begun old new (On more)) → command.op ≡ op.PutBack → p.made ≡ []
-nothing_made c command old new more p is =
-    let begun = p.turned [] (not_begun command.op) in
-    elim begun.so_far [ inl none ↦ no_steps p.made none.0 | inr s ↦ absurd (not_scan s.count (sym is ∙ s.is_scan)) ]
+-- the put-back of the open batch on a node, or none where the node stayed busy
+pub puts_back : (c n : ℕ) (old new : Fronts) (p : Progress) → Proceeds c (put_back_on n) first_begun old new p → PutsBack c n old new p
+puts_back c n old new (Ended answer) p = record {
+  turn = record { command = put_back_on n; steps = p.made; answer = answer };
+  is = refl;
+  turns = record { on_node = p.on_node; turns_out = p.turned [] (not_begun op.PutBack) };
+  steps = p.steps;
+  shut = closed_by c n old new answer p.made p.steps p.on_node (p.turned [] (not_begun op.PutBack));
+  elsewhere = λ k other. p.steps.batches k ∙ batches_elsewhere (old.batches c) n k p.made p.on_node other;
+}
+puts_back c n old new (On more) p =
+    let begun = p.turned [] (not_begun op.PutBack) in
+    elim begun.so_far [ inl none ↦ subst (Steps c old new) (no_steps p.made none.0) p.steps | inr s ↦ absurd (not_scan s.count s.is_scan) ]
   where
-    not_scan : (n : ℕ) → op.PutBack ≡ op.Scan n → ⊥
-    not_scan n e = cc
+    not_scan : (k : ℕ) → op.PutBack ≡ op.Scan k → ⊥
+    not_scan k e = cc
 
-pub closing-push : (first k : ℕ) → closing_from first (k + 1) ≡ closing_from first k ++ record { node = first + k; op = op.PutBack } ∷ []
-closing-push first zero = let e : first + 0 ≡ first = omega arith in rw e refl
-closing-push first (suc k) =
-    let e : first + 1 + k ≡ first + suc k = omega arith in
-    let n : suc k + 1 ≡ suc (k + 1) = omega arith in
-    rw (n, closing-push (first + 1) k, e) refl
+pub puts_back_ok : (c n : ℕ) (old new : Fronts) (r : Result Progress AllocError) → IfOk r (Proceeds c (put_back_on n) first_begun old new) → IfOk r (PutsBack c n old new)
+puts_back_ok c n old new (Ok p) h = puts_back c n old new p h
+puts_back_ok c n old new (Err e) h = h
 
-pub length-closing : (first k : ℕ) → length (closing_from first k) ≡ k
-length-closing first zero = refl
-length-closing first (suc k) = rw (length-closing (first + 1) k) refl
+module _ (c n : ℕ) (old mid : Fronts) (commands : List Command) (answers : List Answer) (back : ℕ) (e : Ends c old mid commands answers back) (lt : n < old.nodes) (below : (k : ℕ) → k < n → mid.batches c k ≡ None) (opened : is_open (mid.batches c n) ≡ true) where
+  -- there are no more put-backs than nodes
+  pub room_for_one : back + 1 ≤ old.nodes
+  room_for_one =
+      let all = ap length e.closes in
+      let one = ap length (first_open (mid.batches c) n old.nodes lt below opened) in
+      omega (arith, all, one, e.count, length-map e.closed command_of, length-append (map command_of e.closed) (closing old.nodes (mid.batches c)), length-closing (batches_after (old.batches c) (steps_of e.turns)) 0 old.nodes)
 
--- a put-back more
-pub closes_more : (c first node : ℕ) (old mid new : Fronts) (ts : List Turn) (command : Command) (answer : Reaction) (p : Proceeds c command first_begun mid new (Ended answer)) → Goes c old mid → Goes c mid new → Done c old mid (closing_from first (length ts)) ts
-    → command ≡ record { node = node; op = op.PutBack } → first + length ts ≡ node → Done c old new (closing_from first (length (ts ++ turn_by c command mid new answer p ∷ []))) (ts ++ turn_by c command mid new answer p ∷ [])
-closes_more c first node old mid new ts command answer p g k done is at =
-    let commands : closing_from first (length (ts ++ turn_by c command mid new answer p ∷ [])) ≡ closing_from first (length ts) ++ command ∷ [] =
-    rw (length-append ts (turn_by c command mid new answer p ∷ []), closing-push first (length ts), at, is) refl in
-    rw commands (done_more c old mid new (closing_from first (length ts)) ts command answer p g k done)
+  -- one batch more went back
+  pub ends_more : (new : Fronts) (answer : Reaction) → Goes c mid new → PutsBack c n mid new (Ended answer) → Ends c old new commands answers (back + 1)
+  ends_more new answer g p =
+      let shut : (k : ℕ) → k < suc n → new.batches c k ≡ None = λ k le. shut_below k le in
+      let closed-is : map command_of (e.closed ++ p.turn ∷ []) ≡ map command_of e.closed ++ put_back_on n ∷ [] = map-append command_of e.closed (p.turn ∷ []) ∙ ap (λ t. map command_of e.closed ++ t ∷ []) p.is in
+      let left : closing old.nodes (mid.batches c) ≡ put_back_on n ∷ closing old.nodes (new.batches c) =
+      first_open (mid.batches c) n old.nodes lt below opened ∙ ap (λ l. put_back_on n ∷ l) (sym (closing_same (mid.batches c) (new.batches c) (n + 1) (old.nodes - suc n) (λ k le. p.elsewhere k (λ same. absurd (omega (arith, le, same))))) ∙ sym (behind_open (new.batches c) n old.nodes lt shut)) in
+      let st = steps_then c old mid new (steps_of e.turns ++ steps_of e.closed) p.turn.steps e.grows (goes_grows c mid new g) e.steps p.steps in
+      let all : (steps_of e.turns ++ steps_of e.closed) ++ p.turn.steps ≡ steps_of e.turns ++ steps_of (e.closed ++ p.turn ∷ []) = append_assoc (steps_of e.turns) (steps_of e.closed) p.turn.steps ∙ ap (λ l. steps_of e.turns ++ l) (sym (steps_of-push e.closed p.turn)) in
+      record {
+        turns = e.turns;
+        closed = e.closed ++ p.turn ∷ [];
+        grows = grows_trans old mid new e.grows (goes_grows c mid new g);
+        steps = subst (Steps c old new) all st;
+        each = e.each;
+        each_closed = All-push IsTurn e.closed p.turn e.each_closed p.turns;
+        done = e.done;
+        answered = e.answered;
+        closes = e.closes ∙ ap (λ l. map command_of e.closed ++ l) left ∙ sym (append_assoc (map command_of e.closed) (put_back_on n ∷ []) (closing old.nodes (new.batches c))) ∙ ap (λ l. l ++ closing old.nodes (new.batches c)) (sym closed-is);
+        count = omega (arith, length-append e.closed (p.turn ∷ []), e.count);
+      }
+    where
+      by_place : (k : ℕ) → (k < n) ⊎ (k ≡ n) → new.batches c k ≡ None
+      by_place k (inl lo) = p.elsewhere k (λ same. absurd (omega (arith, lo, same))) ∙ below k lo
+      by_place k (inr same) = rw same p.shut
+
+      shut_below : (k : ℕ) → k < suc n → new.batches c k ≡ None
+      shut_below k le = by_place k (split_lt k n le)
 
 -- a put-back that is postponed leaves what was done
-pub closes_stop : (c : ℕ) (old mid new : Fronts) (cs : List Command) (ts : List Turn) (command : Command) (more : Begun) (p : Proceeds c command first_begun mid new (On more)) → Goes c old mid → Goes c mid new → command.op ≡ op.PutBack → Done c old mid cs ts → Done c old new cs ts
-closes_stop c old mid new cs ts command more p g k is done =
-    let none = nothing_made c command mid new more p is in
-    let made : Steps c mid new [] = subst (Steps c mid new) none p.steps in
+pub ends_stop : (c n : ℕ) (old mid new : Fronts) (commands : List Command) (answers : List Answer) (back : ℕ) (more : Begun) → Ends c old mid commands answers back → Goes c mid new → PutsBack c n mid new (On more) → Ends c old new commands answers back
+unfolding batches_after
+ends_stop c n old mid new commands answers back more e g p =
+    let st = steps_then c old mid new (steps_of e.turns ++ steps_of e.closed) [] e.grows (goes_grows c mid new g) e.steps p in
+    let batches : mid.batches c ≡ new.batches c = λ i k. sym (p.batches k) i in
     record {
-      steps = subst (Steps c old new) (append-nil (steps_of ts)) (steps_then c old mid new (steps_of ts) [] g k done.steps made);
-      each = done.each;
-      are = done.are;
+      turns = e.turns;
+      closed = e.closed;
+      grows = grows_trans old mid new e.grows (goes_grows c mid new g);
+      steps = subst (Steps c old new) (append-nil (steps_of e.turns ++ steps_of e.closed)) st;
+      each = e.each;
+      each_closed = e.each_closed;
+      done = e.done;
+      answered = e.answered;
+      closes = e.closes ∙ ap (λ bs. map command_of e.closed ++ closing old.nodes bs) batches;
+      count = e.count;
     }
 
-take_commands : (commands : List Command) (i : ℕ) → i ≤ length commands → length (take i commands) ≡ i
-take_commands commands i le = omega (arith, length-take i commands)
-
--- how many commands are done, and how many answers there are
-pub count_done : (c : ℕ) (old mid : Fronts) (commands : List Command) (i : ℕ) (ts : List Turn) (answers : Vec Answer Global) → Done c old mid (take i commands) ts → answers.items ≡ answers_from 0 ts → i ≤ length commands → (length ts ≡ i) × (vec_len answers ≡ i)
-count_done c old mid commands i ts answers done items le =
-    let turns : length ts ≡ i = done_length c old mid (take i commands) ts done ∙ take_commands commands i le in
-    let count : length answers.items ≡ length ts = rw items (length-answers 0 ts) in
-    (turns, omega (arith, answers.ok.0, count, turns))
-
--- the section stops at a command
-pub works_stop : (c : ℕ) (old mid new : Fronts) (commands : List Command) (i : ℕ) (d : Command) (ts : List Turn) (answers : Vec Answer Global) (number : ℕ) (more : Begun) (p : Proceeds c (get_or commands i d) first_begun mid new (On more))
-    → Goes c old mid → Goes c mid new → Done c old mid (take i commands) ts → answers.items ≡ answers_from 0 ts → number ≡ vec_len answers → i < length commands
-    → Works c old new commands (record { answers = answers; rest = Some (record { command = number; steps = more.steps; so_far = more.so_far }) })
-works_stop c old mid new commands i d ts answers number more p g k done items is lt =
-    let count = count_done c old mid commands i ts answers done items (omega arith) in
-    let turns : length ts ≡ i = count.0 in
-    let whole : take (length commands) ts ≡ ts = take_all (length commands) ts (omega (arith, turns)) in
-    let place : number ≡ i = is ∙ count.1 in
-    record {
-      turns = ts;
-      begun = p.made;
-      steps = steps_then c old mid new (steps_of ts) p.made g k done.steps p.steps;
-      each = done.each;
-      done = rw (turns, take-append-le i commands (closing old.nodes) (omega arith)) done.are;
-      answers = rw whole items;
-      rest = inl (turns ∙ sym place, (get_or commands i d, rw place (slice_get-get_or commands i d lt), record { on_node = p.on_node; begun = p.turned [] (not_begun (get_or commands i d).op); ready = p.ready }));
-    }
-
-closing-split : (first k m : ℕ) → closing_from first (k + m) ≡ closing_from first k ++ closing_from (first + k) m
-closing-split first zero m = let e : first + 0 ≡ first = omega arith in let z : 0 + m ≡ m = omega arith in rw (e, z) refl
-closing-split first (suc k) m =
-    let n : suc k + m ≡ suc (k + m) = omega arith in
-    let e : first + 1 + k ≡ first + suc k = omega arith in
-    rw (n, closing-split (first + 1) k m, e) refl
-
-closing-take : (commands : List Command) (nodes k n : ℕ) → k ≤ nodes → n ≡ length commands + k → take n (commands ++ closing nodes) ≡ commands ++ closing_from 0 k
-closing-take commands nodes k n le is =
-    let rest = closing_from (0 + k) (nodes - k) in
-    let all : k + (nodes - k) ≡ nodes = omega arith in
-    let split : closing nodes ≡ closing_from 0 k ++ rest = rw (← all, closing-split 0 k (nodes - k)) (rw all refl) in
-    let count : n ≡ length (commands ++ closing_from 0 k) = omega (arith, is, length-append commands (closing_from 0 k), length-closing 0 k) in
-    rw (split, ← append_assoc commands (closing_from 0 k) rest, count) (take-append_seam (commands ++ closing_from 0 k) rest)
-
--- the section came to its end, or stops within its put-backs
-pub works_end : (c : ℕ) (old mid new : Fronts) (commands : List Command) (i : ℕ) (ts : List Turn) (answers : Vec Answer Global) (number : ℕ) (rest : Option Rest) → Goes c old mid → Goes c mid new → Done c old mid (take i commands) ts → answers.items ≡ answers_from 0 ts
-    → Closes c number 0 mid new rest → number ≡ vec_len answers → length commands ≤ i → i ≤ length commands → Works c old new commands (record { answers = answers; rest = rest })
-works_end c old mid new commands i ts answers number rest g k done items closes is low high =
-    let count = count_done c old mid commands i ts answers done items high in
-    let turns : length ts ≡ length commands = omega (arith, count.0) in
-    let all : take i commands ≡ commands = take_all i commands low in
-    let us = closes.turns in
-    let both = done_then c old mid new commands (closing_from 0 (length us)) ts us g k (subst (λ cs. Done c old mid cs ts) all done) closes.done in
-    let nodes : mid.nodes ≡ old.nodes = g.same.nodes in
-    let reach : length us ≤ old.nodes = rw nodes at (reaches number mid.nodes us rest closes.to) in
-    let len : length (ts ++ us) ≡ length commands + length us = omega (arith, length-append ts us, turns) in
-    let front : take (length commands) (ts ++ us) ≡ ts = rw (← turns) (take-append_seam ts us) in
-    record {
-      turns = ts ++ us;
-      begun = [];
-      steps = rw (append-nil (steps_of (ts ++ us))) both.steps;
-      each = both.each;
-      done = both.are ∙ sym (closing-take commands old.nodes (length us) (length (ts ++ us)) reach len);
-      answers = rw front items;
-      rest = ended rest (rw nodes at closes.to) len (is ∙ omega (arith, count.1, low, high));
-    }
+-- the batches below a node are shut, where those below the one before were and that one is
+pub shut_more : (c n : ℕ) (f : Fronts) → ((k : ℕ) → k < n → f.batches c k ≡ None) → f.batches c n ≡ None → (k : ℕ) → k < n + 1 → f.batches c k ≡ None
+shut_more c n f below here k lt = by_place (split_lt k n (omega (arith, lt)))
   where
-    reaches : (number nodes : ℕ) (us : List Turn) (rest : Option Rest) → ClosesTo number 0 nodes us rest → length us ≤ nodes
-    reaches number nodes us None to = omega (arith, to)
-    reaches number nodes us (Some r) to = omega (arith, to.1, to.2)
+    by_place : (k < n) ⊎ (k ≡ n) → f.batches c k ≡ None
+    by_place (inl lo) = below k lo
+    by_place (inr same) = rw same here
 
-    ended : (rest : Option Rest) → ClosesTo number 0 old.nodes closes.turns rest → length (ts ++ closes.turns) ≡ length commands + length closes.turns → number ≡ length commands → IsRest (new.batches c) commands old.nodes (ts ++ closes.turns) [] rest
-    ended None to len at = (omega (arith, to, len), refl)
-    ended (Some r) to len at = inr (to.0 ∙ at, omega (arith, to.1, len), to.2, refl)
+pub shut_put : (c n : ℕ) (mid new : Fronts) (answer : Reaction) → ((k : ℕ) → k < n → mid.batches c k ≡ None) → PutsBack c n mid new (Ended answer) → (k : ℕ) → k < n + 1 → new.batches c k ≡ None
+shut_put c n mid new answer below p = shut_more c n new (λ k lt. p.elsewhere k (λ same. absurd (omega (arith, lt, same))) ∙ below k lt) p.shut
+
+pub not_open : (o : Option Open) → is_open o ≡ false → o ≡ None
+not_open None e = refl
+not_open (Some b) e = absurd (cc)
+
+-- as many answers as commands
+pub ends_answers : (c : ℕ) (old mid : Fronts) (commands : List Command) (answers : List Answer) (back : ℕ) → Ends c old mid commands answers back → length commands ≡ length answers
+ends_answers c old mid commands answers back e =
+    let all : length (map command_of e.turns) ≡ length commands = ap length e.done in
+    let said : length answers ≡ length (answers_from 0 e.turns) = ap length e.answered in
+    omega (arith, all, said, length-map e.turns command_of, length-answers 0 e.turns)
+
+-- the section came to its end
+pub works_end : (c : ℕ) (old mid : Fronts) (commands : List Command) (answers : Vec Answer Global) (back node : ℕ) → length commands ≤ vec_capacity answers → Ends c old mid commands answers.items back → old.nodes ≤ node → ((k : ℕ) → k < node → mid.batches c k ≡ None) → Works c old mid commands (record { answers = answers; rest = None })
+works_end c old mid commands answers back node room e all shut = record {
+  to = (back, e, closing_all (mid.batches c) old.nodes (λ k lt. shut k (omega (arith, lt, all))));
+  room = room;
+}
+
+-- or stops within its put-backs
+pub works_closing : (c : ℕ) (old mid : Fronts) (commands : List Command) (answers : Vec Answer Global) (back : ℕ) (r : Rest) → length commands ≤ vec_capacity answers → Ends c old mid commands answers.items back → r.command ≡ length commands → r.steps ≡ back → Works c old mid commands (record { answers = answers; rest = Some r })
+works_closing c old mid commands answers back r room e at is = record {
+  to = (at ∙ ends_answers c old mid commands answers.items back e, inr (at, rw is e));
+  room = room;
+}
+
+-- or at a command
+pub works_stop : (c : ℕ) (old mid : Fronts) (commands : List Command) (answers : Vec Answer Global) (r : Rest) → length commands ≤ vec_capacity answers → Begins c old mid commands answers.items (begun_of r) → r.command ≡ length answers.items → r.command < length commands → Works c old mid commands (record { answers = answers; rest = Some r })
+works_stop c old mid commands answers r room b at lt = record { to = (at, inl (lt, b)); room = room }

@@ -1,20 +1,22 @@
 -- Steps of a caller, one after another, in histories that go on.
-use Rattle.std.proofs.Common.{◌≡◌, ◌∙◌, ◌++◌, ◌+◌, ◌<◌, ◌≤◌, ◌==◌, ap, ℕ, Bool, true, false, cond, List, [], ◌∷◌, length, take, drop, get_or, Option, refl, sym, subst, ◌⊎◌, inl, inr, arith, ◌-◌, append_assoc, length-append}
+use Rattle.std.proofs.Common.{◌≡◌, ◌∙◌, Some, None, ◌++◌, ◌+◌, ◌<◌, ◌≤◌, ◌==◌, ap, ℕ, Bool, true, false, cond, List, [], ◌∷◌, length, take, drop, get_or, Option, refl, sym, subst, ◌⊎◌, inl, inr, arith, ◌-◌, append_assoc, length-append}
 use Rattle.std.specs.Prelude.{All, AllPairs, nat_eq}
 use Rattle.std.specs.List.{filter}
 use Rattle.std.proofs.Math.Seq.{take-append_seam, drop-append_seam, take-length}
 use Rattle.std.proofs.lemmas.Bool.{eqb-true, eqb-false, eq-eqb, ne_eqb, cases_lt}
 use Rattle.std.proofs.lemmas.Grind.{flat_map-append}
 use Rattle.std.proofs.lemmas.List.{append-nil, take-append-le, drop-append-le, length-drop, get_or_append_left, get_or-append_right}
-use Rattle.std.proofs.lemmas.List.Elements.{filter-append, All-nil, All-cons, All-append, All-tail, All-weaker}
+use Rattle.std.proofs.lemmas.List.Elements.{filter-append, All-nil, All-cons, All-append, All-head, All-tail, All-weaker}
 use Rattle.thp_model.specs.declared.events.Event.{Event}
 use Rattle.thp_model.specs.declared.shape.Shape.{Shape}
 use Rattle.thp_model.specs.History.{History, events_of}
 use Rattle.thp_model.specs.Legal.{IsLegal}
 use Rattle.thp_work.specs.declared.op.Step.{Step}
-use Rattle.thp_work.specs.Does.{Open, Reaction}
-use Rattle.thp_work.specs.Fronts.{Fronts, HasCaller, IsOther, SameHolding, Moves, Answered, Goes}
-use Rattle.thp_work.specs.Sections.{Made, IsMade, ComesBefore, own_events, with_batch, batches_after, Carries, Steps}
+use Rattle.thp_work.specs.declared.op.Step.TheVariants.{PutBack}
+use Rattle.thp_work.specs.Does.{Open, Reaction, Does}
+use Rattle.thp_work.specs.Turns.{Told}
+use Rattle.thp_work.specs.Fronts.{Fronts, HasCaller, IsOther, SameHolding, Moves, Answered, Goes, Grows, SameNodes}
+use Rattle.thp_work.specs.Sections.{Made, IsMade, ComesBefore, own_events, with_batch, batches_after, Carries, Steps, told_by}
 
 -- ---- events by callers
 
@@ -165,8 +167,29 @@ pairs-append xs ys len a b ends begins i j d lt within = by_cases (nat_lt_or i (
         rw (get_or-append_right xs ys (length xs) i d refl p, get_or-append_right xs ys (length xs) j d refl q)
         (b (i - length xs) (j - length xs) d (omega (arith, lt, p, q)) room)
 
+pub goes_grows : (c : ℕ) (f g : Fronts) → Goes c f g → Grows f g
+goes_grows c f g a = record {
+  same = record { cells = a.same.cells; nodes = a.same.nodes; shape = a.same.shape; callers = a.same.callers };
+  grown = a.grown;
+}
+
+pub grows_refl : (f : Fronts) → Grows f f
+grows_refl f = record {
+  same = record { cells = refl; nodes = refl; shape = refl; callers = refl };
+  grown = λ n. ([], sym (append-nil (f.front n)));
+}
+
+pub grows_trans : (f g h : Fronts) → Grows f g → Grows g h → Grows f h
+grows_trans f g h a b = record {
+  same = record { cells = b.same.cells ∙ a.same.cells; nodes = b.same.nodes ∙ a.same.nodes; shape = b.same.shape ∙ a.same.shape; callers = b.same.callers ∙ a.same.callers };
+  grown = λ n. (
+    (a.grown n).0 ++ (b.grown n).0,
+    (b.grown n).1 ∙ ap (λ h. h ++ (b.grown n).0) (a.grown n).1 ∙ append_assoc (f.front n) (a.grown n).0 (b.grown n).0,
+  );
+}
+
 -- steps, and then more of them
-pub steps_then : (c : ℕ) (old mid new : Fronts) (xs ys : List Made) → Goes c old mid → Goes c mid new → Steps c old mid xs → Steps c mid new ys → Steps c old new (xs ++ ys)
+pub steps_then : (c : ℕ) (old mid new : Fronts) (xs ys : List Made) → Grows old mid → Grows mid new → Steps c old mid xs → Steps c mid new ys → Steps c old new (xs ++ ys)
 steps_then c old mid new xs ys g k a b = record {
   each = All-append (IsMade old.shape new.front c) xs ys
       (All-weaker (IsMade old.shape mid.front c) (IsMade old.shape new.front c) (is_made_stays old.shape mid.front new.front c k.grown) xs a.each)
@@ -264,3 +287,29 @@ steps_stay c old new later ms s grown part batches = record {
   carries = s.carries;
   batches = λ n. batches n ∙ s.batches n;
 }
+
+-- steps on one node leave the open batches on the others
+pub batches_elsewhere : (bs : ℕ → Option Open) (n k : ℕ) (ms : List Made) → All (λ (m : Made). m.node ≡ n) ms → (k ≡ n → ⊥) → batches_after bs ms k ≡ bs k
+unfolding batches_after
+batches_elsewhere bs n k [] on other = refl
+batches_elsewhere bs n k (m ∷ ms) on other =
+    let here : m.node ≡ n = All-head (λ (x : Made). x.node ≡ n) m ms on in
+    let rest = batches_elsewhere (with_batch bs m.node m.after) n k ms (All-tail (λ (x : Made). x.node ≡ n) m ms on) other in
+    rest ∙ rw (ne_eqb k m.node (λ e. other (e ∙ here))) refl
+
+-- a put-back leaves no open batch
+after_put_back : (s : Shape) (h : History) (c : ℕ) (batch : Option Open) (own : List Event) (answer : Reaction) (after : Option Open) → Does s h c batch PutBack own answer after → after ≡ None
+unfolding Does
+after_put_back s h c None own answer after d = d.2
+after_put_back s h c (Some b) own answer after d = d.2
+
+pub closed_by : (c n : ℕ) (old new : Fronts) (answer : Reaction) (ms : List Made) → Steps c old new ms → All (λ (m : Made). m.node ≡ n) ms → told_by ms ≡ record { step = PutBack; answer = answer } ∷ [] → new.batches c n ≡ None
+unfolding batches_after
+closed_by c n old new answer [] s on told = absurd (cc)
+closed_by c n old new answer (m ∷ []) s on told =
+    let here : m.node ≡ n = All-head (λ (x : Made). x.node ≡ n) m [] on in
+    let is : m.told ≡ record { step = PutBack; answer = answer } = cc in
+    let does = (All-head (IsMade old.shape new.front c) m [] s.each).does in
+    let put : Does (old.shape m.node) (take m.before (new.front m.node)) c m.batch PutBack m.own answer m.after = subst (λ (t : Told). Does (old.shape m.node) (take m.before (new.front m.node)) c m.batch t.step m.own t.answer m.after) is does in
+    s.batches n ∙ rw (eq-eqb n m.node (sym here)) (after_put_back _ _ c m.batch m.own answer m.after put)
+closed_by c n old new answer (m ∷ l ∷ ms) s on told = absurd (cc)

@@ -92,3 +92,15 @@ pub record Goes (c : ℕ) (old new : Fronts) : Type 0 where
   pub others : (d n : ℕ) → HasCaller old d → (d ≡ c → ⊥) → events_of d (new.front n) ≡ events_of d (old.front n)
   pub others_batches : (d n : ℕ) → (d ≡ c → ⊥) → new.batches d n ≡ old.batches d n
   pub legal : (n : ℕ) → IsLegal (old.shape n) (old.front n) → IsLegal (old.shape n) (new.front n)
+
+-- the nodes are the same
+pub record SameNodes (f g : Fronts) : Type 0 where
+  pub cells : g.cells ≡ f.cells
+  pub nodes : g.nodes ≡ f.nodes
+  pub shape : g.shape ≡ f.shape
+  pub callers : g.callers ≡ f.callers
+
+-- the nodes are the same, and each history goes on
+pub record Grows (old new : Fronts) : Type 0 where
+  pub same : SameNodes old new
+  pub grown : (n : ℕ) → (more : History) × (new.front n ≡ old.front n ++ more)

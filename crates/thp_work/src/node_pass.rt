@@ -4,7 +4,8 @@ ghost use Rattle.thp_model.specs.Legal.{IsLegal};
 ghost use Rattle.thp_cell.specs.Calls.{IsJoined};
 ghost use Rattle.thp_cell.specs.Views.{HasCaller};
 ghost use Rattle.thp_work.specs.Does.{IsPlain, IsStep};
-ghost use Rattle.thp_work.specs.Holdings.{lower_part, loss_reply, unit_reply, upper_part, HeldDone, IsSomeBatch};
+ghost use Rattle.thp_work.specs.Sections.{is_open};
+ghost use Rattle.thp_work.specs.Holdings.{batch_of, lower_part, loss_reply, unit_reply, upper_part, HeldDone, IsSomeBatch};
 
 use crate::op::{Op, Step};
 use crate::reply::Reply;
@@ -34,6 +35,15 @@ impl<'a> Model for NodePass<'a> {
 }
 
 impl<'a> NodePass<'a> {
+    /// The caller has an open batch.
+    pub(crate) fn is_open(&self, caller: u32) -> bool
+        requires { HasCaller self.now.pass caller }
+        ensures { result ≡ is_open (batch_of self.now caller) }
+    {
+        let (first, _) = self.pass.callers();
+        is_open(&self.batches, (caller - first) as usize)
+    }
+
     /// One step of a caller.
     pub(crate) fn step(&mut self, caller: u32, step: Step) -> Result<Reply, CellFault>
         requires caller { HasCaller self.old.pass caller }
