@@ -1,5 +1,5 @@
 -- Workers that come together.
-use Rattle.std.proofs.Common.{◌≡◌, ◌∙◌, ◌++◌, ◌+◌, ◌<◌, ◌≤◌, ap, ℕ, List, [], ◌∷◌, length, refl, sym, subst, inl, inr, arith, append_assoc, length-append, get_or, Option, Some, None}
+use Rattle.std.proofs.Common.{◌≡◌, ◌∙◌, ◌++◌, ◌+◌, ◌<◌, ◌≤◌, ap, ℕ, List, [], ◌∷◌, length, sym, subst, inl, inr, arith, append_assoc, length-append, get_or, Option, Some, None}
 use Rattle.std.specs.Prelude.{Vec, slice_get}
 use Rattle.std.specs.declared.alloc.Global.{Global}
 use Rattle.thp_model.specs.History.{History, events_of}

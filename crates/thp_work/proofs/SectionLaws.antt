@@ -1,6 +1,6 @@
 -- Commands, one after another, and the put-backs at a section's end.
 use Rattle.std.proofs.Common.{◌≡◌, ◌∙◌, ◌⊎◌, ◌++◌, ◌+◌, ◌-◌, ◌<◌, ◌≤◌, ap, ℕ, zero, suc, Bool, true, false, List, [], ◌∷◌, length, take, map, refl, sym, subst, inl, inr, arith, append_assoc, length-append, Option, Some, None, Ok, Err}
-use Rattle.std.specs.Prelude.{All, slice_get, Result, IfOk, Vec, vec_capacity}
+use Rattle.std.specs.Prelude.{slice_get, Result, IfOk, Vec, vec_capacity}
 use Rattle.std.specs.declared.alloc.Global.{Global}
 use Rattle.std.specs.declared.alloc.AllocError.{AllocError}
 use Rattle.std.proofs.lemmas.List.{append-nil, map-append, length-map, take_all}
@@ -11,14 +11,13 @@ use Rattle.std.proofs.lemmas.List.Elements.{All-nil, All-push, All-append}
 use Rattle.thp_work.specs.declared.op.Command.{Command}
 use Rattle.thp_work.specs.declared.op.Op.{Op}
 use Rattle.thp_work.specs.declared.op.Op.TheVariants as op
-use Rattle.thp_work.specs.declared.op.Step.TheVariants.{PutBack}
 use Rattle.thp_work.specs.declared.reply.Answer.{Answer}
 use Rattle.thp_work.specs.declared.reply.Rest.{Rest}
 use Rattle.thp_work.specs.declared.scanning.Begun.{Begun}
 use Rattle.thp_work.specs.declared.scanning.Progress.{Progress}
 use Rattle.thp_work.specs.declared.scanning.Progress.TheVariants.{On, Ended}
 use Rattle.thp_work.specs.Does.{Open, Reaction}
-use Rattle.thp_work.specs.Fronts.{Fronts, Goes, Grows}
+use Rattle.thp_work.specs.Fronts.{Fronts, Goes}
 use Rattle.thp_work.specs.Turns.{Told, IsBegun, TurnsOut, first_begun}
 use Rattle.thp_work.specs.Sections.{Made, Steps, Proceeds, told_by, Turn, IsTurn, command_of, steps_of, batches_after, is_open, put_back_on, closing_from, closing, answers_from, IsBegunOn, IsNext, Begins, Ends, PutsBack, Works, begun_of}
 use Rattle.thp_work.proofs.StepLaws.{steps_none, steps_then, goes_grows, grows_refl, grows_trans, batches_elsewhere, closed_by}

@@ -15,7 +15,7 @@ use Rattle.thp_work.specs.declared.op.Step.{Step}
 use Rattle.thp_work.specs.declared.op.Step.TheVariants.{PutBack}
 use Rattle.thp_work.specs.Does.{Open, Reaction, Does}
 use Rattle.thp_work.specs.Turns.{Told}
-use Rattle.thp_work.specs.Fronts.{Fronts, HasCaller, IsOther, SameHolding, Moves, Answered, Goes, Grows, SameNodes}
+use Rattle.thp_work.specs.Fronts.{Fronts, HasCaller, IsOther, SameHolding, Moves, Answered, Goes, Grows}
 use Rattle.thp_work.specs.Sections.{Made, IsMade, ComesBefore, own_events, with_batch, batches_after, Carries, Steps, told_by}
 
 -- ---- events by callers

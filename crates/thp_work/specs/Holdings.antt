@@ -10,7 +10,7 @@ use Rattle.thp_cell.specs.declared.fault.CellFault.{CellFault}
 use Rattle.thp_cell.specs.declared.fault.CellFault.TheVariants.{Busy, Refused}
 use Rattle.thp_cell.specs.Calls.{at_front, below, from}
 use Rattle.thp_cell.specs.Rule.{IsOther}
-use Rattle.thp_cell.specs.Views.{PassState, HasAll}
+use Rattle.thp_cell.specs.Views.{PassState, HasAll, HasCaller}
 use Rattle.thp_work.specs.declared.op.Step.{Step}
 use Rattle.thp_work.specs.declared.reply.Reply.{Reply}
 use Rattle.thp_work.specs.declared.reply.Reply.TheVariants as reply
@@ -80,6 +80,10 @@ loss_reply (Err fault) = Err fault
 -- there is an open batch
 abbrev pub IsSomeBatch : Option (Option BatchState) → Type 0
 IsSomeBatch b = (batch : BatchState) × (b ≡ Some (Some batch))
+
+-- the open batches of the callers stay
+abbrev pub OpenStay : Held → Held → Type 0
+OpenStay old new = (c : ℕ) → HasCaller old.pass c → batch_of new c ≡ batch_of old c
 
 -- the callers below `at`, and those from it on, each with its place
 abbrev pub lower_part : Held → ℕ → Held

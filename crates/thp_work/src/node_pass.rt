@@ -1,15 +1,15 @@
 //! A pass of one node, with the open batches of its callers there.
-ghost use Rattle.std.specs.Prelude.{◌≡◌, ◌<◌, ◌++◌, length, slice_get, slice_set, IfOk, MatchBool, None, Some};
+ghost use Rattle.std.specs.Prelude.{◌≡◌, ◌<◌, ◌≤◌, ℕ, length, slice_get, slice_set, IfOk, MatchBool, None, Some};
 ghost use Rattle.thp_model.specs.Legal.{IsLegal};
-ghost use Rattle.thp_cell.specs.Calls.{IsJoined};
+ghost use Rattle.thp_cell.specs.Calls.{IsJoined, PartsStay};
 ghost use Rattle.thp_cell.specs.Views.{HasCaller};
 ghost use Rattle.thp_work.specs.Does.{IsPlain, IsStep};
 ghost use Rattle.thp_work.specs.Sections.{is_open};
-ghost use Rattle.thp_work.specs.Holdings.{batch_of, lower_part, loss_reply, unit_reply, upper_part, HeldDone, IsSomeBatch};
+ghost use Rattle.thp_work.specs.Holdings.{batch_of, lower_part, loss_reply, unit_reply, upper_part, HeldDone, IsSomeBatch, OpenStay};
 
 use crate::op::{Op, Step};
 use crate::reply::Reply;
-use std::alloc::AllocError;
+use std::alloc::{AllocError, Global};
 use std::marker::Model;
 use thp_cell::{CellFault, NodeCell, Pass};
 use thp_model::{PageId, Refusal};
@@ -35,6 +35,25 @@ impl<'a> Model for NodePass<'a> {
 }
 
 impl<'a> NodePass<'a> {
+    /// A pass of a cell whose callers have no batch open.
+    pub fn new(alloc: Global, cell: &'a NodeCell, pass: Pass) -> Result<NodePass<'a>, AllocError>
+        requires cell { pass.cell ≡ cell.now }
+        requires some { pass.first ≤ pass.end }
+        ensures pass { IfOk result (λ p. p.pass ≡ pass) }
+        ensures none { IfOk result (λ p. (c : ℕ) → batch_of p c ≡ None) }
+    {
+        let (first, end) = pass.callers();
+        let mut batches = Vec::new(alloc);
+        for _ in first..end {
+            batches.push(None)?;
+        }
+        Ok(NodePass {
+            cell,
+            pass,
+            batches,
+        })
+    }
+
     /// The caller has an open batch.
     pub(crate) fn is_open(&self, caller: u32) -> bool
         requires { HasCaller self.now.pass caller }
@@ -94,7 +113,10 @@ impl<'a> NodePass<'a> {
         requires adjacent { self.pass.end ≡ other.pass.first }
         ensures passes { IfOk result (λ r. IsJoined self.entry.pass other.entry.pass r.pass) }
         ensures legal { IfOk result (λ r. IsLegal r.pass.shape r.pass.front) }
-        ensures batches { IfOk result (λ r. r.batches ≡ self.entry.batches ++ other.entry.batches) }
+        ensures left_parts { IfOk result (λ r. PartsStay self.entry.pass r.pass) }
+        ensures right_parts { IfOk result (λ r. PartsStay other.entry.pass r.pass) }
+        ensures left_batches { IfOk result (λ r. OpenStay self.entry r) }
+        ensures right_batches { IfOk result (λ r. OpenStay other.entry r) }
     {
         let NodePass {
             cell,
