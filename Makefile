@@ -1,13 +1,33 @@
-# make run: proves, builds and runs the first script and shows its totals.
-# make test: every check (all proofs from nothing, must-fail edits, tests, stored runs); ends in 'N passed, M failed'.
-# make bench: times on large scripts (docs/PROOFS.md has the figures).
-.PHONY: run test bench
+# make try:     runs the first script at once, without proving anything
+# make run:     proves the program and all that it stands on, builds it, and runs the first script
+# make install: puts the proved program and its man page below PREFIX (default /usr/local; DESTDIR as usual)
+# make test:    every check (all proofs from nothing, must-fail edits, tests, stored runs); ends in 'N passed, M failed'
+# make fuzz:    random scripts on the built program and on a plain reading of the model in Python: CASES=n SEED=s
+# make bench:   times on large scripts and of single calls (docs/PROOFS.md has the figures)
+# How long each takes: README.md, "First minutes".
+PREFIX ?= /usr/local
+PROGRAM = crates/thpsplit/out/thpsplit
+SCRIPT = examples/first.script
+CASES ?= 2000
+SEED ?= 1
+
+.PHONY: try run install test fuzz bench
+
+try:
+	@cd crates/thpsplit && rt try < ../../$(SCRIPT)
 
 run:
-	@cd crates/thpsplit && rt run < ../../examples/first.script
+	@cd crates/thpsplit && rt run < ../../$(SCRIPT)
+
+install: run
+	install -D -m 755 $(PROGRAM) $(DESTDIR)$(PREFIX)/bin/thpsplit
+	install -D -m 644 docs/thpsplit.1 $(DESTDIR)$(PREFIX)/share/man/man1/thpsplit.1
 
 test:
 	@rt ci
+
+fuzz: run
+	@python3 tests/fuzz.py $(PROGRAM) --cases $(CASES) --seed $(SEED)
 
 bench:
 	@bash bench/run

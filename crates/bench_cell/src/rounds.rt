@@ -45,6 +45,7 @@ fn new_node(alloc: Global) -> Option<Node>
         Shape {
             blocks: 16,
             order: 9,
+            underused: None,
         },
     ) {
         Ok(node) => Some(node),

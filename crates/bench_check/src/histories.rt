@@ -6,6 +6,9 @@ use thp_model::{Event, Outcome, PageId, SubSet, What};
 // How many pages the churn takes at once.
 const BATCH: u64 = 8;
 
+// Of how many pages of a flight one is split or freed.
+const GONE: u32 = 16;
+
 // How many callers have the pages in batches.
 const CALLERS: usize = 32;
 
@@ -44,6 +47,20 @@ impl Writer {
         self.write(0, What::Alloc { page, block })?;
         self.write(0, What::SplitPmd { page })?;
         self.unmap(page, 0, 1, Outcome::Queued, SubSet::empty())
+    }
+
+    // The last mapping of a page that is mapped whole, and not split.
+    fn unmap_whole(&mut self, page: PageId) -> Result<(), AllocError> {
+        let outcome = Outcome::Freed;
+        let released = SubSet::full(9);
+        self.write(
+            0,
+            What::UnmapWhole {
+                outcome,
+                page,
+                released,
+            },
+        )
     }
 
     fn unmap(
@@ -110,6 +127,69 @@ fn retire(writer: &mut Writer, oldest: u64) -> Result<(), AllocError> {
     }
     for page in oldest..oldest.saturating_add(BATCH) {
         writer.unmap(PageId(page), 1, 511, Outcome::Freed, rest)?;
+    }
+    Ok(())
+}
+
+/// Pages are allocated on a node whose shrinker looks for underused ones, and filled with data; half of each second page is
+/// filled with zeros. Taken eight at a time, the second pages are split and the others found in use, and all are freed.
+pub(crate) fn underused(
+    alloc: Global,
+    blocks: u32,
+    count: usize,
+) -> Result<Vec<Event>, AllocError> {
+    let mut writer = Writer::new(alloc, count)?;
+    let live = u64::from(blocks);
+    for round in 0..u64::MAX / BATCH {
+        if writer.is_full() {
+            break;
+        }
+        let first = round * BATCH;
+        if first >= live {
+            retire_underused(&mut writer, first - live)?;
+        }
+        for place in 0..BATCH {
+            let page = PageId(first + place);
+            let block = block_of(page.0, blocks);
+            writer.write(0, What::Alloc { page, block })?;
+            fill(&mut writer, page)?;
+        }
+    }
+    Ok(writer.events)
+}
+
+// Data, and zeros where the page will be underused.
+fn fill(writer: &mut Writer, page: PageId) -> Result<(), AllocError> {
+    let first = 0;
+    let count = 512;
+    writer.write(0, What::Write { page, first, count })?;
+    if is_underused(page) {
+        let count = 256;
+        writer.write(0, What::Zero { page, first, count })?;
+    }
+    Ok(())
+}
+
+// Each second page is.
+fn is_underused(page: PageId) -> bool {
+    page.0 % 2 == 1
+}
+
+// A batch of the oldest pages, from this one on.
+fn retire_underused(writer: &mut Writer, oldest: u64) -> Result<(), AllocError> {
+    for page in oldest..oldest.saturating_add(BATCH) {
+        writer.write(0, What::Taken { page: PageId(page) })?;
+    }
+    for page in oldest..oldest.saturating_add(BATCH) {
+        let page = PageId(page);
+        if is_underused(page) {
+            let released = SubSet::range(0, 256);
+            writer.write(0, What::Split { page, released })?;
+            writer.unmap(page, 0, 512, Outcome::Freed, SubSet::range(256, 256))?;
+        } else {
+            writer.write(0, What::Used { page })?;
+            writer.unmap_whole(page)?;
+        }
     }
     Ok(())
 }
@@ -182,4 +262,68 @@ fn take_all(writer: &mut Writer, caller: u32, pages: &[PageId]) -> Result<(), Al
         writer.write(caller, What::Taken { page: *page })?;
     }
     Ok(())
+}
+
+/// Pages in all blocks are in the batch of one caller. It splits or frees some wherever they stand in its flight, with a new
+/// page in the place of each, puts the others back in order, and takes all again.
+pub(crate) fn one_caller(
+    alloc: Global,
+    blocks: u32,
+    count: usize,
+) -> Result<Vec<Event>, AllocError> {
+    let mut writer = Writer::new(alloc, count)?;
+    let pages = queued_everywhere(&mut writer, alloc, blocks)?;
+    take_all(&mut writer, 0, &pages)?;
+    let mut flight = Vec::with_capacity(alloc, blocks as usize)?;
+    for page in &pages {
+        flight.push((*page, block_of(page.0, blocks)))?;
+    }
+    let mut next = u64::from(blocks);
+    for _round in 0..u64::MAX {
+        if writer.is_full() {
+            break;
+        }
+        flight = put_back_most(&mut writer, alloc, &flight, &mut next)?;
+        for (page, _) in &flight {
+            writer.write(0, What::Taken { page: *page })?;
+        }
+    }
+    Ok(writer.events)
+}
+
+// One page of `GONE` leaves the flight, with a new page in its place, and the others go back to the queue. Answers the queue.
+fn put_back_most(
+    writer: &mut Writer,
+    alloc: Global,
+    flight: &[(PageId, u32)],
+    next: &mut u64,
+) -> Result<Vec<(PageId, u32)>, AllocError> {
+    let mut queue = Vec::with_capacity(alloc, flight.len())?;
+    let mut kept = Vec::with_capacity(alloc, flight.len())?;
+    for (page, block) in flight {
+        if scattered(page.0, GONE) == 0 {
+            leave_flight(writer, *page)?;
+            let new = PageId(*next);
+            *next = next.saturating_add(1);
+            writer.queue_page(new, *block)?;
+            queue.push((new, *block))?;
+        } else {
+            kept.push((*page, *block))?;
+        }
+    }
+    for (page, block) in &kept {
+        writer.write(0, What::Back { page: *page })?;
+        queue.push((*page, *block))?;
+    }
+    Ok(queue)
+}
+
+// A page of the flight is freed: an even one behind its split.
+fn leave_flight(writer: &mut Writer, page: PageId) -> Result<(), AllocError> {
+    if page.0 % 2 != 0 {
+        return writer.unmap(page, 1, 511, Outcome::Freed, SubSet::full(9));
+    }
+    let released = SubSet::range(0, 1);
+    writer.write(0, What::Split { page, released })?;
+    writer.unmap(page, 1, 511, Outcome::Freed, SubSet::range(1, 511))
 }

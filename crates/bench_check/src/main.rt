@@ -4,8 +4,6 @@
 //! each with what the check answered.
 #![tactic(auto)]
 
-ghost use Rattle.std.specs.Prelude.{◌<◌, ◌≤◌};
-
 mod histories;
 
 use anyhow::{Context, Result};
@@ -17,6 +15,9 @@ use thp_model::{Event, Shape};
 // The fewest blocks that are measured, and the most that a node has.
 const SIZES: [u32; 2] = [16, 4096];
 
+// More zero-filled subpages than these make a page underused, where the shrinker looks for that.
+const THRESHOLD: u32 = 100;
+
 fn main(rt: HostRuntime) -> Result<()> {
     let count = asked_events(&rt)?;
     for blocks in SIZES {
@@ -24,19 +25,36 @@ fn main(rt: HostRuntime) -> Result<()> {
             &rt,
             "churn",
             blocks,
+            None,
             &histories::churn(rt.alloc(), blocks, count)?,
         )?;
         time_check(
             &rt,
             "frees from the middle",
             blocks,
+            None,
             &histories::middle(rt.alloc(), blocks, count)?,
         )?;
         time_check(
             &rt,
             "batches of 32 callers",
             blocks,
+            None,
             &histories::batches(rt.alloc(), blocks, count)?,
+        )?;
+        time_check(
+            &rt,
+            "a batch of one caller",
+            blocks,
+            None,
+            &histories::one_caller(rt.alloc(), blocks, count)?,
+        )?;
+        time_check(
+            &rt,
+            "underused pages",
+            blocks,
+            Some(THRESHOLD),
+            &histories::underused(rt.alloc(), blocks, count)?,
         )?;
     }
     Ok(())
@@ -55,13 +73,16 @@ fn time_check<R: CpuClock + Eprint + AllocGlobal>(
     rt: &R,
     what: &str,
     blocks: u32,
+    underused: Option<u32>,
     events: &[Event],
-) -> Result<()>
-    requires some { 0 < blocks }
-    requires few { blocks ≤ 4096 }
-{
+) -> Result<()> {
     let start = rt.thread_cpu_time()?;
-    let answer = check(rt.alloc(), Shape { blocks, order: 9 }, events);
+    let shape = Shape {
+        blocks,
+        order: 9,
+        underused,
+    };
+    let answer = check(rt.alloc(), shape, events);
     let spent = rt.thread_cpu_time()?.saturating_sub(start);
     let nanos = spent.as_nanos() / events.len().max(1) as u128;
     let count = events.len();

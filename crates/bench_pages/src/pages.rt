@@ -42,6 +42,19 @@ pub(crate) fn time_range_of_split_page<R: CpuClock + Eprint>(
     watch.tell(rt, what, rounds, sum)
 }
 
+/// Writes data and then zeros to the first subpages of a page.
+pub(crate) fn time_writes<R: CpuClock + Eprint>(rt: &R, count: u32, rounds: u32) -> Result<()> {
+    let mut page = mapped_by_subpages();
+    let watch = Stopwatch::start(rt)?;
+    let mut sum = 0u64;
+    for _round in 0..rounds {
+        sum = sum.wrapping_add(u64::from(page.write(0, count).is_ok()));
+        sum = sum.wrapping_add(u64::from(page.zero(0, count).is_ok()));
+    }
+    let what = format_args!("write and zero of {count}");
+    watch.tell(rt, what, rounds, sum)
+}
+
 /// Makes a page and splits its mapping.
 pub(crate) fn time_split_pmd<R: CpuClock + Eprint>(rt: &R, rounds: u32) -> Result<()> {
     let watch = Stopwatch::start(rt)?;
@@ -82,6 +95,6 @@ fn split(page: &mut Page) -> SubSet {
     if page.is_split() || page.pins() > 0 {
         SubSet::empty()
     } else {
-        page.split()
+        page.split(false)
     }
 }

@@ -1,13 +1,15 @@
 //! What callers can conclude from the contracts of a cell with no proof of their own.
-ghost use Rattle.std.specs.Prelude.{◌≡◌, ◌≤◌, ◌++◌, [], ◌∷◌, Err, IfOk, OnOk};
+ghost use Rattle.std.specs.Prelude.{◌≡◌, ◌≤◌, ◌++◌, true, false, [], ◌∷◌, Err, IfOk, OnOk};
 ghost use Rattle.thp_model.specs.History.{by};
+ghost use Rattle.thp_model.specs.Underused.{shrinks_underused};
 ghost use Rattle.thp_cell.specs.Views.{HasCaller, HasAll};
 
 use thp_cell::{CellFault, NodeCell, Pass};
 use thp_model::{PageId, What};
 use thp_node::BackReply;
 
-/// The first page of a new cell, by the pass that has all callers, and how many pages are queued then.
+/// The first page of a new cell, by the pass that has all callers, and how many pages are queued then: it is queued where the
+/// shrinker looks for underused pages. No call is busy.
 #[tactic(auto, unfolding(thp_model::specs::History::count_of, thp_model::specs::Places::queue))]
 pub fn first_page(cell: &NodeCell, pass: &mut Pass, caller: u32) -> Result<(PageId, u32), CellFault>
     requires cell { pass.old.cell ≡ cell.now }
@@ -15,7 +17,8 @@ pub fn first_page(cell: &NodeCell, pass: &mut Pass, caller: u32) -> Result<(Page
     requires all { HasAll pass.old }
     requires new { pass.old.front ≡ [] }
     ensures page { IfOk result (λ r. r.0 ≡ 0) }
-    ensures count { IfOk result (λ r. r.1 ≡ 0) }
+    ensures off { shrinks_underused pass.old.shape ≡ false → IfOk result (λ r. r.1 ≡ 0) }
+    ensures on { shrinks_underused pass.old.shape ≡ true → IfOk result (λ r. r.1 ≡ 1) }
     ensures never_busy { result ≡ Err CellFault.Busy → ⊥ }
 {
     let page = cell.alloc_page(pass, caller)?;

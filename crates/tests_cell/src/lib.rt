@@ -14,3 +14,5 @@ mod rows;
 mod steps;
 #[cfg(test)]
 mod threads;
+#[cfg(test)]
+mod underused;

@@ -5,12 +5,13 @@ ghost use Rattle.thp_cell.specs.Views.{HasCaller};
 ghost use Rattle.thp_cell.specs.Calls.{at_front};
 
 use crate::steps::{
-    cell_of, count_is, pin_page, queue_page, return_pages, scan_pages, take_pages, try_page,
+    cell_of, count_is, pin_page, queue_page, return_pages, scan_pages, scanned, take_pages,
+    try_page,
 };
 use std::process::Abort;
 use thp_cell::{NodeCell, Pass};
 use thp_model::PageId;
-use thp_node::{Batch, ScanReply, Tried};
+use thp_node::{Batch, Tried};
 
 // Queues and pins the pages 0 to 127.
 fn queue_128(rt: &impl Abort, cell: &NodeCell, pass: &mut Pass)
@@ -56,13 +57,7 @@ fn batches_at_their_limit(rt: HostRuntime) {
     let (cell, mut pass) = cell_of(&rt, rt.alloc(), 128, 1);
     queue_128(&rt, &cell, &mut pass);
     batch_of_128(&rt, &cell, &mut pass);
-    let reply = ScanReply {
-        taken: 128,
-        split: 0,
-        pinned: 128,
-        back: 128,
-        dropped: 0,
-    };
+    let reply = scanned(128, 0, 128, 128, 0, 0);
     scan_pages(&rt, &cell, &mut pass, 0, 128, reply);
     count_is(&rt, &cell, &mut pass, 128);
     let node = cell.finish(pass);

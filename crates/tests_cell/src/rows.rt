@@ -6,13 +6,13 @@ ghost use Rattle.thp_cell.specs.Calls.{at_front};
 
 use crate::steps::{
     allocate, cell_of, count_is, freed, is_allocation, pin_page, queue_page, queued, refused,
-    return_pages, scan_pages, split_mapping, stays, take_pages, try_page, unmap,
+    return_pages, scan_pages, scanned, split_mapping, stays, take_pages, try_page, unmap,
 };
 use std::alloc::Global;
 use std::process::Abort;
 use thp_cell::{Busy, CellFault, Hold, NodeCell, Pass};
 use thp_model::{PageId, Refusal, Shape};
-use thp_node::{Batch, NewFault, Node, ScanReply, Tried};
+use thp_node::{Batch, NewFault, Node, Tried};
 
 // Takes the node for a hold, which nobody has.
 fn hold_node(rt: &impl Abort, cell: &NodeCell, pass: Pass) -> Hold
@@ -75,13 +75,7 @@ fn count_while_held(rt: HostRuntime) {
     let hold = hold_node(&rt, &cell, a);
     count_is(&rt, &cell, &mut b, 1);
     let mut a = cell.release(hold);
-    let reply = ScanReply {
-        taken: 1,
-        split: 1,
-        pinned: 0,
-        back: 0,
-        dropped: 0,
-    };
+    let reply = scanned(1, 1, 0, 0, 0, 0);
     scan_pages(&rt, &cell, &mut b, 1, 8, reply);
     count_is(&rt, &cell, &mut a, 0);
 }
@@ -91,6 +85,7 @@ fn fault_of(rt: &impl Abort, alloc: Global, callers: u32) -> Option<NewFault> {
     let shape = Shape {
         blocks: 16,
         order: 9,
+        underused: None,
     };
     let node = Node::new(alloc, shape).expect(rt, "a node");
     match NodeCell::new(alloc, node, callers) {

@@ -10,15 +10,45 @@ use thp_cell::{CellFault, NodeCell, Pass};
 use thp_model::{Event, Outcome, PageId, Refusal, Shape, SubSet, What};
 use thp_node::{BackReply, Batch, Done, Node, ScanReply, Tried};
 
-// A cell over a node of order 9 with these blocks, and the pass that has all its callers.
+// A cell over a node of this shape, and the pass that has all its callers.
+fn cell_with(rt: &impl Abort, alloc: Global, shape: Shape, callers: u32) -> (NodeCell, Pass)
+    ensures cell { result.1.cell ≡ result.0 }
+    ensures all { HasAll result.1 }
+    ensures callers { result.1.callers ≡ callers }
+    ensures few { callers ≤ 64 }
+{
+    let node = Node::new(alloc, shape).expect(rt, "a node of this shape");
+    NodeCell::new(alloc, node, callers).expect(rt, "a cell of these callers")
+}
+
+// The same over a node of order 9 with these blocks.
 pub(crate) fn cell_of(rt: &impl Abort, alloc: Global, blocks: u32, callers: u32) -> (NodeCell, Pass)
     ensures cell { result.1.cell ≡ result.0 }
     ensures all { HasAll result.1 }
     ensures callers { result.1.callers ≡ callers }
     ensures few { callers ≤ 64 }
 {
-    let node = Node::new(alloc, Shape { blocks, order: 9 }).expect(rt, "a node of this shape");
-    NodeCell::new(alloc, node, callers).expect(rt, "a cell of these callers")
+    let shape = Shape {
+        blocks,
+        order: 9,
+        underused: None,
+    };
+    cell_with(rt, alloc, shape, callers)
+}
+
+// The same over a node of order 2 with these blocks and one caller, whose shrinker splits pages of which more than one
+// subpage is zero-filled.
+pub(crate) fn small_cell_of(rt: &impl Abort, alloc: Global, blocks: u32) -> (NodeCell, Pass)
+    ensures cell { result.1.cell ≡ result.0 }
+    ensures all { HasAll result.1 }
+    ensures callers { result.1.callers ≡ 1 }
+{
+    let shape = Shape {
+        blocks,
+        order: 2,
+        underused: Some(1),
+    };
+    cell_with(rt, alloc, shape, 1)
 }
 
 pub(crate) fn done(outcome: Outcome, released: SubSet) -> Done {
@@ -36,6 +66,25 @@ pub(crate) fn stays() -> Done {
 // All frames of a page of order 9.
 pub(crate) fn freed() -> Done {
     done(Outcome::Freed, SubSet::full(9))
+}
+
+// What a scan answers, in the order of its parts.
+pub(crate) fn scanned(
+    taken: u32,
+    split: u32,
+    pinned: u32,
+    back: u32,
+    dropped: u32,
+    used: u32,
+) -> ScanReply {
+    ScanReply {
+        taken,
+        split,
+        pinned,
+        back,
+        dropped,
+        used,
+    }
 }
 
 pub(crate) fn refused<T>(refusal: Refusal) -> Result<T, CellFault> {
@@ -101,6 +150,24 @@ pub(crate) fn unmap(
     );
 }
 
+// Writes data to a range of a page.
+pub(crate) fn write_data(
+    rt: &impl Abort,
+    cell: &NodeCell,
+    pass: &mut Pass,
+    caller: u32,
+    page: PageId,
+    first: u32,
+    count: u32,
+)
+    requires cell { pass.old.cell ≡ cell.now }
+    requires caller { HasCaller pass.old caller }
+    ensures same { pass.new ≡ at_front pass.old pass.new.front }
+    ensures batches { BatchesStay pass.old pass.new }
+{
+    assert_eq!(rt; cell.write(pass, caller, page, first, count), Ok(()));
+}
+
 // Pins a page.
 pub(crate) fn pin_page(rt: &impl Abort, cell: &NodeCell, pass: &mut Pass, caller: u32, page: PageId)
     requires cell { pass.old.cell ≡ cell.now }
@@ -151,7 +218,7 @@ pub(crate) fn scan_pages(
     requires caller { HasCaller pass.old caller }
     requires count { n ≤ 128 }
     ensures same { pass.new ≡ at_front pass.old pass.new.front }
-    ensures batches { OtherBatchesStay caller pass.old pass.new }
+    ensures batches { BatchesStay pass.old pass.new }
 {
     assert_eq!(rt; cell.scan(pass, caller, n), Ok(answer));
 }

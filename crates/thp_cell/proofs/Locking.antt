@@ -39,7 +39,7 @@ module _ (n : ℕ) (s : Shape) where
   -- the lock step finds the bit clear and takes the node, or finds it set and changes nothing
   pub locks : (slots id : ℕ) (v : Knows) → v.has_node ≡ false → v.first < v.end → v.old_fronts ≡ [] → Allows (Kept n s) slots id (v, []) 0 (λ x. bit_or x 1) (Locked (step slots 0 1 0 none) (v, []))
   locks slots id v free live clean t r wide at small =
-      let q : ℕ = length (queue r.history) in
+      let q : ℕ = length (queue s r.history) in
       let out : ℕ = sum_by holding t.views in
       let x : ℕ = get_or t.words 0 0 in
       let is : x ≡ 2 * q + out = ap (λ l. get_or l 0 0) r.word in
@@ -93,7 +93,7 @@ module _ (n : ℕ) (s : Shape) where
   loaded t r id me w at free free' f e live mine =
       let v = me.0 in
       let x : ℕ = get_or t.words 0 0 in
-      let is : x ≡ 2 * length (queue r.history) + sum_by holding t.views = ap (λ l. get_or l 0 0) r.word in
+      let is : x ≡ 2 * length (queue s r.history) + sum_by holding t.views = ap (λ l. get_or l 0 0) r.word in
       let sum = sum_set holding t.views id v w at in
       let a : holding v ≡ 0 = ap (λ b. cond b 1 0) free in
       let c : holding w ≡ 0 = ap (λ b. cond b 1 0) free' in
@@ -106,11 +106,11 @@ module _ (n : ℕ) (s : Shape) where
   pub counts : (slots id : ℕ) (v : Knows) → v.has_node ≡ false → v.first < v.end → Allows (Kept n s) slots id (v, []) 0 (λ x. x) (Counted (step slots 0 0 0 none) (v, []))
   counts slots id v free live t r wide at small =
       let x : ℕ = get_or t.words 0 0 in
-      let is : x ≡ 2 * length (queue r.history) + sum_by holding t.views = ap (λ l. get_or l 0 0) r.word in
+      let is : x ≡ 2 * length (queue s r.history) + sum_by holding t.views = ap (λ l. get_or l 0 0) r.word in
       let was = (r.seats id v at).knows live in
       let few = r.home.one_at_most in
       let short = r.short in
-      let half : x / 2 ≡ length (queue r.history) = omega arith in (
+      let half : x / 2 ≡ length (queue s r.history) = omega arith in (
         seen v false r.history,
         keeps,
         tt,
@@ -121,7 +121,7 @@ module _ (n : ℕ) (s : Shape) where
           since = was.since;
           legal = subst (λ z. IsLegal z r.history) (sym was.shape) r.legal;
           callers = subst (λ (k : ℕ). AllBelow k r.history) (sym was.callers) (below_end 0 n r.history r.callers);
-          count = half;
+          count = half ∙ ap (λ (z : Shape). length (queue z r.history)) (sym was.shape);
           short = omega arith;
         },
       )

@@ -23,8 +23,8 @@ same_node x y e =
     ap (λ (z : ℕ × NodeState). z.1) p
 
 module _ (n : ℕ) (s : Shape) where
-  stores : (slots id : ℕ) (v : Knows) (node : NodeState) (new : ℕ) → v.has_node ≡ true → v.first < v.end → node.shape ≡ v.shape → IsLegal node.shape node.journal → length (queue node.journal) < 2 ^ 32
-      → new ≡ 2 * length (queue node.journal) → Adds v.first v.end v.front node.journal
+  stores : (slots id : ℕ) (v : Knows) (node : NodeState) (new : ℕ) → v.has_node ≡ true → v.first < v.end → node.shape ≡ v.shape → IsLegal node.shape node.journal → length (queue node.shape node.journal) < 2 ^ 32
+      → new ≡ 2 * length (queue node.shape node.journal) → Adds v.first v.end v.front node.journal
       → Allows (Kept n s) slots id (v, (0, node) ∷ []) 0 (λ _. new) (λ _. Stored (step slots 0 new 0 none) (v, (0, node) ∷ []) new)
   stores slots id v node new mine live shape legal short is adds t r wide at small =
       let was = (r.seats id v at).knows live in
@@ -35,12 +35,14 @@ module _ (n : ℕ) (s : Shape) where
       let w : Knows = seen v false node.journal in
       let sum = sum_set holding t.views id v w at in
       let now : sum_by holding (set t.views id w) ≡ 0 = omega arith in
-      let shape' : node.shape ≡ s = shape ∙ was.shape in (
+      let shape' : node.shape ≡ s = shape ∙ was.shape in
+      let short' : length (queue s node.journal) < 2 ^ 32 = subst (λ z. length (queue z node.journal) < 2 ^ 32) shape' short in
+      let is' : new ≡ 2 * length (queue s node.journal) = subst (λ z. new ≡ 2 * length (queue z node.journal)) shape' is in (
         w,
         gives,
         tt,
         reseated n s t r id v w node.journal (set t.words 0 new) (set t.homes 0 (some node)) at (inr (mine, subst (λ l. Adds v.first v.end l node.journal) (was.at_node mine) adds)) refl refl live
-            (subst (λ z. IsLegal z node.journal) shape' legal) short
+            (subst (λ z. IsLegal z node.journal) shape' legal) short'
             (ap (λ l. set l 0 new) r.word ∙ ap (λ (y : ℕ). y ∷ []) (omega arith))
             record {
               one_at_most = omega arith;
@@ -63,13 +65,13 @@ module _ (n : ℕ) (s : Shape) where
 
   -- the same, of a seat that is known by its parts: the node y is what its slot was read to have
   pub stores_at : (slots id : ℕ) (m : Sat) (node y : NodeState) (new : ℕ) → m.1 ≡ (0, node) ∷ [] → m.1 ≡ (0, y) ∷ [] → m.0.has_node ≡ true → m.0.first < m.0.end → node.shape ≡ m.0.shape
-      → IsLegal node.shape node.journal → Adds m.0.first m.0.end m.0.front node.journal → length (queue y.journal) < 2 ^ 32 → new ≡ 2 * length (queue y.journal)
+      → IsLegal node.shape node.journal → Adds m.0.first m.0.end m.0.front node.journal → length (queue y.shape y.journal) < 2 ^ 32 → new ≡ 2 * length (queue y.shape y.journal)
       → Allows (Kept n s) slots id (m.0, (0, y) ∷ rest m.1) 0 (λ _. new) (λ _. Stored (step slots 0 new 0 none) (m.0, (0, y) ∷ rest m.1) new)
   stores_at slots id m node y new out read mine live shape legal adds short word =
       let none_left : rest m.1 ≡ [] = ap rest out in
       let same : node ≡ y = same_node node y (sym out ∙ read) in
       subst (λ (l : List (ℕ × NodeState)). Allows (Kept n s) slots id (m.0, (0, y) ∷ l) 0 (λ _. new) (λ _. Stored (step slots 0 new 0 none) (m.0, (0, y) ∷ l) new)) (sym none_left)
-      (subst (λ (z : NodeState). length (queue z.journal) < 2 ^ 32 → new ≡ 2 * length (queue z.journal) → Allows (Kept n s) slots id (m.0, (0, z) ∷ []) 0 (λ _. new) (λ _. Stored (step slots 0 new 0 none) (m.0, (0, z) ∷ []) new)) same
+      (subst (λ (z : NodeState). length (queue z.shape z.journal) < 2 ^ 32 → new ≡ 2 * length (queue z.shape z.journal) → Allows (Kept n s) slots id (m.0, (0, z) ∷ []) 0 (λ _. new) (λ _. Stored (step slots 0 new 0 none) (m.0, (0, z) ∷ []) new)) same
       (λ few is. stores slots id m.0 node new mine live shape legal few is adds) short word)
 
 -- the seat is free after the store

@@ -53,8 +53,8 @@ abbrev pub serving : ℕ → Knows → ℕ
 serving c v = cond (nat_le v.first c && nat_lt c v.end) 1 0
 
 -- the word: twice the length of the queue, and the lock bit
-abbrev pub word_of : History → ℕ → ℕ
-word_of h bit = 2 * length (queue h) + bit
+abbrev pub word_of : Shape → History → ℕ → ℕ
+word_of s h bit = 2 * length (queue s h) + bit
 
 -- an old front that a join left in a seat: the history goes on from it with events of callers that weren't its own
 pub record FitsOld (h : History) (v : Knows) (o : OldFront) : Type 0 where
@@ -97,8 +97,8 @@ pub record Kept (n : ℕ) (s : Shape) (t : State NodeState Knows) : Type 0 where
   pub history : History
   pub legal : IsLegal s history
   pub callers : OnlyOf 0 n history
-  pub short : length (queue history) < 2 ^ 32
-  pub word : t.words ≡ word_of history (sum_by holding t.views) ∷ []
+  pub short : length (queue s history) < 2 ^ 32
+  pub word : t.words ≡ word_of s history (sum_by holding t.views) ∷ []
   pub home : Home (sum_by holding t.views) s history t.homes
   pub seats : (id : ℕ) (v : Knows) → get_elem? t.views id ≡ some v → FitsSeat n s history v
   pub one_seat : (c : ℕ) → c < n → sum_by (serving c) t.views ≡ 1

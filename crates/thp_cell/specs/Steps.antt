@@ -1,7 +1,7 @@
 -- What each kind of atomic step tells the seat that makes it. There are eight kinds: the making of the table and its first
 -- seat (`root`), the split of a seat, the join of two, the lock step that finds the bit clear or set, the store that ends a
 -- hold, the load after a join, and the load of a count.
-use Rattle.std.specs.Prelude.{◌≡◌, ◌≢◌, ℕ, ◌/◌, ◌%◌, ◌^◌, ◌<◌, ◌≤◌, Bool, true, false, nat_le, cond, [], ◌∷◌, length, All}
+use Rattle.std.specs.Prelude.{◌≡◌, ◌≢◌, ℕ, ◌/◌, ◌%◌, ◌^◌, ◌<◌, ◌≤◌, Bool, true, false, nat_le, cond, [], ◌∷◌, None, length, All}
 use Rattle.atomic_table.specs.Table.{Me, Step}
 use Rattle.thp_model.specs.History.{History}
 use Rattle.thp_model.specs.Legal.{IsLegal}
@@ -57,7 +57,7 @@ pub record Counted (st : Told) (m : Sat) (found : ℕ) (m' : Sat) : Type 0 where
   pub since : Since m.0.first m.0.end m.0.front front
   pub legal : IsLegal m.0.shape front
   pub callers : AllBelow m.0.callers front
-  pub count : found / 2 ≡ length (queue front)
+  pub count : found / 2 ≡ length (queue m.0.shape front)
   pub short : found / 2 < 2 ^ 32
 
 -- the load after a join: the front goes on from both old fronts, which are kept no longer, and the callers are the cell's
@@ -94,7 +94,7 @@ joined v w = record v {
 abbrev pub spent : Knows
 spent = record {
   callers = 0;
-  shape = record { blocks = 0; order = 0 };
+  shape = record { blocks = 0; order = 0; underused = None };
   first = 0;
   end = 0;
   has_node = false;

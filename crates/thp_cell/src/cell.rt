@@ -199,7 +199,7 @@ impl NodeCell {
     pub fn count(&self, pass: &mut Pass) -> u32
         requires { pass.old.cell ≡ self.now }
         ensures follows { Follows pass.old pass.new }
-        ensures count { result ≡ length (queue pass.new.front) }
+        ensures count { result ≡ length (queue pass.new.shape pass.new.front) }
     {
         let found = self.table.shared.load::<Count>(&mut pass.seat, 0);
         (found / 2) as u32
@@ -218,9 +218,9 @@ impl NodeCell {
         ensures parts { (c : ℕ) → events_of c result.journal ≡ part pass c }
         ensures callers { All (λ e. e.caller < pass.callers) result.journal }
         // the laws of every legal history that the headline tells, at this one
-        ensures oldest { TakesOldest result.journal }
-        ensures once { StandsOnce result.journal }
-        ensures whole { StandsWhole result.journal }
+        ensures oldest { TakesOldest result.shape result.journal }
+        ensures once { StandsOnce result.shape result.journal }
+        ensures whole { StandsWhole result.shape result.journal }
         ensures freed { LeavesFreedAlone result.journal }
         ensures closed { NothingEnters result.journal }
         ensures frames { HasFramesOnce result.shape result.journal }

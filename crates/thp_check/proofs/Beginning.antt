@@ -1,5 +1,5 @@
 -- A replay with no event yet, and after each event.
-use Rattle.std.proofs.Common.{◌≡◌, ℕ, ◌≤◌, false, [], ◌∷◌, ◌++◌, None, length, take, refl, ap, sym, ◌∙◌, arith}
+use Rattle.std.proofs.Common.{◌≡◌, ℕ, ◌≤◌, false, [], ◌∷◌, ◌++◌, Some, None, length, map, take, refl, ap, sym, ◌∙◌, arith}
 use Rattle.std.proofs.lemmas.List.{length-take}
 use Rattle.thp_model.specs.declared.events.Event.{Event}
 use Rattle.thp_model.specs.declared.shape.Shape.{Shape}
@@ -9,10 +9,11 @@ use Rattle.thp_model.specs.Places.{is_taking, takes_by}
 use Rattle.thp_model.proofs.FlightLaws.{flight_none}
 use Rattle.thp_model.proofs.Pushes.{is_taking_push}
 use Rattle.thp_page.specs.Slots.{slot_at}
-use Rattle.thp_node.proofs.JournalLemmas.{few_events}
-use Rattle.thp_node.proofs.Starting.{node_none}
+use Rattle.thp_places.specs.Homes.{block_of}
+use Rattle.thp_places.proofs.Starting.{few_events}
+use Rattle.thp_places.proofs.Starting.{node_none}
 use Rattle.thp_check.specs.declared.replay.Replay.{Replay}
-use Rattle.thp_check.specs.Flights.{pages_in}
+use Rattle.thp_check.specs.Flights.{FlightsState, blocks_in}
 use Rattle.thp_check.specs.Meanings.{Keeps, Means, is_taker}
 
 no_allocations : allocations [] ≡ 0
@@ -28,12 +29,14 @@ unfolding is_taking
 not_taking c = refl
 
 -- an empty replay means the empty history
-pub means_none : (s : Shape) (r : Replay) → length r.pages.table.slots ≡ s.blocks → r.pages.table.order ≡ s.order → ((b : ℕ) → slot_at r.pages.table b ≡ None) → r.pages.queue ≡ [] →
-    ((c : ℕ) → pages_in r.flights c ≡ []) → r.next ≡ 0 → r.closed ≡ false → r.taker ≡ None → Means s [] r
-means_none s r size order empty none fs next closed taker = record {
+pub means_none : (s : Shape) (r : Replay) → length r.places.table.slots ≡ s.blocks → r.places.table.order ≡ s.order → ((b : ℕ) → slot_at r.places.table b ≡ None) → r.places.queue ≡ [] →
+    ((c : ℕ) → blocks_in r.flights c ≡ []) → length r.flights.callers ≡ s.blocks → r.shape ≡ s → r.next ≡ 0 → r.closed ≡ false → r.taker ≡ None → Means s [] r
+means_none s r size order empty none fs room shape next closed taker = record {
   kept = record {
-    node = node_none s r.pages.table r.pages.queue size order empty none;
-    flying = λ c. fs c ∙ sym (flight_none c);
+    shape_is = shape;
+    node = node_none s r.places.table r.places.queue size order empty none;
+    flying = λ c. ap (map (block_of [])) (flight_none c) ∙ ap (map (λ b. Some b)) (sym (fs c));
+    room = room;
     next_is = next ∙ sym no_allocations;
     closed_is = closed ∙ sym not_closed;
   };
@@ -41,12 +44,14 @@ means_none s r size order empty none fs next closed taker = record {
 }
 
 -- a replay that notes whether the event was a take
-pub means_after : (s : Shape) (h : History) (e : Event) (r t : Replay) → Keeps s (h ++ e ∷ []) r → t.pages ≡ r.pages → t.flights ≡ r.flights → t.next ≡ r.next → t.closed ≡ r.closed →
+pub means_after : (s : Shape) (h : History) (e : Event) (r t : Replay) → Keeps s (h ++ e ∷ []) r → t.shape ≡ r.shape → t.places ≡ r.places → t.flights ≡ r.flights → t.next ≡ r.next → t.closed ≡ r.closed →
     ((c : ℕ) → takes_by c e.caller e.what ≡ is_taker t.taker c) → Means s (h ++ e ∷ []) t
-means_after s h e r t k pages fs next closed taker = record {
+means_after s h e r t k shape pages fs next closed taker = record {
   kept = record {
+    shape_is = shape ∙ k.shape_is;
     node = rw pages k.node;
-    flying = λ c. ap (λ ls. pages_in ls c) fs ∙ k.flying c;
+    flying = λ c. k.flying c ∙ ap (λ f. map (λ b. Some b) (blocks_in f c)) (sym fs);
+    room = ap (λ (f : FlightsState). length f.callers) fs ∙ k.room;
     next_is = next ∙ k.next_is;
     closed_is = closed ∙ k.closed_is;
   };

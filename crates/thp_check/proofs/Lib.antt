@@ -1,8 +1,6 @@
-pub mod PageUses
-pub mod Relinking
-pub mod Moving
-pub mod PairLists
+pub mod FlightLists
 pub mod PageEvents
+pub mod FlightBlocks
 pub mod Steps
 pub mod TakeSteps
 pub mod Beginning

@@ -1,171 +1,294 @@
 -- What a replay means after a take, a try, a put-back and a drop.
-use Rattle.std.proofs.Common.{◌≡◌, ◌≢◌, ℕ, ◌<◌, Bool, true, false, cond, nat_eq, ◌||◌, List, [], ◌∷◌, ◌++◌, Option, Some, map, refl, ap, ap₂, sym, ◌∙◌, subst, arith, inl, inr}
+use Rattle.std.proofs.Common.{◌≡◌, ◌≢◌, ℕ, ◌<◌, Bool, true, false, cond, not, nat_eq, ◌||◌, List, [], ◌∷◌, ◌++◌, Option, Some, length, map, Contains, refl, ap, ap₂, sym, ◌∙◌, subst, arith, inl, inr}
 use Rattle.std.specs.Prelude.{slice_get}
 use Rattle.thp_model.specs.declared.events.Event.{Event}
+use Rattle.thp_model.specs.declared.events.Outcome.{Outcome}
+use Rattle.thp_model.specs.declared.events.Outcome.TheVariants as outcome
 use Rattle.thp_model.specs.declared.events.What.{What}
 use Rattle.thp_model.specs.declared.events.What.TheVariants as what
 use Rattle.thp_model.specs.declared.shape.Shape.{Shape}
 use Rattle.thp_model.specs.History.{History, by}
-use Rattle.thp_model.specs.Counts.{is_live, pins}
-use Rattle.thp_model.specs.Legal.{Fits, FitsTaken, FitsSplit}
-use Rattle.thp_model.specs.Pages.{PageState, PageSplit, gives_frames}
+use Rattle.thp_model.specs.Counts.{is_live, is_closed, pins}
+use Rattle.thp_model.specs.Legal.{Fits, FitsTaken, FitsSplit, IsLegal, is_dropped}
+use Rattle.thp_model.specs.Pages.{PageState, PageSplit, gives_frames, is_worth}
 use Rattle.thp_model.specs.Places.{queue, flight, has_page, no_pages, is_taking}
+use Rattle.thp_model.specs.Underused.{is_partly_mapped, is_worth_split, shrinks_underused}
 use Rattle.thp_model.proofs.Flights.{flight_push}
+use Rattle.thp_model.proofs.OnePlace.{has_times}
 use Rattle.thp_model.proofs.PageOutcomes.{released_alive}
 use Rattle.thp_model.proofs.Pushes.{live_stays}
 use Rattle.thp_model.proofs.Standing.{first_has}
 use Rattle.thp_model.proofs.Tallying.{tallies_split, pins_is}
-use Rattle.thp_page.specs.declared.standing.Standing.TheVariants.{Nowhere, Queued}
-use Rattle.thp_page.specs.Slots.{slot_at, IsHeld}
+use Rattle.thp_page.specs.declared.standing.Standing.{Standing}
+use Rattle.thp_page.specs.declared.standing.Standing.TheVariants.{Nowhere, Queued, Batch}
+use Rattle.thp_page.specs.Slots.{slot_at, HoldsPage}
 use Rattle.thp_page.specs.Table.{Slot}
-use Rattle.thp_node.specs.BlocksState.{BlocksState, Edits, TakesFirst}
-use Rattle.thp_node.specs.Flying.{IsFlyingAt}
-use Rattle.thp_node.specs.Holding.{IsSlot}
-use Rattle.thp_node.specs.Homes.{block_of}
-use Rattle.thp_node.proofs.Admitting.{Found, found}
-use Rattle.thp_node.proofs.BatchRuns.{flies_not_there, flies_nowhere}
-use Rattle.thp_node.proofs.Homing.{Homed, legal_homed}
-use Rattle.thp_node.proofs.ListEvents.{first_is, taken_fits, taken_node, flying_live, flying_whole, split_fits, split_node, pinned_fits, pinned_node, back_node, dropped_node}
-use Rattle.thp_node.proofs.PageEvents.{slot_is}
+use Rattle.thp_places.specs.PlacesState.{AtSlot, PlacesState, Edits, IsElsewhere, Lost, TakesFirst, left_by}
+use Rattle.thp_places.specs.Flying.{IsFlyingAt}
+use Rattle.thp_places.specs.Holding.{IsSlot}
+use Rattle.thp_places.specs.Homes.{block_of, standing_of}
+use Rattle.thp_places.proofs.Admitting.{Found, found, not_live, flies_not_there, flies_nowhere}
+use Rattle.thp_places.proofs.Homing.{Homed, legal_homed, block_push}
+use Rattle.thp_places.proofs.Keeping.{blocks_same, blocks_pushed}
+use Rattle.thp_places.proofs.ListEvents.{first_is, taken_fits, taken_node, in_flight, flying_live, flying_whole, split_fits, split_node, pinned_fits, pinned_node, used_fits, used_node, back_fits, back_node, dropped_node}
+use Rattle.thp_places.proofs.Worth.{worth_is}
+use Rattle.thp_places.proofs.PageEvents.{slot_is}
+use Rattle.thp_places.proofs.Standings.{standing_queued, standing_flying}
+use Rattle.thp_places.specs.declared.page_call.Done.{Done}
+use Rattle.thp_places.specs.declared.page_call.Loss.{Loss}
 use Rattle.thp_check.specs.declared.replay.Replay.{Replay}
-use Rattle.thp_check.specs.Blocks.{IsElsewhere}
-use Rattle.thp_check.specs.Flights.{pages_in, flight_left}
+use Rattle.thp_check.specs.Flights.{blocks_in, flight_left}
 use Rattle.thp_check.specs.Meanings.{Keeps, Means, is_taker}
+use Rattle.thp_check.proofs.FlightBlocks.{LiesAlone, LieIn, block_there, page_there, first_block, first_page, none_there, unmoved, departed}
 use Rattle.thp_check.proofs.Steps.{goes_on}
 
 no_both : (z : Bool) → z ≡ false → z ≡ true → ⊥
 no_both z e f = cc
 
+neither : (a z : Bool) → (a || not z) ≡ false → (a ≡ false) × (z ≡ true)
+neither true z e = absurd (cc)
+neither false true e = (refl, refl)
+neither false false e = absurd (cc)
+
 -- whether a caller may take
-may_is : (s : Shape) (h : History) (c : ℕ) (old : Replay) → Means s h old → (no_pages (pages_in old.flights c) || is_taker old.taker c) ≡ (no_pages (flight h c) || is_taking h c)
-may_is s h c old m = ap₂ (λ ps t. no_pages ps || t) (m.kept.flying c) (sym (m.taking c))
+may_is : (s : Shape) (h : History) (c : ℕ) (old : Replay) → Means s h old → (no_pages (blocks_in old.flights c) || is_taker old.taker c) ≡ (no_pages (flight h c) || is_taking h c)
+may_is s h c old m = ap₂ (λ n t. n || t) (none_there h (flight h c) (blocks_in old.flights c) (m.kept.flying c)) (sym (m.taking c))
 
-pub take_goes : (s : Shape) (h : History) (c p : ℕ) (old new : Replay) → Means s h old → (no_pages (pages_in old.flights c) || is_taker old.taker c) ≡ true →
-    TakesFirst old.pages new.pages c p → ((d : ℕ) → pages_in new.flights d ≡ cond (nat_eq c d) (pages_in old.flights d ++ p ∷ []) (pages_in old.flights d)) → new.next ≡ old.next → new.closed ≡ old.closed →
-    FitsTaken h c p × Keeps s (h ++ by c (what.Taken p) ∷ []) new
-take_goes s h c p old new m may took fs next closed =
+-- a page that lies somewhere lies there alone
+alone : (s : Shape) (h : History) (p b : ℕ) → IsLegal s h → block_of h p ≡ Some b → LiesAlone h p b
+alone s h p b legal home = (home, λ r y. (legal_homed s h legal).once r p b y home)
+
+pub take_goes : (s : Shape) (h : History) (c p b : ℕ) (old new : Replay) → Means s h old → HoldsPage (slot_at old.places.table b) p → (no_pages (blocks_in old.flights c) || is_taker old.taker c) ≡ true →
+    TakesFirst old.places new.places c p → ((d : ℕ) → blocks_in new.flights d ≡ cond (nat_eq c d) (blocks_in old.flights d ++ b ∷ []) (blocks_in old.flights d)) →
+    length new.flights.callers ≡ length old.flights.callers → new.shape ≡ old.shape → new.next ≡ old.next → new.closed ≡ old.closed → FitsTaken s h c p × Keeps s (h ++ by c (what.Taken p) ∷ []) new
+take_goes s h c p b old new m held may took fs size shape next closed =
     let e : Event = by c (what.Taken p) in
+    let k : History = h ++ e ∷ [] in
     let homed : Homed s h = legal_homed s h m.kept.node.legal in
-    let fits : Fits s h e = taken_fits s h c old.pages new.pages p homed m.kept.node took (sym (may_is s h c old m) ∙ may) in (
-      fits,
-      goes_on s h e old new m (taken_node s h c old.pages new.pages p homed m.kept.node took fits) (λ d. fs d ∙ ap (λ ps. cond (nat_eq c d) (ps ++ p ∷ []) ps) (m.kept.flying d) ∙ sym (flight_push h d c (what.Taken p))) refl refl next closed,
-    )
+    let there : Found s h old.places.table p b = found s h old.places.table old.places.queue p b m.kept.node held in
+    let fits : Fits s h e = taken_fits s h c old.places new.places p homed m.kept.node took (sym (may_is s h c old m) ∙ may) in
+    let flown : (d : ℕ) → LieIn k (flight k d) (blocks_in new.flights d) =
+    λ d. ap (map (block_of k)) (flight_push h d c (what.Taken p)) ∙ blocks_same h k (cond (nat_eq c d) (flight h d ++ p ∷ []) (flight h d)) (λ r y. block_push h e r)
+    ∙ longer d (nat_eq c d) there.home ∙ ap (map (λ n. Some n)) (sym (fs d)) in
+    (fits, goes_on s h e old new m (taken_node s h c old.places new.places p homed m.kept.node took fits) flown size refl refl shape next closed) where
+      longer : (d : ℕ) (x : Bool) → block_of h p ≡ Some b → LieIn h (cond x (flight h d ++ p ∷ []) (flight h d)) (cond x (blocks_in old.flights d ++ b ∷ []) (blocks_in old.flights d))
+      longer d true home = blocks_pushed h (flight h d) (blocks_in old.flights d) p b (m.kept.flying d) home
+      longer d false home = m.kept.flying d
 
-pub take_busy : (s : Shape) (h : History) (c p : ℕ) (old : Replay) → Means s h old → (no_pages (pages_in old.flights c) || is_taker old.taker c) ≡ false → FitsTaken h c p → ⊥
+-- a block in which the oldest page lies is in no flight
+pub oldest_apart : (s : Shape) (h : History) (c p b : ℕ) (old : Replay) (new : PlacesState) → Means s h old → HoldsPage (slot_at old.places.table b) p → TakesFirst old.places new c p →
+    (d : ℕ) → Contains (blocks_in old.flights d) b → ⊥
+oldest_apart s h c p b old new m held took d i =
+    let homed : Homed s h = legal_homed s h m.kept.node.legal in
+    let there : Found s h old.places.table p b = found s h old.places.table old.places.queue p b m.kept.node held in
+    let w = page_there h (flight h d) (blocks_in old.flights d) b (m.kept.flying d) i in
+    let same : w.0 ≡ p = homed.once w.0 p b w.2 there.home in
+    let queued : standing_of s h p ≡ Queued = standing_queued s h p (first_has p (queue s h) (first_is s h c old.places new p homed m.kept.node took)) in
+    let flies : standing_of s h p ≡ Batch d = standing_flying s h p d homed.grown.sound (ap (λ r. has_page r (flight h d)) (sym same) ∙ w.1) in
+    cc
+
+-- the oldest page lies somewhere
+pub take_absent : (s : Shape) (h : History) (c p : ℕ) (old : Replay) → Means s h old → ((b : ℕ) → HoldsPage (slot_at old.places.table b) p → ⊥) → FitsTaken s h c p → ⊥
+take_absent s h c p old m none f =
+    no_both (is_live h p) (not_live s h old.places.table old.places.queue p m.kept.node none)
+    ((legal_homed s h m.kept.node.legal).grown.sound.live p (omega (arith, has_times p (queue s h) (first_has p (queue s h) f.oldest))))
+
+pub take_busy : (s : Shape) (h : History) (c p : ℕ) (old : Replay) → Means s h old → (no_pages (blocks_in old.flights c) || is_taker old.taker c) ≡ false → FitsTaken s h c p → ⊥
 take_busy s h c p old m may f = no_both _ (sym (may_is s h c old m) ∙ may) f.may_take
 
 pub same_slot : (x y : Slot) → Some x ≡ Some y → x ≡ y
 same_slot x y e = cc
 
-same_some : (a b : ℕ) → Some a ≡ Some b → a ≡ b
+pub same_some : (a b : ℕ) → Some a ≡ Some b → a ≡ b
 same_some a b e = cc
 
-pub take_other : (s : Shape) (h : History) (c p first : ℕ) (old : Replay) (new : BlocksState) → Means s h old → TakesFirst old.pages new c first → first ≢ p → FitsTaken h c p → ⊥
+pub take_other : (s : Shape) (h : History) (c p first : ℕ) (old : Replay) (new : PlacesState) → Means s h old → TakesFirst old.places new c first → first ≢ p → FitsTaken s h c p → ⊥
 take_other s h c p first old new m took other f =
-    other (same_some first p (sym (first_is s h c old.pages new first (legal_homed s h m.kept.node.legal) m.kept.node took) ∙ f.oldest))
+    other (same_some first p (sym (first_is s h c old.places new first (legal_homed s h m.kept.node.legal) m.kept.node took) ∙ f.oldest))
 
-pub take_none : (s : Shape) (h : History) (c p : ℕ) (old : Replay) → Means s h old → old.pages.queue ≡ [] → FitsTaken h c p → ⊥
-take_none s h c p old m none f = go (queue h) (m.kept.node.queue_is ∙ ap (map (λ b. Some b)) none) f.oldest where
-  go : (ps : List ℕ) → map (block_of h) ps ≡ [] → slice_get ps 0 ≡ Some p → ⊥
-  go [] e g = cc
-  go (x ∷ ps) e g = cc
+pub take_none : (s : Shape) (h : History) (c p : ℕ) (old : Replay) → Means s h old → length old.places.queue ≡ 0 → FitsTaken s h c p → ⊥
+take_none s h c p old m none f = go (queue s h) old.places.queue m.kept.node.queue_is none f.oldest where
+  go : (ps bs : List ℕ) → map (block_of h) ps ≡ map (λ b. Some b) bs → length bs ≡ 0 → slice_get ps 0 ≡ Some p → ⊥
+  go [] bs e n g = cc
+  go (x ∷ ps) [] e n g = cc
+  go (x ∷ ps) (b ∷ bs) e n g = omega (arith, n)
 
 -- a page that isn't in the caller's batch isn't in its flight
-pub elsewhere : (s : Shape) (h : History) (c p : ℕ) (old : Replay) → Means s h old → IsElsewhere old.pages.table c p → has_page p (flight h c) ≡ false
+pub elsewhere : (s : Shape) (h : History) (c p : ℕ) (old : Replay) → Means s h old → IsElsewhere old.places.table c p → has_page p (flight h c) ≡ false
 elsewhere s h c p old m e =
-    let t = old.pages.table in
-    let q = old.pages.queue in
+    let t = old.places.table in
+    let q = old.places.queue in
     elim e [
       | inl none ↦ flies_nowhere s h t q c p m.kept.node none
       | inr w ↦
-          let P : Option Slot → Type 0 = λ o. IsHeld o p in
+          let P : Option Slot → Type 0 = λ o. HoldsPage o p in
           let there : Found s h t p w.0 = found s h t q p w.0 m.kept.node (subst P (sym w.2) w.3) in
           flies_not_there s h t q c p w.0 m.kept.node there (λ y. w.4 (ap (λ (x : Slot). x.standing) (same_slot w.1 there.slot (sym w.2 ∙ there.at)) ∙ y))
     ]
 
-pub split_absent : (s : Shape) (h k : History) (c p : ℕ) (set : List Bool) (old : Replay) → Means s h old → IsElsewhere old.pages.table c p → FitsSplit s h k c p set → ⊥
+pub split_absent : (s : Shape) (h k : History) (c p : ℕ) (set : List Bool) (old : Replay) → Means s h old → IsElsewhere old.places.table c p → FitsSplit s h k c p set → ⊥
 split_absent s h k c p set old m e f = no_both _ (elsewhere s h c p old m e) f.in_flight
 
-pub pinned_absent : (s : Shape) (h : History) (c p : ℕ) (old : Replay) → Means s h old → IsElsewhere old.pages.table c p → has_page p (flight h c) ≡ true × (0 < pins h p) → ⊥
+pub pinned_absent : (s : Shape) (h : History) (c p : ℕ) (old : Replay) → Means s h old → IsElsewhere old.places.table c p → has_page p (flight h c) ≡ true × (0 < pins h p) × (is_worth_split s h p ≡ true) → ⊥
 pinned_absent s h c p old m e f = no_both _ (elsewhere s h c p old m e) f.0
 
+pub used_absent : (s : Shape) (h : History) (c p : ℕ) (old : Replay) → Means s h old → IsElsewhere old.places.table c p → has_page p (flight h c) ≡ true × (is_worth_split s h p ≡ false) → ⊥
+used_absent s h c p old m e f = no_both _ (elsewhere s h c p old m e) f.0
+
 -- the first page of a flight is in the caller's batch
-pub first_absent : (s : Shape) (h : History) (c p : ℕ) (old : Replay) → Means s h old → IsElsewhere old.pages.table c p → slice_get (flight h c) 0 ≡ Some p → ⊥
+pub first_absent : (s : Shape) (h : History) (c p : ℕ) (old : Replay) → Means s h old → IsElsewhere old.places.table c p → slice_get (flight h c) 0 ≡ Some p → ⊥
 first_absent s h c p old m e f = no_both _ (elsewhere s h c p old m e) (first_has p (flight h c) f)
 
-pub first_is_first : (s : Shape) (h : History) (c p : ℕ) (old : Replay) → Means s h old → slice_get (pages_in old.flights c) 0 ≡ slice_get (flight h c) 0
-first_is_first s h c p old m = ap (λ ps. slice_get ps 0) (m.kept.flying c)
-
-module _ (s : Shape) (h : History) (c p b : ℕ) (old : Replay) (m : Means s h old) (at : IsFlyingAt old.pages.table c p b) where
+module _ (s : Shape) (h : History) (c p b : ℕ) (old : Replay) (m : Means s h old) (at : IsFlyingAt old.places.table c p b) where
   homed : Homed s h
   homed = legal_homed s h m.kept.node.legal
 
   slot : IsSlot s h b at.slot
-  slot = slot_is s h old.pages.table old.pages.queue b at.slot m.kept.node at.at
+  slot = slot_is s h old.places.table old.places.queue b at.slot m.kept.node at.at
+
+  home : block_of h at.slot.id ≡ Some b
+  home = slot.home
+
+  -- its block is one of the flight's, the first where the page is
+  pub is_there : Contains (blocks_in old.flights c) b
+  is_there =
+      block_there h (flight h c) (blocks_in old.flights c) at.slot.id b (m.kept.flying c) (in_flight s h c b at.slot old.places old.places homed m.kept.node at.at at.stands) home
+
+  first_is_first : slice_get (blocks_in old.flights c) 0 ≡ Some b → slice_get (flight h c) 0 ≡ Some at.slot.id
+  first_is_first first = first_page h (flight h c) (blocks_in old.flights c) at.slot.id b (m.kept.flying c) (alone s h at.slot.id b m.kept.node.legal home) first
+
+  pub first_there : slice_get (flight h c) 0 ≡ Some p → slice_get (blocks_in old.flights c) 0 ≡ Some b
+  first_there first = first_block h (flight h c) (blocks_in old.flights c) p b (m.kept.flying c) (ap (block_of h) (sym at.id_is) ∙ home) first
 
   pinned_as : pins h p ≡ at.slot.page.pins
   pinned_as = ap (pins h) (sym at.id_is) ∙ pins_is s h at.slot.id at.slot.page slot.tallies
 
   -- a page in a batch isn't split
-  pub flies_whole : (y : Slot) → slot_at old.pages.table b ≡ Some y → y.page.split ≡ false
-  flies_whole y e = ap (λ (z : Slot). z.page.split) (same_slot y at.slot (sym e ∙ at.at)) ∙ flying_whole s h c b at.slot old.pages old.pages homed m.kept.node at.at at.stands
+  pub flies_whole : (y : Slot) → slot_at old.places.table b ≡ Some y → y.page.split ≡ false
+  flies_whole y e = ap (λ (z : Slot). z.page.split) (same_slot y at.slot (sym e ∙ at.at)) ∙ flying_whole s h c b at.slot old.places old.places homed m.kept.node at.at at.stands
 
   -- the flights once the page has left its batch
-  left : (w : What) (new : Replay) → ((d : ℕ) → pages_in new.flights d ≡ flight_left (Some c) p d (pages_in old.flights d)) →
-      ((d : ℕ) → flight (h ++ by c w ∷ []) d ≡ flight_left (Some c) at.slot.id d (flight h d)) → (d : ℕ) → pages_in new.flights d ≡ flight (h ++ by c w ∷ []) d
-  left w new fs is d = fs d ∙ ap₂ (λ q ps. flight_left (Some c) q d ps) (sym at.id_is) (m.kept.flying d) ∙ sym (is d)
+  left : (w : What) (new : Replay) → ((d : ℕ) → blocks_in new.flights d ≡ flight_left (Some c) b d (blocks_in old.flights d)) →
+      ((d : ℕ) → flight (h ++ by c w ∷ []) d ≡ flight_left (Some c) at.slot.id d (flight h d)) → ((r : ℕ) → block_of (h ++ by c w ∷ []) r ≡ block_of h r) →
+      (d : ℕ) → LieIn (h ++ by c w ∷ []) (flight (h ++ by c w ∷ []) d) (blocks_in new.flights d)
+  left w new fs is homes d =
+      departed h (h ++ by c w ∷ []) d at.slot.id b (Some c) (blocks_in old.flights d) (is d) (λ r y. homes r) (alone s h at.slot.id b m.kept.node.legal home) (m.kept.flying d)
+      ∙ ap (map (λ n. Some n)) (sym (fs d))
 
-  pub split_goes : (set : List Bool) (new : Replay) (page : PageState) → PageSplit at.slot.page page → at.slot.page.pins ≡ 0 → set ≡ gives_frames at.slot.page page →
-      Edits old.pages new.pages b (Some (record at.slot { page = page; standing = Nowhere })) old.pages.queue 0 → ((d : ℕ) → pages_in new.flights d ≡ flight_left (Some c) p d (pages_in old.flights d)) →
-      new.next ≡ old.next → new.closed ≡ old.closed → Fits s h (by c (what.Split p set)) × Keeps s (h ++ by c (what.Split p set) ∷ []) new
-  split_goes set new page how none is did fs next closed =
+  -- whether it is worth a split, and what a split does, by the shape
+  worth_at : (x : Bool) → is_worth old.shape.underused at.slot.page ≡ x → is_worth s.underused at.slot.page ≡ x
+  worth_at x e = ap (λ (z : Shape). is_worth z.underused at.slot.page) (sym m.kept.shape_is) ∙ e
+
+  worth_as : is_worth old.shape.underused at.slot.page ≡ is_worth_split s h p
+  worth_as = sym (worth_at _ refl) ∙ worth_is s h at.slot.id at.slot.page slot.tallies ∙ ap (is_worth_split s h) at.id_is
+
+  worthy : is_worth old.shape.underused at.slot.page ≡ true → is_worth_split s h p ≡ true
+  worthy e = sym worth_as ∙ e
+
+  worthless : is_worth old.shape.underused at.slot.page ≡ false → is_worth_split s h p ≡ false
+  worthless e = sym worth_as ∙ e
+
+  splits : (page : PageState) → PageSplit (shrinks_underused old.shape) at.slot.page page → PageSplit (shrinks_underused s) at.slot.page page
+  splits page how = let P : Shape → Type 0 = λ z. PageSplit (shrinks_underused z) at.slot.page page in subst P m.kept.shape_is how
+
+  pub split_goes : (set : List Bool) (new : Replay) (page : PageState) → PageSplit (shrinks_underused old.shape) at.slot.page page → is_worth old.shape.underused at.slot.page ≡ true → at.slot.page.pins ≡ 0 → set ≡ gives_frames at.slot.page page →
+      Edits old.places new.places b (Some (record at.slot { page = page; standing = Nowhere })) old.places.queue 0 → ((d : ℕ) → blocks_in new.flights d ≡ flight_left (Some c) b d (blocks_in old.flights d)) → length new.flights.callers ≡ length old.flights.callers →
+      new.shape ≡ old.shape → new.next ≡ old.next → new.closed ≡ old.closed → Fits s h (by c (what.Split p set)) × Keeps s (h ++ by c (what.Split p set) ∷ []) new
+  split_goes set new page how worth none is did fs size shape next closed =
       let e : Event = by c (what.Split at.slot.id set) in
-      let fits : Fits s h e = (split_fits s h c b at.slot old.pages new.pages homed m.kept.node at.at at.stands page set how none is).1 in
-      let node = split_node s h c b at.slot old.pages new.pages homed m.kept.node at.at at.stands page set how fits did in
+      let fits : Fits s h e = (split_fits s h c b at.slot old.places new.places homed m.kept.node at.at at.stands page set (splits page how) (worth_at true worth) none is).1 in
+      let node = split_node s h c b at.slot old.places new.places homed m.kept.node at.at at.stands page set (splits page how) fits did in
       let P : ℕ → Type 0 = λ q. Fits s h (by c (what.Split q set)) × Keeps s (h ++ by c (what.Split q set) ∷ []) new in
-      subst P at.id_is (fits, goes_on s h e old new m node (left (what.Split at.slot.id set) new fs (λ d. flight_push h d c (what.Split at.slot.id set))) refl refl next closed)
+      subst P at.id_is (fits, goes_on s h e old new m node (left (what.Split at.slot.id set) new fs (λ d. flight_push h d c (what.Split at.slot.id set)) (λ r. block_push h e r)) size refl refl shape next closed)
 
   -- where the event fits, it tells the frames that the split gives back
-  pub split_tells : (set : List Bool) (page : PageState) → PageSplit at.slot.page page → Fits s h (by c (what.Split p set)) → gives_frames at.slot.page page ≡ set
+  pub split_tells : (set : List Bool) (page : PageState) → PageSplit (shrinks_underused old.shape) at.slot.page page → Fits s h (by c (what.Split p set)) → gives_frames at.slot.page page ≡ set
   split_tells set page how f =
       let P : ℕ → Type 0 = λ q. FitsSplit s h (h ++ by c (what.Split q set) ∷ []) c q set in
       let told : P at.slot.id = subst P (sym at.id_is) f in
       let e : Event = by c (what.Split at.slot.id set) in
-      let live : is_live h at.slot.id ≡ true = flying_live s h c b at.slot old.pages old.pages homed m.kept.node at.at at.stands in
+      let live : is_live h at.slot.id ≡ true = flying_live s h c b at.slot old.places old.places homed m.kept.node at.at at.stands in
       sym
       (told.set_is
-      ∙ released_alive s h (h ++ e ∷ []) at.slot.id at.slot.page page slot.tallies (tallies_split s h c at.slot.id set at.slot.page page slot.tallies how) live (live_stays h e at.slot.id refl refl ∙ live))
+      ∙ released_alive s h (h ++ e ∷ []) at.slot.id at.slot.page page slot.tallies (tallies_split s h c at.slot.id set at.slot.page page slot.tallies (splits page how)) live (live_stays h e at.slot.id refl refl ∙ live))
 
   pub split_pinned : (set : List Bool) → at.slot.page.pins ≢ 0 → Fits s h (by c (what.Split p set)) → ⊥
   split_pinned set some f = some (sym pinned_as ∙ f.unpinned)
 
-  pub pinned_goes : at.slot.page.pins ≢ 0 → Fits s h (by c (what.Pinned p)) × Keeps s (h ++ by c (what.Pinned p) ∷ []) old
-  pinned_goes some =
+  pub split_idle : (set : List Bool) → is_worth old.shape.underused at.slot.page ≡ false → Fits s h (by c (what.Split p set)) → ⊥
+  split_idle set idle f = no_both _ (worthless idle) f.worth
+
+  pub pinned_goes : is_worth old.shape.underused at.slot.page ≡ true → at.slot.page.pins ≢ 0 → Fits s h (by c (what.Pinned p)) × Keeps s (h ++ by c (what.Pinned p) ∷ []) old
+  pinned_goes worth some =
       let e : Event = by c (what.Pinned at.slot.id) in
-      let fits : Fits s h e = (pinned_fits s h c b at.slot old.pages old.pages homed m.kept.node at.at at.stands at.slot.page.pins refl (omega (arith, some))).1 in
+      let fits : Fits s h e = (pinned_fits s h c b at.slot old.places old.places homed m.kept.node at.at at.stands at.slot.page.pins (worth_at true worth) refl (omega (arith, some))).1 in
       let P : ℕ → Type 0 = λ q. Fits s h (by c (what.Pinned q)) × Keeps s (h ++ by c (what.Pinned q) ∷ []) old in
       subst P at.id_is
-      (fits, goes_on s h e old old m (pinned_node s h c at.slot.id old.pages.table old.pages.queue m.kept.node fits) (λ d. m.kept.flying d ∙ sym (flight_push h d c e.what)) refl refl refl refl)
+      (fits, goes_on s h e old old m (pinned_node s h c at.slot.id old.places.table old.places.queue m.kept.node fits) (λ d. unmoved h (h ++ e ∷ []) d (blocks_in old.flights d) (flight_push h d c e.what) (λ r y. block_push h e r) (m.kept.flying d)) refl refl refl refl refl refl)
 
-  pub pinned_not : at.slot.page.pins ≡ 0 → has_page p (flight h c) ≡ true × (0 < pins h p) → ⊥
+  pub pinned_not : at.slot.page.pins ≡ 0 → has_page p (flight h c) ≡ true × (0 < pins h p) × (is_worth_split s h p ≡ true) → ⊥
   pinned_not none f = omega (arith, f.1, pinned_as, none)
 
-  pub back_goes : (new : Replay) → old.closed ≡ false → slice_get (pages_in old.flights c) 0 ≡ Some p →
-      Edits old.pages new.pages b (Some (record at.slot { standing = Queued })) (old.pages.queue ++ b ∷ []) 4 → ((d : ℕ) → pages_in new.flights d ≡ flight_left (Some c) p d (pages_in old.flights d)) → new.next ≡ old.next → new.closed ≡ old.closed →
+  pub pinned_idle : is_worth old.shape.underused at.slot.page ≡ false → has_page p (flight h c) ≡ true × (0 < pins h p) × (is_worth_split s h p ≡ true) → ⊥
+  pinned_idle idle f = no_both _ (worthless idle) f.2
+
+  pub used_goes : (new : Replay) → is_worth old.shape.underused at.slot.page ≡ false → Edits old.places new.places b (Some (record at.slot { standing = Nowhere })) old.places.queue 0 →
+      ((d : ℕ) → blocks_in new.flights d ≡ flight_left (Some c) b d (blocks_in old.flights d)) → length new.flights.callers ≡ length old.flights.callers → new.shape ≡ old.shape → new.next ≡ old.next → new.closed ≡ old.closed →
+      Fits s h (by c (what.Used p)) × Keeps s (h ++ by c (what.Used p) ∷ []) new
+  used_goes new idle did fs size shape next closed =
+      let e : Event = by c (what.Used at.slot.id) in
+      let fits : Fits s h e = (used_fits s h c b at.slot old.places old.places homed m.kept.node at.at at.stands (worth_at false idle)).1 in
+      let P : ℕ → Type 0 = λ q. Fits s h (by c (what.Used q)) × Keeps s (h ++ by c (what.Used q) ∷ []) new in
+      subst P at.id_is
+      (fits, goes_on s h e old new m (used_node s h c b at.slot old.places new.places homed m.kept.node at.at at.stands fits did) (left (what.Used at.slot.id) new fs (λ d. flight_push h d c (what.Used at.slot.id)) (λ r. block_push h e r)) size refl refl shape next closed)
+
+  pub used_not : is_worth old.shape.underused at.slot.page ≡ true → has_page p (flight h c) ≡ true × (is_worth_split s h p ≡ false) → ⊥
+  used_not worth f = no_both (is_worth_split s h p) f.1 (worthy worth)
+
+  -- it goes nowhere where the node is closed or the page isn't partly mapped
+  dropped_as : (old.closed || not at.slot.page.partly) ≡ is_dropped s h at.slot.id
+  dropped_as = ap₂ (λ a z. a || not z) m.kept.closed_is slot.tallies.partly
+
+  pub back_goes : (new : Replay) → (old.closed || not at.slot.page.partly) ≡ false → slice_get (blocks_in old.flights c) 0 ≡ Some b →
+      Edits old.places new.places b (Some (record at.slot { standing = Queued })) (old.places.queue ++ b ∷ []) 4 → ((d : ℕ) → blocks_in new.flights d ≡ flight_left (Some c) b d (blocks_in old.flights d)) → length new.flights.callers ≡ length old.flights.callers → new.shape ≡ old.shape → new.next ≡ old.next → new.closed ≡ old.closed →
       Fits s h (by c (what.Back p)) × Keeps s (h ++ by c (what.Back p) ∷ []) new
-  back_goes new unclosed first did fs next closed =
+  back_goes new stays first did fs size shape next closed =
       let e : Event = by c (what.Back at.slot.id) in
-      let fits : Fits s h e = (sym (first_is_first s h c p old m) ∙ first ∙ ap (λ (n : ℕ). Some n) (sym at.id_is), sym m.kept.closed_is ∙ unclosed) in
+      let parts = neither old.closed at.slot.page.partly stays in
+      let fits : Fits s h e = (back_fits s h c b at.slot old.places old.places homed m.kept.node at.at at.stands (first_is_first first) (sym m.kept.closed_is ∙ parts.0) parts.1).1 in
       let P : ℕ → Type 0 = λ q. Fits s h (by c (what.Back q)) × Keeps s (h ++ by c (what.Back q) ∷ []) new in
       subst P at.id_is
-      (fits, goes_on s h e old new m (back_node s h c b at.slot old.pages new.pages homed m.kept.node at.at at.stands fits did) (left (what.Back at.slot.id) new fs (λ d. flight_push h d c (what.Back at.slot.id))) refl refl next closed)
+      (fits, goes_on s h e old new m (back_node s h c b at.slot old.places new.places homed m.kept.node at.at at.stands fits did) (left (what.Back at.slot.id) new fs (λ d. flight_push h d c (what.Back at.slot.id)) (λ r. block_push h e r)) size refl refl shape next closed)
 
-  pub dropped_goes : (new : Replay) → old.closed ≡ true → slice_get (pages_in old.flights c) 0 ≡ Some p →
-      Edits old.pages new.pages b (Some (record at.slot { standing = Nowhere })) old.pages.queue 0 → ((d : ℕ) → pages_in new.flights d ≡ flight_left (Some c) p d (pages_in old.flights d)) → new.next ≡ old.next → new.closed ≡ old.closed →
+  pub back_dropped : (old.closed || not at.slot.page.partly) ≡ true → (slice_get (flight h c) 0 ≡ Some p) × (is_closed h ≡ false) × (is_partly_mapped s h p ≡ true) → ⊥
+  back_dropped out f =
+      no_both (is_dropped s h p) (ap₂ (λ a z. a || not z) f.1 f.2) (ap (is_dropped s h) (sym at.id_is) ∙ sym dropped_as ∙ out)
+
+  pub dropped_goes : (new : Replay) → (old.closed || not at.slot.page.partly) ≡ true → slice_get (blocks_in old.flights c) 0 ≡ Some b →
+      Edits old.places new.places b (Some (record at.slot { standing = Nowhere })) old.places.queue 0 → ((d : ℕ) → blocks_in new.flights d ≡ flight_left (Some c) b d (blocks_in old.flights d)) → length new.flights.callers ≡ length old.flights.callers → new.shape ≡ old.shape → new.next ≡ old.next → new.closed ≡ old.closed →
       Fits s h (by c (what.Dropped p)) × Keeps s (h ++ by c (what.Dropped p) ∷ []) new
-  dropped_goes new shut first did fs next closed =
+  dropped_goes new out first did fs size shape next closed =
       let e : Event = by c (what.Dropped at.slot.id) in
-      let fits : Fits s h e = (sym (first_is_first s h c p old m) ∙ first ∙ ap (λ (n : ℕ). Some n) (sym at.id_is), sym m.kept.closed_is ∙ shut) in
+      let fits : Fits s h e = (first_is_first first, sym dropped_as ∙ out) in
       let P : ℕ → Type 0 = λ q. Fits s h (by c (what.Dropped q)) × Keeps s (h ++ by c (what.Dropped q) ∷ []) new in
       subst P at.id_is
-      (fits, goes_on s h e old new m (dropped_node s h c b at.slot old.pages new.pages homed m.kept.node at.at at.stands fits did) (left (what.Dropped at.slot.id) new fs (λ d. flight_push h d c (what.Dropped at.slot.id))) refl refl next closed)
+      (fits, goes_on s h e old new m (dropped_node s h c b at.slot old.places new.places homed m.kept.node at.at at.stands fits did) (left (what.Dropped at.slot.id) new fs (λ d. flight_push h d c (what.Dropped at.slot.id)) (λ r. block_push h e r)) size refl refl shape next closed)
+
+  pub dropped_not : (old.closed || not at.slot.page.partly) ≡ false → (slice_get (flight h c) 0 ≡ Some p) × (is_dropped s h p ≡ true) → ⊥
+  dropped_not stays f = no_both (is_dropped s h p) (ap (is_dropped s h) (sym at.id_is) ∙ sym dropped_as ∙ stays) f.1
+
+-- the caller whose batch a page leaves by a loss is the one in whose batch it stands
+leaver_is : (o : Outcome) (w : Standing) (d : ℕ) → left_by o w ≡ Some d → w ≡ Batch d
+leaver_is outcome.Freed Nowhere d e = absurd (cc)
+leaver_is outcome.Freed Queued d e = absurd (cc)
+leaver_is outcome.Freed (Batch c) d e = ap (λ n. Batch n) (same_some c d e)
+leaver_is outcome.Queued w d e = absurd (cc)
+leaver_is outcome.Stays w d e = absurd (cc)
+
+-- the block of a page that leaves a batch by a loss is one of the flight's
+pub lost_there : (s : Shape) (h : History) (p b : ℕ) (old : Replay) → Means s h old → HoldsPage (slot_at old.places.table b) p → (l : Loss) (new : PlacesState) (done : Done) (left : Option ℕ) →
+    AtSlot old.places.table b (λ x. Lost l old.closed x old.places new b done left) → (d : ℕ) → left ≡ Some d → Contains (blocks_in old.flights d) b
+lost_there s h p b old m held l new done left lost d e =
+    let there : Found s h old.places.table p b = found s h old.places.table old.places.queue p b m.kept.node held in
+    let stands : there.slot.standing ≡ Batch d = leaver_is done.outcome there.slot.standing d (sym (lost there.slot there.at).left_is ∙ e) in
+    is_there s h d p b old m (record { slot = there.slot; at = there.at; id_is = there.id_is; stands = stands })

@@ -1,17 +1,33 @@
 -- What contracts see of the flights of a replay. No public clause cites this module.
-use Rattle.std.specs.Prelude.{ℕ, ◌%◌, cond, nat_eq, List, [], map, slice_index_or, Option, Some, None}
-use Rattle.std.specs.List.{filter}
-use Rattle.thp_model.specs.Places.{without}
+use Rattle.std.specs.Prelude.{◌≡◌, ℕ, ◌%◌, cond, nat_eq, List, [], length, slice_index_or, Option, Some, None}
+use Rattle.std.specs.List.{filter, Contains}
+use Rattle.thp_links.specs.declared.link.Link.{Link}
+use Rattle.thp_links.specs.Indices.{without}
+use Rattle.thp_links.specs.Standing.{Stands}
 
--- the pages of caller c among pairs of a caller and a page
-abbrev pub pages_of : List (ℕ × ℕ) → ℕ → List ℕ
-pages_of fs c = map (λ (f : ℕ × ℕ). f.1) (filter (λ (f : ℕ × ℕ). nat_eq f.0 c) fs)
+-- the caller of each block, and 64 lists of blocks by caller
+pub record FlightsState : Type 0 where
+  pub callers : List ℕ
+  pub lists : List (List ℕ)
 
--- the pages of caller c in 64 lists by caller
-abbrev pub pages_in : List (List (ℕ × ℕ)) → ℕ → List ℕ
-pages_in ls c = pages_of (slice_index_or ls (c % 64) []) c
+abbrev pub caller_at : List ℕ → ℕ → ℕ
+caller_at cs b = slice_index_or cs b 0
 
--- the flight of caller d once page p has left that of this caller, if there is one
+abbrev pub list_at : List (List ℕ) → ℕ → List ℕ
+list_at ls k = slice_index_or ls k []
+
+-- the blocks of the pages that caller c has in flight, in the order of taking
+unfoldable pub blocks_in : FlightsState → ℕ → List ℕ
+blocks_in f c = filter (λ b. nat_eq (caller_at f.callers b) c) (list_at f.lists (c % 64))
+
+-- the flight of caller d once block b, or page b, has left that of this caller, if there is one
 abbrev pub flight_left : Option ℕ → ℕ → ℕ → List ℕ → List ℕ
-flight_left None p d ps = ps
-flight_left (Some c) p d ps = cond (nat_eq c d) (without p ps) ps
+flight_left None b d bs = bs
+flight_left (Some c) b d bs = cond (nat_eq c d) (without b bs) bs
+
+-- the lists stand in the links, each with blocks of its own callers alone
+pub record AreLinked (callers : List ℕ) (lists : List (List ℕ)) (ls : List Link) : Type 0 where
+  pub sizes : length callers ≡ length ls
+  pub count : length lists ≡ 64
+  pub each_stands : (k : ℕ) → Stands (list_at lists k) ls
+  pub own : (k b : ℕ) → Contains (list_at lists k) b → caller_at callers b % 64 ≡ k

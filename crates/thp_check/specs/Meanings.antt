@@ -1,5 +1,5 @@
 -- What the state of a replay means: it is that of the history replayed so far. No public clause cites this module.
-use Rattle.std.specs.Prelude.{◌≡◌, ℕ, Bool, false, nat_eq, [], ◌∷◌, ◌++◌, Option, Some, None, MatchBool}
+use Rattle.std.specs.Prelude.{◌≡◌, ◌≢◌, ℕ, Bool, false, nat_eq, [], ◌∷◌, ◌++◌, length, map, slice_get, Option, Some, None, MatchBool}
 use Rattle.thp_model.specs.declared.events.Event.{Event}
 use Rattle.thp_model.specs.declared.events.What.{What}
 use Rattle.thp_model.specs.declared.shape.Shape.{Shape}
@@ -7,14 +7,18 @@ use Rattle.thp_model.specs.History.{History, by}
 use Rattle.thp_model.specs.Counts.{allocations, is_closed}
 use Rattle.thp_model.specs.Places.{flight, is_taking}
 use Rattle.thp_model.specs.Legal.{Fits}
-use Rattle.thp_node.specs.Holding.{IsNode}
-use Rattle.thp_check.specs.Flights.{pages_in}
+use Rattle.thp_places.specs.Holding.{IsNode}
+use Rattle.thp_places.specs.Homes.{block_of}
+use Rattle.thp_check.specs.Flights.{blocks_in}
 use Rattle.thp_check.specs.declared.replay.Replay.{Replay}
 
--- the pages, the queue, the flights and the numbers of a replay are those of the history, which is legal
+-- the pages, the queue, the flights and the numbers of a replay are those of the history, which is legal; a flight's blocks
+-- are those of its pages in order
 pub record Keeps (s : Shape) (h : History) (r : Replay) : Type 0 where
-  pub node : IsNode s h r.pages.table r.pages.queue
-  pub flying : (c : ℕ) → pages_in r.flights c ≡ flight h c
+  pub shape_is : r.shape ≡ s
+  pub node : IsNode s h r.places.table r.places.queue
+  pub flying : (c : ℕ) → map (block_of h) (flight h c) ≡ map (λ b. Some b) (blocks_in r.flights c)
+  pub room : length r.flights.callers ≡ s.blocks
   pub next_is : r.next ≡ allocations h
   pub closed_is : r.closed ≡ is_closed h
 
@@ -42,3 +46,7 @@ pub record IsKnown (r : Replay) : Type 0 where
   pub shape : Shape
   pub history : History
   pub means : Means shape history r
+
+-- page p is first in the flight of caller c at no history that the replay may mean
+abbrev pub IsNeverFirst : Replay → ℕ → ℕ → Type 0
+IsNeverFirst r c p = (s : Shape) (h : History) → Means s h r → slice_get (flight h c) 0 ≢ Some p

@@ -1,7 +1,6 @@
 //! The check of a whole history.
-ghost use Rattle.std.specs.Prelude.{OnOk, IfErr};
+ghost use Rattle.std.specs.Prelude.{◌≤◌, OnOk, IfErr};
 ghost use Rattle.thp_model.specs.Legal.{IsLegal};
-ghost use Rattle.thp_model.specs.Shapes.{IsShape};
 ghost use Rattle.thp_check.specs.Answers.{Tells};
 
 use crate::replay::Replay;
@@ -18,13 +17,16 @@ pub enum CheckFault {
 }
 
 /// Whether a history is legal on a node of this shape: whether each of its events fits those before it, by the rules of
-/// this project's profile (`thp_model`, `IsLegal`). Fails with `Illegal` at the first that doesn't, and with `OutOfMemory`
-/// where the memory for the pages and flights of the replay is refused.
+/// this project's profile (`thp_model`, `IsLegal`). The node may have any number of blocks, pages of order 2 to 9, and any
+/// threshold. Fails with `Illegal` at the first event that doesn't fit, and with `OutOfMemory` where the memory for the pages
+/// and flights of the replay is refused.
 ///
-/// It takes one pass. What it does for an event is bounded by the node's size, however long the history is, and so is the
-/// memory that it takes.
+/// It takes one pass, and all its memory before the first event, however long the history is. An event takes no more work
+/// where more pages are queued or in flight, but that the first page of a caller is looked for behind those of callers that
+/// are the same in their low six bits.
 pub fn check(alloc: Global, shape: Shape, events: &[Event]) -> Result<(), CheckFault>
-    requires { IsShape shape }
+    requires least { 2 ≤ shape.order }
+    requires most { shape.order ≤ 9 }
     ensures legal { OnOk result (IsLegal shape events.now) }
     ensures illegal { IfErr result (Tells shape events.now) }
 {
@@ -33,10 +35,8 @@ pub fn check(alloc: Global, shape: Shape, events: &[Event]) -> Result<(), CheckF
         Err(_) => return Err(CheckFault::OutOfMemory),
     };
     for (place, event) in events.iter().enumerate() {
-        match replay.admit(event) {
-            Ok(true) => {}
-            Ok(false) => return Err(CheckFault::Illegal { place }),
-            Err(_) => return Err(CheckFault::OutOfMemory),
+        if !replay.admit(event) {
+            return Err(CheckFault::Illegal { place });
         }
     }
     Ok(())

@@ -1,78 +1,104 @@
-//! The pages that callers took from the queue and that are still in their batches.
-ghost use Rattle.std.specs.Prelude.{◌≡◌, ◌<◌, ◌%◌, ℕ, [], ◌∷◌, ◌++◌, cond, nat_eq, slice_get, IfOk, OnOk, Some, IsTrue, ◌↔◌};
-ghost use Rattle.thp_check.specs.Flights.{pages_in, flight_left};
+//! The pages that callers took from the queue and that are still in their batches, by block.
+ghost use Rattle.std.specs.Prelude.{◌≡◌, ◌<◌, ◌%◌, ℕ, [], ◌∷◌, ◌++◌, cond, nat_eq, length, slice_get, IfOk, Some, IsTrue, ◌↔◌, Contains};
+ghost use Rattle.std.specs.Option.{ForSome};
+ghost use Rattle.thp_check.specs.Flights.{blocks_in, flight_left};
 
-use crate::entries::Entries;
+use crate::links::Links;
 use std::alloc::{AllocError, Global};
 use std::marker::Model;
-use thp_model::PageId;
+use thp_links::Queue;
 
-// How many lists there are. A node has as many callers, so its callers have a list each; other histories may have more.
+// How many lists there are. A node has as many callers, so its callers have a list each; those of other histories may share
+// one.
 const LISTS: u32 = 64;
 
-// The pages in flight, in lists by the low bits of the caller.
+// The blocks of the pages in flight, in lists by the low bits of the caller, each in the order of taking.
 #[derive(Drop)]
 pub(crate) struct Flights {
-    lists: Vec<Entries>,
+    // The caller of each block that is in a list; of another it may be any.
+    callers: Vec<u32>,
+    lists: Vec<Queue>,
+    links: Links,
 }
 
 impl Model for Flights {
-    ghost use Rattle.std.specs.Prelude.{◌≡◌, ℕ, List, length};
+    ghost use Rattle.thp_check.specs.Flights.{FlightsState, AreLinked};
 
-    ghost Value = { List (List (ℕ × ℕ)) };
+    ghost Value = { FlightsState };
 
-    ghost view = { λ f. f.lists.items };
+    ghost view = { λ f. record { callers = f.callers.items; lists = f.lists.items } };
 
-    ghost invariant = { λ f. length f.lists.items ≡ 64 };
+    ghost invariant = { λ f. AreLinked f.callers.items f.lists.items f.links.pairs.items };
 }
 
 impl Flights {
-    // No page in flight.
-    pub(crate) fn new(alloc: Global) -> Result<Flights, AllocError>
-        ensures { IfOk result (λ f. (c : ℕ) → pages_in f c ≡ []) }
+    // No page in flight, on a node of so many blocks. It takes all memory that the flights will need.
+    pub(crate) fn new(alloc: Global, blocks: u32) -> Result<Flights, AllocError>
+        ensures empty { IfOk result (λ f. (c : ℕ) → blocks_in f c ≡ []) }
+        ensures size { IfOk result (λ f. length f.callers ≡ blocks) }
     {
         let mut lists = Vec::with_capacity(alloc, LISTS as usize)?;
         for _list in 0..LISTS {
-            lists.push(Entries::new(alloc))?;
+            lists.push(Queue::new())?;
         }
-        Ok(Flights { lists })
+        Ok(Flights {
+            callers: vec![in alloc; 0; blocks as usize]?,
+            lists,
+            links: Links::new(alloc, blocks)?,
+        })
     }
 
-    // The first page of a caller's flight.
-    pub(crate) fn first_of(&self, caller: u32) -> Option<PageId>
-        ensures { result ≡ slice_get (pages_in self.now caller) 0 }
+    // The block of the first page of a caller's flight. Only pages of other callers of the same list are passed on the way.
+    pub(crate) fn first_of(&self, caller: u32) -> Option<u32>
+        ensures { result ≡ slice_get (blocks_in self.now caller) 0 }
     {
-        self.lists[list_of(caller)].first_of(caller)
+        let list = &self.lists[list_of(caller)];
+        let mut block = list.front()?;
+        for _place in 0..list.len() {
+            if self.callers[block as usize] == caller {
+                return Some(block);
+            }
+            block = self.links.next(block);
+        }
+        None
     }
 
-    // Whether a page is the first of a caller's flight.
-    pub(crate) fn is_first(&self, caller: u32, page: PageId) -> bool
-        ensures { IsTrue result ↔ (slice_get (pages_in self.now caller) 0 ≡ Some page) }
+    // Whether the page of a block is the first of a caller's flight.
+    pub(crate) fn is_first(&self, caller: u32, block: u32) -> bool
+        ensures { IsTrue result ↔ (slice_get (blocks_in self.now caller) 0 ≡ Some block) }
     {
         match self.first_of(caller) {
-            Some(first) => first == page,
+            Some(first) => first == block,
             None => false,
         }
     }
 
-    // Puts a page at the end of a caller's flight.
-    pub(crate) fn join(&mut self, caller: u32, page: PageId) -> Result<(), AllocError>
-        ensures { OnOk result ((c : ℕ) → pages_in self.new c ≡ cond (nat_eq caller c) (pages_in self.old c ++ page ∷ []) (pages_in self.old c)) }
+    // Puts the page of a block, which is in no flight, at the end of a caller's.
+    pub(crate) fn join(&mut self, caller: u32, block: u32)
+        requires inside { block < length self.old.callers }
+        requires absent { (c : ℕ) → Contains (blocks_in self.old c) block → ⊥ }
+        ensures joined { (c : ℕ) → blocks_in self.new c ≡ cond (nat_eq caller c) (blocks_in self.old c ++ block ∷ []) (blocks_in self.old c) }
+        ensures size { length self.new.callers ≡ length self.old.callers }
     {
-        self.lists[list_of(caller)].join(caller, page)
+        self.callers[block as usize] = caller;
+        let list = &mut self.lists[list_of(caller)];
+        list.push_back(&mut self.links, block);
     }
 
-    // Takes a page out of the flight of this caller, if there is one.
-    pub(crate) fn leave(&mut self, caller: Option<u32>, page: PageId)
-        ensures { (c : ℕ) → pages_in self.new c ≡ flight_left caller page c (pages_in self.old c) }
+    // Takes the page of a block out of the flight of this caller, if there is one.
+    pub(crate) fn leave(&mut self, caller: Option<u32>, block: u32)
+        requires { ForSome caller (λ c. Contains (blocks_in self.old c) block) }
+        ensures left { (c : ℕ) → blocks_in self.new c ≡ flight_left caller block c (blocks_in self.old c) }
+        ensures size { length self.new.callers ≡ length self.old.callers }
     {
         if let Some(caller) = caller {
-            self.lists[list_of(caller)].leave(caller, page);
+            let list = &mut self.lists[list_of(caller)];
+            list.remove(&mut self.links, block);
         }
     }
 }
 
-// The list in which a caller's pages are.
+// The list in which the pages of a caller are.
 fn list_of(caller: u32) -> usize
     ensures value { result ≡ caller % 64 }
     ensures inside { result < 64 }

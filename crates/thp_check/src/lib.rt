@@ -5,12 +5,8 @@
 #![tactic(auto)]
 
 mod checking;
-mod entries;
 mod flights;
-mod page_call;
-mod pages;
+mod links;
 mod replay;
-#[cfg(test)]
-mod tests;
 
 pub use checking::{CheckFault, check};

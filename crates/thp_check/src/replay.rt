@@ -1,22 +1,24 @@
 //! A replay of a history: what a node would hold after the events so far.
-ghost use Rattle.std.specs.Prelude.{◌≡◌, ◌<◌, ◌+◌, ◌^◌, ℕ, [], ◌||◌, IfOk, IsTrue, ◌↔◌};
-ghost use Rattle.thp_model.specs.Shapes.{IsShape};
+ghost use Rattle.std.specs.Prelude.{◌≡◌, ◌<◌, ◌≤◌, ◌+◌, ◌^◌, ℕ, [], ◌||◌, not, slice_get, Some, IfNone, IfOk, IfSome, IsSome, IsTrue, ◌↔◌};
+ghost use Rattle.thp_model.specs.Pages.{is_worth};
 ghost use Rattle.thp_model.specs.Places.{no_pages, takes_by};
-ghost use Rattle.thp_check.specs.Flights.{pages_in};
+ghost use Rattle.thp_page.specs.Slots.{slot_at};
+ghost use Rattle.thp_places.specs.Flying.{IsFlyingAt};
+ghost use Rattle.thp_places.specs.PageCalls.{gain_what, loss_what};
+ghost use Rattle.thp_places.specs.PlacesState.{AtSlot};
+ghost use Rattle.thp_check.specs.Flights.{blocks_in};
 ghost use Rattle.thp_check.specs.Meanings.{is_taker};
-ghost use Rattle.thp_check.specs.PageCalls.{gain_what, loss_what};
 
 use crate::flights::Flights;
-use crate::page_call::{Gain, Loss};
-use crate::pages::Pages;
 use std::alloc::{AllocError, Global};
 use thp_model::{Event, Outcome, PageId, Shape, SubSet, What};
-use thp_node::Done;
+use thp_places::{Done, Gain, Loss, PageCall, Places};
 
 // The state after the events so far. Once an event didn't fit it may be any.
 #[derive(Drop)]
 pub(crate) struct Replay {
-    pages: Pages,
+    shape: Shape,
+    places: Places,
     flights: Flights,
     // how many pages were allocated: the next page's number
     next: u64,
@@ -26,17 +28,19 @@ pub(crate) struct Replay {
 }
 
 impl Replay {
-    ghost use Rattle.thp_check.specs.Meanings.{Means, IsKnown, Follows, Admits};
+    ghost use Rattle.thp_check.specs.Meanings.{Means, IsKnown, IsNeverFirst, Follows, Admits};
 
     // The state before any event.
     pub(crate) fn new(alloc: Global, shape: Shape) -> Result<Replay, AllocError>
-        requires { IsShape shape }
+        requires least { 2 ≤ shape.order }
+        requires most { shape.order ≤ 9 }
         ensures { IfOk result (Means shape []) }
     {
-        let pages = Pages::new(alloc, shape)?;
-        let flights = Flights::new(alloc)?;
+        let places = Places::new(alloc, shape)?;
+        let flights = Flights::new(alloc, shape.blocks)?;
         Ok(Replay {
-            pages,
+            shape,
+            places,
             flights,
             next: 0,
             closed: false,
@@ -45,57 +49,54 @@ impl Replay {
     }
 
     // Whether an event fits, and the state after it where it does.
-    pub(crate) fn admit(&mut self, event: &Event) -> Result<bool, AllocError>
+    pub(crate) fn admit(&mut self, event: &Event) -> bool
         requires known { IsKnown self.old }
         requires small { self.old.next + 1 < 2 ^ 64 }
-        ensures { IfOk result (Admits self.old self.new event.now) }
+        ensures { Admits self.old self.new event.now result }
     {
-        match self.apply(event.caller, &event.what) {
-            Ok(fits) => {
-                self.taker = taker_of(event);
-                Ok(fits)
-            }
-            Err(fault) => Err(fault),
-        }
+        let fits = self.apply(event.caller, &event.what);
+        self.taker = taker_of(event);
+        fits
     }
 
     // `admit`, but for the note whether the event is a take.
-    fn apply(&mut self, caller: u32, what: &What) -> Result<bool, AllocError>
+    fn apply(&mut self, caller: u32, what: &What) -> bool
         requires known { IsKnown self.old }
         requires small { self.old.next + 1 < 2 ^ 64 }
-        ensures { IfOk result (Follows self.old self.new caller what.now) }
+        ensures { Follows self.old self.new caller what.now result }
     {
         match *what {
-            What::Alloc { page, block } => Ok(self.alloc(page, block)),
-            What::MapWhole { page } => Ok(self.gain(page, Gain::MapWhole)),
+            What::Alloc { page, block } => self.alloc(page, block),
+            What::MapWhole { page } => self.gain(page, Gain::MapWhole),
             What::UnmapWhole {
-                page,
                 outcome,
+                page,
                 released,
-            } => Ok(self.lose(page, Loss::UnmapWhole, outcome, released)),
-            What::MapSub { page, first, count } => {
-                Ok(self.gain(page, Gain::MapSub { first, count }))
-            }
+            } => self.lose(page, Loss::UnmapWhole, outcome, released),
+            What::MapSub { page, first, count } => self.gain(page, Gain::MapSub { first, count }),
             What::UnmapSub {
+                outcome,
                 page,
                 first,
                 count,
-                outcome,
                 released,
-            } => Ok(self.lose(page, Loss::UnmapSub { first, count }, outcome, released)),
-            What::SplitPmd { page } => Ok(self.gain(page, Gain::SplitPmd)),
-            What::Pin { page } => Ok(self.gain(page, Gain::Pin)),
+            } => self.lose(page, Loss::UnmapSub { first, count }, outcome, released),
+            What::SplitPmd { page } => self.gain(page, Gain::SplitPmd),
+            What::Pin { page } => self.gain(page, Gain::Pin),
             What::Unpin {
-                page,
                 outcome,
+                page,
                 released,
-            } => Ok(self.lose(page, Loss::Unpin, outcome, released)),
+            } => self.lose(page, Loss::Unpin, outcome, released),
+            What::Write { page, first, count } => self.gain(page, Gain::Write { first, count }),
+            What::Zero { page, first, count } => self.gain(page, Gain::Zero { first, count }),
             What::Taken { page } => self.take(caller, page),
-            What::Split { page, released } => Ok(self.split(caller, page, released)),
-            What::Pinned { page } => Ok(self.is_pinned(caller, page)),
-            What::Back { page } => Ok(self.put_back(caller, page)),
-            What::Dropped { page } => Ok(self.drop_page(caller, page)),
-            What::Close => Ok(self.close()),
+            What::Split { page, released } => self.split(caller, page, released),
+            What::Pinned { page } => self.is_pinned(caller, page),
+            What::Used { page } => self.leave_used(caller, page),
+            What::Back { page } => self.put_back(caller, page),
+            What::Dropped { page } => self.drop_page(caller, page),
+            What::Close => self.close(),
         }
     }
 
@@ -108,68 +109,73 @@ impl Replay {
         if self.closed || page.0 != self.next {
             return false;
         }
-        if !self.pages.is_free(block) {
+        if !self.places.is_free(block) {
             return false;
         }
-        self.pages.place(block, page);
+        let queued = self.shape.shrinks_underused();
+        self.places.place(block, page, queued);
         self.next += 1;
         true
     }
 
-    // A page that gets mappings or a pin.
+    // A page that gets mappings, a pin, data or zeros.
     fn gain(&mut self, page: PageId, gain: Gain) -> bool
         ensures { (c : ℕ) → Follows self.old self.new c (gain_what gain page) result }
     {
-        match self.pages.find(page) {
-            Some(block) => match self.pages.gain(block, gain) {
-                Ok(()) => true,
-                Err(_) => false,
-            },
-            None => false,
+        let block = match self.places.find(page) {
+            Some(block) => block,
+            None => return false,
+        };
+        if let Some(_) = self.places.refusal(block, PageCall::Gain(gain)) {
+            return false;
         }
+        self.places.gain(block, gain);
+        true
     }
 
     // A page that loses mappings or a pin, with the outcome and the frames that the event tells.
     fn lose(&mut self, page: PageId, loss: Loss, outcome: Outcome, released: SubSet) -> bool
+        requires { IsKnown self.old }
         ensures { (c : ℕ) → Follows self.old self.new c (loss_what loss page outcome released) result }
     {
-        let block = match self.pages.find(page) {
+        let block = match self.places.find(page) {
             Some(block) => block,
             None => return false,
         };
-        match self.pages.lose(block, loss, self.closed) {
-            Ok((done, left)) => {
-                self.flights.leave(left, page);
-                is_told(&done, outcome, released)
-            }
-            Err(_) => false,
+        if let Some(_) = self.places.refusal(block, PageCall::Loss(loss)) {
+            return false;
         }
+        let (done, left) = self.places.lose(block, loss, self.closed);
+        self.flights.leave(left, block);
+        is_told(&done, outcome, released)
     }
 
     // A take of the oldest page.
-    fn take(&mut self, caller: u32, page: PageId) -> Result<bool, AllocError>
-        ensures { IfOk result (Follows self.old self.new caller (What.Taken page)) }
+    fn take(&mut self, caller: u32, page: PageId) -> bool
+        requires { IsKnown self.old }
+        ensures { Follows self.old self.new caller (What.Taken page) result }
     {
         if !self.may_take(caller) {
-            return Ok(false);
+            return false;
         }
-        match self.pages.take_first(caller) {
-            Some(first) => {
-                if first != page {
-                    return Ok(false);
-                }
-                match self.flights.join(caller, page) {
-                    Ok(()) => Ok(true),
-                    Err(fault) => Err(fault),
-                }
-            }
-            None => Ok(false),
+        let block = match self.places.find(page) {
+            Some(block) => block,
+            None => return false,
+        };
+        if self.places.queue().len() == 0 {
+            return false;
         }
+        let first = self.places.take_first(caller);
+        if first != page {
+            return false;
+        }
+        self.flights.join(caller, block);
+        true
     }
 
     // Whether a caller has no page in flight, or goes on taking.
     fn may_take(&self, caller: u32) -> bool
-        ensures { result ≡ (no_pages (pages_in self.now.flights caller) || is_taker self.now.taker caller) }
+        ensures { result ≡ (no_pages (blocks_in self.now.flights caller) || is_taker self.now.taker caller) }
     {
         if let None = self.flights.first_of(caller) {
             return true;
@@ -185,15 +191,18 @@ impl Replay {
         requires { IsKnown self.old }
         ensures { Follows self.old self.new caller (What.Split page released) result }
     {
-        let block = match self.pages.find_in_batch(page, caller) {
+        let block = match self.places.find_in_batch(page, caller) {
             Some(block) => block,
             None => return false,
         };
-        if self.pages.pins(block) != 0 {
+        if !self.is_worth(block) {
             return false;
         }
-        let given = self.pages.split(block);
-        self.flights.leave(Some(caller), page);
+        if self.places.pins(block) != 0 {
+            return false;
+        }
+        let given = self.places.split(block, self.shape.shrinks_underused());
+        self.flights.leave(Some(caller), block);
         given == released
     }
 
@@ -201,43 +210,94 @@ impl Replay {
     fn is_pinned(&self, caller: u32, page: PageId) -> bool
         ensures { Follows self.now self.now caller (What.Pinned page) result }
     {
-        match self.pages.find_in_batch(page, caller) {
-            Some(block) => self.pages.pins(block) != 0,
-            None => false,
+        let block = match self.places.find_in_batch(page, caller) {
+            Some(block) => block,
+            None => return false,
+        };
+        if !self.is_worth(block) {
+            return false;
         }
+        self.places.pins(block) != 0
+    }
+
+    // A try that finds a page of the caller's flight in use, which leaves the flight and goes nowhere.
+    fn leave_used(&mut self, caller: u32, page: PageId) -> bool
+        requires { IsKnown self.old }
+        ensures { Follows self.old self.new caller (What.Used page) result }
+    {
+        let block = match self.places.find_in_batch(page, caller) {
+            Some(block) => block,
+            None => return false,
+        };
+        if self.is_worth(block) {
+            return false;
+        }
+        self.places.drop_out(block);
+        self.flights.leave(Some(caller), block);
+        true
+    }
+
+    // Whether the page of a block is worth a split.
+    fn is_worth(&self, block: u32) -> bool
+        requires { IsSome (slot_at self.now.places.table block) }
+        ensures { AtSlot self.now.places.table block (λ x. result ≡ is_worth self.now.shape.underused x.page) }
+    {
+        self.places.is_worth(block, self.shape.underused)
     }
 
     // A put-back of the first page of the caller's flight.
     fn put_back(&mut self, caller: u32, page: PageId) -> bool
+        requires { IsKnown self.old }
         ensures { Follows self.old self.new caller (What.Back page) result }
     {
-        if self.closed || !self.flights.is_first(caller, page) {
+        let block = match self.find_first(caller, page) {
+            Some(block) => block,
+            None => return false,
+        };
+        if self.is_dropped(block) {
             return false;
         }
-        match self.pages.find_in_batch(page, caller) {
-            Some(block) => {
-                self.pages.enqueue(block);
-                self.flights.leave(Some(caller), page);
-                true
-            }
-            None => false,
-        }
+        self.places.enqueue(block);
+        self.flights.leave(Some(caller), block);
+        true
     }
 
     // The first page of the caller's flight, which goes nowhere.
     fn drop_page(&mut self, caller: u32, page: PageId) -> bool
+        requires { IsKnown self.old }
         ensures { Follows self.old self.new caller (What.Dropped page) result }
     {
-        if !self.closed || !self.flights.is_first(caller, page) {
+        let block = match self.find_first(caller, page) {
+            Some(block) => block,
+            None => return false,
+        };
+        if !self.is_dropped(block) {
             return false;
         }
-        match self.pages.find_in_batch(page, caller) {
-            Some(block) => {
-                self.pages.drop_out(block);
-                self.flights.leave(Some(caller), page);
-                true
-            }
-            None => false,
+        self.places.drop_out(block);
+        self.flights.leave(Some(caller), block);
+        true
+    }
+
+    // Whether the page of a block, where it leaves a batch, is dropped rather than put back.
+    fn is_dropped(&self, block: u32) -> bool
+        requires { IsSome (slot_at self.now.places.table block) }
+        ensures { AtSlot self.now.places.table block (λ x. result ≡ (self.now.closed || not x.page.partly)) }
+    {
+        self.closed || !self.places.is_partly(block)
+    }
+
+    // The block of a page that is the first of a caller's flight.
+    fn find_first(&self, caller: u32, page: PageId) -> Option<u32>
+        ensures there { IfSome result (IsFlyingAt self.now.places.table caller page) }
+        ensures first { IfSome result (λ b. slice_get (blocks_in self.now.flights caller) 0 ≡ Some b) }
+        ensures none { IfNone result (IsNeverFirst self.now caller page) }
+    {
+        let block = self.places.find_in_batch(page, caller)?;
+        if self.flights.is_first(caller, block) {
+            Some(block)
+        } else {
+            None
         }
     }
 

@@ -7,8 +7,6 @@ mod index_list;
 mod link;
 mod queue;
 mod table;
-#[cfg(test)]
-mod tests;
 
 pub use access_count::AccessCount;
 pub use free_chain::FreeChain;

@@ -1,20 +1,22 @@
 -- Histories that are equal but for their blocks say the same of all else.
-use Rattle.std.proofs.Common.{◌≡◌, ℕ, ◌+◌, ◌-◌, ◌<◌, Bool, false, cond, not, ◌&&◌, ◌||◌, List, [], ◌∷◌, ◌++◌, Option, Some, None, map, refl, ap, sym, ◌∙◌, arith, nat_eq, nat_lt}
+use Rattle.std.proofs.Common.{◌≡◌, ℕ, ◌+◌, ◌-◌, ◌<◌, Bool, true, false, cond, not, ◌&&◌, ◌||◌, List, [], ◌∷◌, ◌++◌, Option, Some, None, map, refl, ap, ap₂, sym, ◌∙◌, arith, nat_eq, nat_lt}
 use Rattle.std.specs.List.{fold, list_any, filter}
 use Rattle.std.specs.Prelude.{slice_get}
+use Rattle.std.proofs.lemmas.List.{map-append}
 use Rattle.thp_model.specs.declared.events.Event.{Event}
 use Rattle.thp_model.specs.declared.events.Outcome.{Outcome}
 use Rattle.thp_model.specs.declared.events.Outcome.TheVariants.{Freed, Queued, Stays}
 use Rattle.thp_model.specs.declared.events.What.{What}
-use Rattle.thp_model.specs.declared.events.What.TheVariants.{Alloc, MapWhole, UnmapWhole, MapSub, UnmapSub, SplitPmd, Pin, Unpin, Taken, Split, Pinned, Back, Dropped, Close}
+use Rattle.thp_model.specs.declared.events.What.TheVariants.{Alloc, MapWhole, UnmapWhole, MapSub, UnmapSub, SplitPmd, Pin, Unpin, Write, Zero, Taken, Split, Pinned, Used, Back, Dropped, Close}
 use Rattle.thp_model.specs.declared.refusal.Refusal.{Refusal}
 use Rattle.thp_model.specs.declared.refusal.Refusal.TheVariants.{NoPage, BadRange, IsSplit, NotMapped, Gone, NotPinned, TooMany, Closed}
 use Rattle.thp_model.specs.declared.shape.Shape.{Shape}
 use Rattle.thp_model.specs.BlockLaws.{with_block, event_with, without_blocks, SameButBlocks}
 use Rattle.thp_model.specs.Counts.{maps, unmaps, maps_whole, unmaps_whole, pins_page, unpins_page, is_alloc, allocates, frees, splits, closes, total, whole, pins, is_live, is_split, is_closed, allocations}
+use Rattle.thp_model.specs.Underused.{shrinks_underused, zero_after, is_zero_filled, unmaps_some, unmaps_part, add_unmap, is_partly_mapped, is_above, is_worth_split}
 use Rattle.thp_model.specs.Frames.{is_held, released, outcome}
-use Rattle.thp_model.specs.History.{History, count_of, some_event}
-use Rattle.thp_model.specs.Legal.{FitsBy, Gives}
+use Rattle.thp_model.specs.History.{History, by, count_of, some_event}
+use Rattle.thp_model.specs.Legal.{FitsBy, Gives, is_dropped}
 use Rattle.thp_model.specs.Places.{queue, queue_after, flights, flights_after, flight, is_taking, takes_by, stands, has_page, no_pages}
 use Rattle.thp_model.specs.Refusals.{refusal, most}
 use Rattle.thp_model.specs.Refusals as call
@@ -22,6 +24,7 @@ use Rattle.thp_model.specs.Sets.{covers}
 use Rattle.thp_model.specs.Shapes.{subpages}
 use Rattle.thp_model.proofs.Below.{some_below-ext}
 use Rattle.thp_model.proofs.Counting.{count-cons}
+use Rattle.thp_model.proofs.SumsBelow.{sum_below-ext}
 use Rattle.thp_model.proofs.WordLemmas.{set_of-ext}
 
 -- a test that doesn't look at the block
@@ -104,9 +107,19 @@ closes_blind (Alloc q b) = refl
 closes_blind w = refl
 
 -- the queue doesn't look at the block
-queue_blind : (ps : List ℕ) (w : What) → queue_after ps (with_block 0 w) ≡ queue_after ps w
-queue_blind ps (Alloc q b) = refl
-queue_blind ps w = refl
+queue_blind : (shape : Shape) (ps : List ℕ) (w : What) → queue_after shape ps (with_block 0 w) ≡ queue_after shape ps w
+queue_blind shape ps (Alloc q b) = refl
+queue_blind shape ps w = refl
+
+-- nor does what is zero-filled
+zero_blind : (p i : ℕ) (b : Bool) (w : What) → zero_after p i b (with_block 0 w) ≡ zero_after p i b w
+zero_blind p i b (Alloc q c) = refl
+zero_blind p i b w = refl
+
+-- nor does an unmap
+unmaps_some_blind : (p : ℕ) → Blind (unmaps_some p)
+unmaps_some_blind p (Alloc q b) = refl
+unmaps_some_blind p w = refl
 
 -- nor do the flights
 flights_blind : (fs : List (ℕ × ℕ)) (c : ℕ) (w : What) → flights_after fs c (with_block 0 w) ≡ flights_after fs c w
@@ -126,10 +139,12 @@ pub record Alike (h k : History) : Type 0 where
   pub live : (p : ℕ) → is_live h p ≡ is_live k p
   pub split : (p : ℕ) → is_split h p ≡ is_split k p
   pub closed : is_closed h ≡ is_closed k
-  pub queue : queue h ≡ queue k
+  pub queue : (shape : Shape) → queue shape h ≡ queue shape k
   pub flights : flights h ≡ flights k
   pub taking : (c : ℕ) → is_taking h c ≡ is_taking k c
   pub allocations : allocations h ≡ allocations k
+  pub zero : (p i : ℕ) → is_zero_filled h p i ≡ is_zero_filled k p i
+  pub partly : (shape : Shape) (p : ℕ) → is_partly_mapped shape h p ≡ is_partly_mapped shape k p
 
 -- a blind test counts as many in both histories
 pub count_alike : (test : What → Bool) → Blind test → (h k : History) → SameButBlocks h k → count_of test h ≡ count_of test k
@@ -144,9 +159,9 @@ pub fold_alike : {S : Type 0} (f : S → Event → S) → ((s : S) (e : Event) �
 fold_alike f g s h k e = sym (fold_bare f g s h) ∙ ap (λ x. fold f s x) e ∙ fold_bare f g s k
 
 -- both have one queue
-queue_alike : (h k : History) → SameButBlocks h k → queue h ≡ queue k
+queue_alike : (shape : Shape) (h k : History) → SameButBlocks h k → queue shape h ≡ queue shape k
 unfolding queue
-queue_alike h k e = fold_alike (λ ps (e : Event). queue_after ps e.what) (λ ps x. queue_blind ps x.what) [] h k e
+queue_alike shape h k e = fold_alike (λ ps (e : Event). queue_after shape ps e.what) (λ ps x. queue_blind shape ps x.what) [] h k e
 
 -- both have the same flights
 flights_alike : (h k : History) → SameButBlocks h k → flights h ≡ flights k
@@ -158,21 +173,71 @@ taking_alike : (c : ℕ) (h k : History) → SameButBlocks h k → is_taking h c
 unfolding is_taking
 taking_alike c h k e = fold_alike (λ before (e : Event). takes_by c e.caller e.what) (λ before x. taking_blind c x.caller x.what) false h k e
 
+-- both say alike what is zero-filled
+zero_alike : (p i : ℕ) (h k : History) → SameButBlocks h k → is_zero_filled h p i ≡ is_zero_filled k p i
+unfolding is_zero_filled
+zero_alike p i h k e = fold_alike (λ b (e : Event). zero_after p i b e.what) (λ b x. zero_blind p i b x.what) true h k e
+
+-- both have the same totals
+total_alike : (p i : ℕ) (h k : History) → SameButBlocks h k → total h p i ≡ total k p i
+total_alike p i h k e = ap₂ (λ a b. a - b) (count_alike (maps p i) (maps_blind p i) h k e) (count_alike (unmaps p i) (unmaps_blind p i) h k e)
+
+-- one more event of both, without its block in one of them
+same_step : (k h : History) (e : Event) → SameButBlocks k h → SameButBlocks (k ++ event_with 0 e ∷ []) (h ++ e ∷ [])
+unfolding without_blocks
+same_step k h e s =
+    map-append (event_with 0) k (event_with 0 e ∷ []) ∙ ap (λ x. x ++ event_with 0 (event_with 0 e) ∷ []) s
+    ∙ ap (λ w. map (event_with 0) h ++ by e.caller w ∷ []) (twice e.what) ∙ sym (map-append (event_with 0) h (e ∷ [])) where
+      twice : (w : What) → with_block 0 (with_block 0 w) ≡ with_block 0 w
+      twice (Alloc p b) = refl
+      twice w = refl
+
+-- an event unmaps a part of a page at both or at neither
+part_alike : (shape : Shape) (p : ℕ) (k h : History) (e : Event) → SameButBlocks k h → unmaps_part shape p k (event_with 0 e) ≡ unmaps_part shape p h e
+part_alike shape p k h e s =
+    let more : SameButBlocks (k ++ event_with 0 e ∷ []) (h ++ e ∷ []) = same_step k h e s in
+    let now : (i : ℕ) → total (k ++ event_with 0 e ∷ []) p i ≡ total (h ++ e ∷ []) p i = λ i. total_alike p i _ _ more in
+    parts _ _ _ _ _ _ (unmaps_some_blind p e.what)
+    (some_below-ext (subpages shape) _ _ (λ i l. ap₂ (λ a b. nat_lt 0 a && nat_eq b 0) (total_alike p i k h s) (now i)))
+    (some_below-ext (subpages shape) _ _ (λ i l. ap (λ t. nat_lt 0 t) (now i))) where
+      parts : (a a' b b' d d' : Bool) → a ≡ a' → b ≡ b' → d ≡ d' → (a && (b && d)) ≡ (a' && (b' && d'))
+      parts a a' b b' d d' e f g = cc
+
+-- so their pages are partly mapped alike, along the histories
+partly_run : (shape : Shape) (p : ℕ) (s t : History × Bool) (h : History) → SameButBlocks s.0 t.0 → s.1 ≡ t.1 →
+    (fold (add_unmap shape p) s (without_blocks h)).1 ≡ (fold (add_unmap shape p) t h).1
+unfolding without_blocks
+partly_run shape p s t [] e f = f
+partly_run shape p s t (x ∷ h) e f =
+    partly_run shape p (s.0 ++ event_with 0 x ∷ [], s.1 || unmaps_part shape p s.0 (event_with 0 x)) (t.0 ++ x ∷ [], t.1 || unmaps_part shape p t.0 x) h (same_step s.0 t.0 x e)
+    (ap₂ (λ a b. a || b) f (part_alike shape p s.0 t.0 x e))
+
+-- a history without its blocks says the same of its pages
+partly_bare : (shape : Shape) (p : ℕ) (h : History) → is_partly_mapped shape (without_blocks h) p ≡ is_partly_mapped shape h p
+unfolding is_partly_mapped
+partly_bare shape p h = partly_run shape p ([], false) ([], false) h refl refl
+
+-- and at their ends
+partly_alike : (shape : Shape) (p : ℕ) (h k : History) → SameButBlocks h k → is_partly_mapped shape h p ≡ is_partly_mapped shape k p
+partly_alike shape p h k e = sym (partly_bare shape p h) ∙ ap (λ x. is_partly_mapped shape x p) e ∙ partly_bare shape p k
+
 -- histories that are equal but for their blocks say all else alike
 pub alike : (h k : History) → SameButBlocks h k → Alike h k
 alike h k e =
     let split = λ (p : ℕ). some_alike (splits p) (splits_blind p) h k e in
     record {
-      total = λ p i. less _ _ _ _ (count_alike (maps p i) (maps_blind p i) h k e) (count_alike (unmaps p i) (unmaps_blind p i) h k e);
+      total = λ p i. total_alike p i h k e;
       whole = λ p. choose _ _ _ _ _ _ (split p) (count_alike (maps_whole p) (maps_whole_blind p) h k e) (count_alike (unmaps_whole p) (unmaps_whole_blind p) h k e);
       pins = λ p. less _ _ _ _ (count_alike (pins_page p) (pin_blind p) h k e) (count_alike (unpins_page p) (unpin_blind p) h k e);
       live = λ p. both _ _ _ _ (some_alike (allocates p) (allocates_blind p) h k e) (some_alike (frees p) (frees_blind p) h k e);
       split = split;
       closed = some_alike closes closes_blind h k e;
-      queue = queue_alike h k e;
+      queue = λ shape. queue_alike shape h k e;
       flights = flights_alike h k e;
       taking = λ c. taking_alike c h k e;
       allocations = count_alike is_alloc alloc_blind h k e;
+      zero = λ p i. zero_alike p i h k e;
+      partly = λ shape p. partly_alike shape p h k e;
     } where
       less : (a a' t t' : ℕ) → a ≡ a' → t ≡ t' → a - t ≡ a' - t'
       less a a' t t' e f = cc
@@ -182,6 +247,11 @@ alike h k e =
 
       both : (a a' f f' : Bool) → a ≡ a' → f ≡ f' → (a && not f) ≡ (a' && not f')
       both a a' f f' e g = cc
+
+-- a frame is held by these parts
+pub held-by : (x on l l' s s' z z' : Bool) (t t' : ℕ) → l ≡ l' → s ≡ s' → t ≡ t' → z ≡ z' →
+    (x && (l && (not s || ((l && nat_lt 0 t) && not (on && z))))) ≡ (x && (l' && (not s' || ((l' && nat_lt 0 t') && not (on && z')))))
+held-by x on l l' s s' z z' t t' e f g h = cc
 
 -- the refusals
 one : (b b' : Bool) (x : Refusal) → b ≡ b' → cond b (Some x) None ≡ cond b' (Some x) None
@@ -196,9 +266,31 @@ module _ (shape : Shape) (h k : History) (a : Alike h k) where
   live_not p = ap not (a.live p)
 
   pub held_alike : (p i : ℕ) → is_held shape h p i ≡ is_held shape k p i
-  held_alike p i = go (nat_lt i (subpages shape)) _ _ _ _ _ _ (a.live p) (a.split p) (a.total p i) where
-    go : (x l l' s s' : Bool) (t t' : ℕ) → l ≡ l' → s ≡ s' → t ≡ t' → (x && (l && (not s || (l && nat_lt 0 t)))) ≡ (x && (l' && (not s' || (l' && nat_lt 0 t'))))
-    go x l l' s s' t t' e f g = cc
+  held_alike p i = held-by (nat_lt i (subpages shape)) (shrinks_underused shape) _ _ _ _ _ _ _ _ (a.live p) (a.split p) (a.total p i) (a.zero p i)
+
+  pub worth_alike : (p : ℕ) → is_worth_split shape h p ≡ is_worth_split shape k p
+  worth_alike p =
+      ap₂ (λ x y. x || y) (a.partly shape p)
+      (ap (λ n. is_above shape.underused n) (sum_below-ext (subpages shape) _ _ (λ i l. ap (λ b. cond {A = ℕ} b 1 0) (a.zero p i))))
+
+  pub dropped_alike : (p : ℕ) → is_dropped shape h p ≡ is_dropped shape k p
+  dropped_alike p = ap₂ (λ x y. x || not y) a.closed (a.partly shape p)
+
+  write_alike : (p f c : ℕ) → refusal shape h (call.write p f c) ≡ refusal shape k (call.write p f c)
+  unfolding refusal
+  write_alike p f c =
+      more _ _ NoPage _ _ (live_not p)
+      (more _ _ BadRange _ _ refl
+      (more _ _ IsSplit _ _ (a.split p)
+      (one _ _ NotMapped (some_below-ext (subpages shape) _ _ (λ i b. ap (λ t. covers f c i && nat_eq t 0) (a.total p i))))))
+
+  zero_fill_alike : (p f c : ℕ) → refusal shape h (call.zero_fill p f c) ≡ refusal shape k (call.zero_fill p f c)
+  unfolding refusal
+  zero_fill_alike p f c =
+      more _ _ NoPage _ _ (live_not p)
+      (more _ _ BadRange _ _ refl
+      (more _ _ IsSplit _ _ (a.split p)
+      (one _ _ NotMapped (some_below-ext (subpages shape) _ _ (λ i b. ap (λ t. covers f c i && nat_eq t 0) (a.total p i))))))
 
   map_whole_alike : (p : ℕ) → refusal shape h (call.map_whole p) ≡ refusal shape k (call.map_whole p)
   unfolding refusal
@@ -244,8 +336,8 @@ module _ (shape : Shape) (h k : History) (a : Alike h k) where
   unfolding refusal
   close_alike = one _ _ Closed a.closed
 
-  pub stands_alike : (p : ℕ) → stands h p ≡ stands k p
-  stands_alike p = go _ _ _ _ a.queue a.flights where
+  pub stands_alike : (p : ℕ) → stands shape h p ≡ stands shape k p
+  stands_alike p = go _ _ _ _ (a.queue shape) a.flights where
     go : (q q' : List ℕ) (f f' : List (ℕ × ℕ)) → q ≡ q' → f ≡ f' →
         list_any (λ x. nat_eq x p) (q ++ map (λ (f : ℕ × ℕ). f.1) f) ≡ list_any (λ x. nat_eq x p) (q' ++ map (λ (f : ℕ × ℕ). f.1) f')
     go q q' f f' e g = cc
@@ -273,9 +365,7 @@ module _ (shape : Shape) (h k : History) (a : Alike h k) where
       and b b' d d' e f = cc
 
       held_after : (i : ℕ) → is_held shape h' p i ≡ is_held shape k' p i
-      held_after i = go (nat_lt i (subpages shape)) _ _ _ _ _ _ (b.live p) (b.split p) (b.total p i) where
-        go : (x l l' s s' : Bool) (t t' : ℕ) → l ≡ l' → s ≡ s' → t ≡ t' → (x && (l && (not s || (l && nat_lt 0 t)))) ≡ (x && (l' && (not s' || (l' && nat_lt 0 t'))))
-        go x l l' s s' t t' e f g = cc
+      held_after i = held-by (nat_lt i (subpages shape)) (shrinks_underused shape) _ _ _ _ _ _ _ _ (b.live p) (b.split p) (b.total p i) (b.zero p i)
 
     gives_alike : (p : ℕ) (o : Outcome) (r : List Bool) → Gives shape h h' p o r → Gives shape k k' p o r
     gives_alike p o r g = record { outcome_is = g.outcome_is ∙ outcome_alike p; set_is = g.set_is ∙ released_alike p }
@@ -284,20 +374,23 @@ module _ (shape : Shape) (h k : History) (a : Alike h k) where
     pub fits_alike : (c : ℕ) (w : What) → is_alloc w ≡ false → FitsBy shape h h' c w → FitsBy shape k k' c w
     fits_alike c (Alloc p x) e f = absurd (cc)
     fits_alike c (MapWhole p) e f = sym (map_whole_alike p) ∙ f
-    fits_alike c (UnmapWhole p o r) e f = (sym (unmap_whole_alike p) ∙ f.0, gives_alike p o r f.1)
+    fits_alike c (UnmapWhole o p r) e f = (sym (unmap_whole_alike p) ∙ f.0, gives_alike p o r f.1)
     fits_alike c (MapSub p x m) e f = sym (map_sub_alike p x m) ∙ f
-    fits_alike c (UnmapSub p x m o r) e f = (sym (unmap_sub_alike p x m) ∙ f.0, gives_alike p o r f.1)
+    fits_alike c (UnmapSub o p x m r) e f = (sym (unmap_sub_alike p x m) ∙ f.0, gives_alike p o r f.1)
     fits_alike c (SplitPmd p) e f = sym (split_pmd_alike p) ∙ f
     fits_alike c (Pin p) e f = sym (pin_alike p) ∙ f
-    fits_alike c (Unpin p o r) e f = (sym (unpin_alike p) ∙ f.0, gives_alike p o r f.1)
+    fits_alike c (Unpin o p r) e f = (sym (unpin_alike p) ∙ f.0, gives_alike p o r f.1)
+    fits_alike c (Write p x m) e f = sym (write_alike p x m) ∙ f
+    fits_alike c (Zero p x m) e f = sym (zero_fill_alike p x m) ∙ f
     fits_alike c (Taken p) e f =
-        record { oldest = ap (λ q. slice_get q 0) (sym a.queue) ∙ f.oldest; may_take = sym (or _ _ _ _ (ap no_pages (flight_alike c)) (a.taking c)) ∙ f.may_take } where
+        record { oldest = ap (λ q. slice_get q 0) (sym (a.queue shape)) ∙ f.oldest; may_take = sym (or _ _ _ _ (ap no_pages (flight_alike c)) (a.taking c)) ∙ f.may_take } where
           or : (b b' d d' : Bool) → b ≡ b' → d ≡ d' → (b || d) ≡ (b' || d')
           or b b' d d' e f = cc
-    fits_alike c (Split p r) e f = record { in_flight = ap (λ q. has_page p q) (sym (flight_alike c)) ∙ f.in_flight; unpinned = sym (a.pins p) ∙ f.unpinned; set_is = f.set_is ∙ released_alike p }
-    fits_alike c (Pinned p) e f = (ap (λ q. has_page p q) (sym (flight_alike c)) ∙ f.0, up _ _ (a.pins p) f.1) where
+    fits_alike c (Split p r) e f = record { in_flight = ap (λ q. has_page p q) (sym (flight_alike c)) ∙ f.in_flight; worth = sym (worth_alike p) ∙ f.worth; unpinned = sym (a.pins p) ∙ f.unpinned; set_is = f.set_is ∙ released_alike p }
+    fits_alike c (Pinned p) e f = (ap (λ q. has_page p q) (sym (flight_alike c)) ∙ f.0, up _ _ (a.pins p) f.1, sym (worth_alike p) ∙ f.2) where
       up : (m m' : ℕ) → m ≡ m' → 0 < m → 0 < m'
       up m m' e f = omega arith
-    fits_alike c (Back p) e f = (ap (λ q. slice_get q 0) (sym (flight_alike c)) ∙ f.0, sym a.closed ∙ f.1)
-    fits_alike c (Dropped p) e f = (ap (λ q. slice_get q 0) (sym (flight_alike c)) ∙ f.0, sym a.closed ∙ f.1)
+    fits_alike c (Used p) e f = (ap (λ q. has_page p q) (sym (flight_alike c)) ∙ f.0, sym (worth_alike p) ∙ f.1)
+    fits_alike c (Back p) e f = (ap (λ q. slice_get q 0) (sym (flight_alike c)) ∙ f.0, sym a.closed ∙ f.1, sym (a.partly shape p) ∙ f.2)
+    fits_alike c (Dropped p) e f = (ap (λ q. slice_get q 0) (sym (flight_alike c)) ∙ f.0, sym (dropped_alike p) ∙ f.1)
     fits_alike c Close e f = sym close_alike ∙ f

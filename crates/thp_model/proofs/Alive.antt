@@ -13,16 +13,17 @@ use Rattle.thp_model.specs.Places.{stands}
 use Rattle.thp_model.specs.Frames.{is_held, outcome}
 use Rattle.thp_model.specs.Sets.{some_below}
 use Rattle.thp_model.specs.Shapes.{subpages}
+use Rattle.thp_model.specs.Underused.{shrinks_underused, is_zero_filled}
 use Rattle.thp_model.specs.Legal.{IsLegal, Fits, FitsBy}
 use Rattle.thp_model.proofs.Allowed.{allowed_pin}
 use Rattle.thp_model.proofs.Below.{some_yes, some_no, some_more}
 use Rattle.thp_model.proofs.Bools.{by_bool, and_no}
 use Rattle.thp_model.proofs.Holding.{live_back, whole_held}
 use Rattle.thp_model.proofs.LegalSteps.{legal_all}
-use Rattle.thp_model.proofs.Numbers.{Numbered, numbered_push, numbered_none}
+use Rattle.thp_model.proofs.Numbers.{Numbered, numbered_none}
 use Rattle.thp_model.proofs.Pushes.{count_of_push, some_event_push, count_same, count_more, some_same}
 use Rattle.thp_model.proofs.Sizes.{some_subpages}
-use Rattle.thp_model.proofs.Standing.{Sound, sound_push, sound_none}
+use Rattle.thp_model.proofs.Standing.{Sound, sound_push, sound_none, numbered_push}
 
 -- every total is 0 and the pins are 0
 abbrev pub idle : Shape → History → ℕ → Bool
@@ -56,7 +57,7 @@ stays_busy shape h e p t u b =
 -- an unmap or unpin that didn't free its page leaves it busy
 busy_after : (shape : Shape) (h k : History) (p : ℕ) (o : Outcome) → o ≡ outcome shape h k p → is_freed o ≡ false → idle shape k p ≡ false
 busy_after shape h k p o e f =
-    go (idle shape k p) (not (is_split h p) && (some_below (subpages shape) (λ i. nat_lt 0 (total h p i) && nat_eq (total k p i) 0) && (some_below (subpages shape) (λ i. nat_lt 0 (total k p i)) && (not (is_closed h) && not (stands h p))))) o e f where
+    go (idle shape k p) (not (is_split h p) && (some_below (subpages shape) (λ i. nat_lt 0 (total h p i) && nat_eq (total k p i) 0) && (some_below (subpages shape) (λ i. nat_lt 0 (total k p i)) && (not (is_closed h) && not (stands shape h p))))) o e f where
       go : (a q : Bool) (o : Outcome) → o ≡ cond a Freed (cond q Queued Stays) → is_freed o ≡ false → a ≡ false
       go true q o e f = absurd (let g : is_freed o ≡ true = ap is_freed e in cc)
       go false q o e f = refl
@@ -95,12 +96,12 @@ busy_step shape h c (Alloc p b) t s f q l =
       new : (x y : Bool) → x ≡ true → (not x && y) ≡ false
       new true y e = refl
       new false y e = absurd (cc)
-busy_step shape h c (UnmapWhole p o r) t s f q l =
-    unmapped shape h (by c (UnmapWhole p o r)) p q o refl refl f.1.outcome_is (λ y. (λ i. y, refl)) (s.busy q) l
-busy_step shape h c (UnmapSub p a m o r) t s f q l =
-    unmapped shape h (by c (UnmapSub p a m o r)) p q o refl refl f.1.outcome_is (λ y. (λ i. and_no _ _ y, refl)) (s.busy q) l
-busy_step shape h c (Unpin p o r) t s f q l =
-    unmapped shape h (by c (Unpin p o r)) p q o refl refl f.1.outcome_is (λ y. (λ i. refl, y)) (s.busy q) l
+busy_step shape h c (UnmapWhole o p r) t s f q l =
+    unmapped shape h (by c (UnmapWhole o p r)) p q o refl refl f.1.outcome_is (λ y. (λ i. y, refl)) (s.busy q) l
+busy_step shape h c (UnmapSub o p a m r) t s f q l =
+    unmapped shape h (by c (UnmapSub o p a m r)) p q o refl refl f.1.outcome_is (λ y. (λ i. and_no _ _ y, refl)) (s.busy q) l
+busy_step shape h c (Unpin o p r) t s f q l =
+    unmapped shape h (by c (Unpin o p r)) p q o refl refl f.1.outcome_is (λ y. (λ i. refl, y)) (s.busy q) l
 busy_step shape h c w t s f q l =
     stays_busy shape h (by c w) q (λ i. refl) refl (s.busy q (live_back h (by c w) q refl l))
 
@@ -143,43 +144,40 @@ alive_none shape = record { busy = λ p l. absurd (cc); unpinned = λ p s. refl 
 
 -- what holds of legal histories so far
 pub record Grown (shape : Shape) (h : History) : Type 0 where
-  pub sound : Sound h
+  pub sound : Sound shape h
   pub numbered : Numbered h
   pub alive : Alive shape h
 
 -- one more event that fits keeps all of it
 pub grown_push : (shape : Shape) (h : History) (e : Event) → Grown shape h → Fits shape h e → Grown shape (h ++ e ∷ [])
 grown_push shape h e g f = record {
-  sound = sound_push shape h e g.sound f;
+  sound = sound_push shape h e g.sound g.numbered f;
   numbered = numbered_push shape h e g.sound g.numbered f;
   alive = alive_push shape h e g.numbered g.alive f;
 }
 
 -- all of it holds of the empty history
 pub grown_none : (shape : Shape) → Grown shape []
-grown_none shape = record { sound = sound_none; numbered = numbered_none; alive = alive_none shape }
+grown_none shape = record { sound = sound_none shape; numbered = numbered_none; alive = alive_none shape }
 
 -- and of every legal history
 pub legal_grown : (shape : Shape) (h : History) → IsLegal shape h → Grown shape h
 legal_grown shape h l = legal_all shape (Grown shape) (grown_none shape) (λ k e g f. grown_push shape k e g f) h l
 
--- each live page holds a frame
-pub lives_hold : (shape : Shape) (h : History) (p : ℕ) → Alive shape h → some_below (subpages shape) (is_held shape h p) ≡ is_live h p
-lives_hold shape h p s =
+-- each live page holds a frame, but for a split page where the switch is on
+pub lives_hold : (shape : Shape) (h : History) (p : ℕ) → Alive shape h → (shrinks_underused shape && is_split h p) ≡ false → some_below (subpages shape) (is_held shape h p) ≡ is_live h p
+lives_hold shape h p s off =
     by_bool (is_live h p) _
     (λ l.
     by_bool (is_split h p) _
     (λ w.
-    some_more (subpages shape) (λ i. nat_lt 0 (total h p i)) (is_held shape h p) (λ i b y. used_held (nat_lt i (subpages shape)) (is_live h p) (is_split h p) (nat_lt 0 (total h p i)) (lt-ltb i (subpages shape) b) l y)
+    some_more (subpages shape) (λ i. nat_lt 0 (total h p i)) (is_held shape h p) (λ i b y. used_held (nat_lt i (subpages shape)) (is_live h p) (is_split h p) (nat_lt 0 (total h p i)) (shrinks_underused shape) (is_zero_filled h p i) (lt-ltb i (subpages shape) b) l y w off)
     (mapped _ _ (s.unpinned p w) (s.busy p l)) ∙ sym l)
     (λ w. some_yes (subpages shape) (is_held shape h p) 0 (some_subpages shape) (whole_held shape h p 0 l w (lt-ltb 0 (subpages shape) (some_subpages shape))) ∙ sym l))
     (λ l. some_no (subpages shape) (is_held shape h p) (λ i b. dead (nat_lt i (subpages shape)) (is_live h p) _ l) ∙ sym l) where
-      used_held : (x l s u : Bool) → x ≡ true → l ≡ true → u ≡ true → (x && (l && (not s || (l && u)))) ≡ true
-      used_held true true true true e f g = refl
-      used_held true true false true e f g = refl
-      used_held x l s false e f g = absurd (cc)
-      used_held x false s u e f g = absurd (cc)
-      used_held false l s u e f g = absurd (cc)
+      used_held : (x l s u on z : Bool) → x ≡ true → l ≡ true → u ≡ true → s ≡ true → (on && s) ≡ false → (x && (l && (not s || ((l && u) && not (on && z))))) ≡ true
+      used_held x l s u true z e f g w o = absurd (let y : s ≡ false = o in cc)
+      used_held x l s u false z e f g w o = rw (e, f, g, w) refl
 
       mapped : (x : Bool) (m : ℕ) → m ≡ 0 → (not x && nat_eq m 0) ≡ false → x ≡ true
       mapped true m z e = refl
@@ -191,5 +189,5 @@ lives_hold shape h p s =
       dead false l v e = refl
 
 -- in a legal history a live page holds a frame, and no other page does
-pub live_holds : (shape : Shape) (h : History) (p : ℕ) → IsLegal shape h → some_below (subpages shape) (is_held shape h p) ≡ is_live h p
-live_holds shape h p l = lives_hold shape h p (legal_grown shape h l).alive
+pub live_holds : (shape : Shape) (h : History) (p : ℕ) → IsLegal shape h → (shrinks_underused shape && is_split h p) ≡ false → some_below (subpages shape) (is_held shape h p) ≡ is_live h p
+live_holds shape h p l off = lives_hold shape h p (legal_grown shape h l).alive off

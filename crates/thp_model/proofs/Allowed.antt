@@ -94,6 +94,24 @@ pub allowed_unpin : (shape : Shape) (h : History) (p : ℕ) → refusal shape h 
 unfolding refusal
 allowed_unpin shape h p e = three (is_live h p) (is_split h p) (nat_eq (pins h p) 0) reason.NoPage reason.IsSplit reason.NotPinned e
 
+-- the page is live and not split, the range is one of it, and each of its subpages is mapped
+pub allowed_write : (shape : Shape) (h : History) (p first count : ℕ) → refusal shape h (call.write p first count) ≡ None →
+    (is_live h p ≡ true) × ((nat_eq count 0 || nat_lt (subpages shape) (first + count)) ≡ false) × (is_split h p ≡ false)
+    × (some_of shape first count (λ i. nat_eq (total h p i) 0) ≡ false)
+unfolding refusal
+allowed_write shape h p first count e =
+    four (is_live h p) (nat_eq count 0 || nat_lt (subpages shape) (first + count)) (is_split h p)
+    (some_of shape first count (λ i. nat_eq (total h p i) 0)) reason.NoPage reason.BadRange reason.IsSplit reason.NotMapped e
+
+-- the same for a write of zeros
+pub allowed_zero : (shape : Shape) (h : History) (p first count : ℕ) → refusal shape h (call.zero_fill p first count) ≡ None →
+    (is_live h p ≡ true) × ((nat_eq count 0 || nat_lt (subpages shape) (first + count)) ≡ false) × (is_split h p ≡ false)
+    × (some_of shape first count (λ i. nat_eq (total h p i) 0) ≡ false)
+unfolding refusal
+allowed_zero shape h p first count e =
+    four (is_live h p) (nat_eq count 0 || nat_lt (subpages shape) (first + count)) (is_split h p)
+    (some_of shape first count (λ i. nat_eq (total h p i) 0)) reason.NoPage reason.BadRange reason.IsSplit reason.NotMapped e
+
 -- the node is open
 pub allowed_close : (shape : Shape) (h : History) → refusal shape h call.close ≡ None → is_closed h ≡ false
 unfolding refusal
@@ -116,8 +134,20 @@ pub refused_gone : (shape : Shape) (h : History) (p : ℕ) → is_live h p ≡ f
     × ((first count : ℕ) → refusal shape h (call.unmap_sub p first count) ≡ Some reason.NoPage)
     × (refusal shape h (call.split_pmd p) ≡ Some reason.NoPage) × (refusal shape h (call.pin p) ≡ Some reason.NoPage)
     × (refusal shape h (call.unpin p) ≡ Some reason.NoPage)
+    × ((first count : ℕ) → refusal shape h (call.write p first count) ≡ Some reason.NoPage)
+    × ((first count : ℕ) → refusal shape h (call.zero_fill p first count) ≡ Some reason.NoPage)
 unfolding refusal
-refused_gone shape h p e = (go _ _ e, go _ _ e, λ first count. go _ _ e, λ first count. go _ _ e, go _ _ e, go _ _ e, go _ _ e) where
+refused_gone shape h p e = (
+  go _ _ e,
+  go _ _ e,
+  λ first count. go _ _ e,
+  λ first count. go _ _ e,
+  go _ _ e,
+  go _ _ e,
+  go _ _ e,
+  λ first count. go _ _ e,
+  λ first count. go _ _ e,
+) where
   go : (l : Bool) (r : Option Refusal) → l ≡ false → cond (not l) (Some reason.NoPage) r ≡ Some reason.NoPage
   go true r e = absurd (cc)
   go false r e = refl

@@ -4,7 +4,7 @@ use Rattle.std.specs.Prelude.{slice_get, Some}
 use Rattle.std.specs.List.{list_any, IsDistinct, AllByRecursion}
 use Rattle.thp_model.specs.declared.events.Event.{Event}
 use Rattle.thp_model.specs.declared.events.What.{What}
-use Rattle.thp_model.specs.declared.events.What.TheVariants.{Alloc, MapWhole, UnmapWhole, MapSub, UnmapSub, SplitPmd, Pin, Unpin, Taken, Split, Pinned, Back, Dropped, Close}
+use Rattle.thp_model.specs.declared.events.What.TheVariants.{Alloc, MapWhole, UnmapWhole, MapSub, UnmapSub, SplitPmd, Pin, Unpin, Write, Zero, Taken, Split, Pinned, Used, Back, Dropped, Close}
 use Rattle.thp_model.specs.declared.shape.Shape.{Shape}
 use Rattle.thp_model.specs.History.{History, some_event, by}
 use Rattle.thp_model.specs.Counts.{allocates, is_live}
@@ -29,15 +29,18 @@ placed_by p b (Alloc q c) e =
     let block : b ≡ c = eqb-true b c both.1 in
     record { is = cc }
 placed_by p b (MapWhole q) e = absurd (cc)
-placed_by p b (UnmapWhole q o r) e = absurd (cc)
+placed_by p b (UnmapWhole o q r) e = absurd (cc)
 placed_by p b (MapSub q f m) e = absurd (cc)
-placed_by p b (UnmapSub q f m o r) e = absurd (cc)
+placed_by p b (UnmapSub o q f m r) e = absurd (cc)
 placed_by p b (SplitPmd q) e = absurd (cc)
 placed_by p b (Pin q) e = absurd (cc)
-placed_by p b (Unpin q o r) e = absurd (cc)
+placed_by p b (Unpin o q r) e = absurd (cc)
+placed_by p b (Write q x m) e = absurd (cc)
+placed_by p b (Zero q x m) e = absurd (cc)
 placed_by p b (Taken q) e = absurd (cc)
 placed_by p b (Split q r) e = absurd (cc)
 placed_by p b (Pinned q) e = absurd (cc)
+placed_by p b (Used q) e = absurd (cc)
 placed_by p b (Back q) e = absurd (cc)
 placed_by p b (Dropped q) e = absurd (cc)
 placed_by p b Close e = absurd (cc)
@@ -58,15 +61,18 @@ user_by h b k c (Alloc q d) g e =
     let both : (nat_eq b d ≡ true) × (is_live h q ≡ true) = and_both _ _ e in
     record { page = q; live = both.1; placed = some_passes (places q b) h k (by c (Alloc q d)) g (and_yes _ _ (eq-eqb q q refl) both.0) }
 user_by h b k c (MapWhole q) g e = absurd (cc)
-user_by h b k c (UnmapWhole q o r) g e = absurd (cc)
+user_by h b k c (UnmapWhole o q r) g e = absurd (cc)
 user_by h b k c (MapSub q f m) g e = absurd (cc)
-user_by h b k c (UnmapSub q f m o r) g e = absurd (cc)
+user_by h b k c (UnmapSub o q f m r) g e = absurd (cc)
 user_by h b k c (SplitPmd q) g e = absurd (cc)
 user_by h b k c (Pin q) g e = absurd (cc)
-user_by h b k c (Unpin q o r) g e = absurd (cc)
+user_by h b k c (Unpin o q r) g e = absurd (cc)
+user_by h b k c (Write q x m) g e = absurd (cc)
+user_by h b k c (Zero q x m) g e = absurd (cc)
 user_by h b k c (Taken q) g e = absurd (cc)
 user_by h b k c (Split q r) g e = absurd (cc)
 user_by h b k c (Pinned q) g e = absurd (cc)
+user_by h b k c (Used q) g e = absurd (cc)
 user_by h b k c (Back q) g e = absurd (cc)
 user_by h b k c (Dropped q) g e = absurd (cc)
 user_by h b k c Close g e = absurd (cc)
@@ -91,15 +97,18 @@ pub record HasBlock (h : History) (p : ℕ) : Type 0 where
 block_by : (h : History) (p k c : ℕ) (w : What) → slice_get h k ≡ Some (by c w) → allocates p w ≡ true → HasBlock h p
 block_by h p k c (Alloc q d) g e = record { block = d; placed = some_passes (places p d) h k (by c (Alloc q d)) g (and_yes _ _ e (eq-eqb d d refl)) }
 block_by h p k c (MapWhole q) g e = absurd (cc)
-block_by h p k c (UnmapWhole q o r) g e = absurd (cc)
+block_by h p k c (UnmapWhole o q r) g e = absurd (cc)
 block_by h p k c (MapSub q f m) g e = absurd (cc)
-block_by h p k c (UnmapSub q f m o r) g e = absurd (cc)
+block_by h p k c (UnmapSub o q f m r) g e = absurd (cc)
 block_by h p k c (SplitPmd q) g e = absurd (cc)
 block_by h p k c (Pin q) g e = absurd (cc)
-block_by h p k c (Unpin q o r) g e = absurd (cc)
+block_by h p k c (Unpin o q r) g e = absurd (cc)
+block_by h p k c (Write q x m) g e = absurd (cc)
+block_by h p k c (Zero q x m) g e = absurd (cc)
 block_by h p k c (Taken q) g e = absurd (cc)
 block_by h p k c (Split q r) g e = absurd (cc)
 block_by h p k c (Pinned q) g e = absurd (cc)
+block_by h p k c (Used q) g e = absurd (cc)
 block_by h p k c (Back q) g e = absurd (cc)
 block_by h p k c (Dropped q) g e = absurd (cc)
 block_by h p k c Close g e = absurd (cc)

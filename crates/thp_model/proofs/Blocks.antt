@@ -46,9 +46,9 @@ occupied_by bs p _ = bs
 -- the blocks in use after an event
 abbrev pub occupied_after : List (ℕ × ℕ) → What → List (ℕ × ℕ)
 occupied_after bs (Alloc p b) = bs ++ (b, p) ∷ []
-occupied_after bs (UnmapWhole p o r) = occupied_by bs p o
-occupied_after bs (UnmapSub p f n o r) = occupied_by bs p o
-occupied_after bs (Unpin p o r) = occupied_by bs p o
+occupied_after bs (UnmapWhole o p r) = occupied_by bs p o
+occupied_after bs (UnmapSub o p f n r) = occupied_by bs p o
+occupied_after bs (Unpin o p r) = occupied_by bs p o
 occupied_after bs _ = bs
 
 -- the blocks in use, each with its page, in the order of allocation
@@ -226,9 +226,9 @@ as_live_step shape h c (Alloc p b) t f s =
       last : (x : Bool) → x ≡ true → (bs : List (ℕ × ℕ)) → bs ++ (b, p) ∷ [] ≡ bs ++ cond x ((b, p) ∷ []) []
       last true e bs = refl
       last false e bs = absurd (cc)
-as_live_step shape h c (UnmapWhole p o r) t f s = living_by h (by c (UnmapWhole p o r)) p o refl refl (λ q. refl) (λ q. refl) s
-as_live_step shape h c (UnmapSub p x m o r) t f s = living_by h (by c (UnmapSub p x m o r)) p o refl refl (λ q. refl) (λ q. refl) s
-as_live_step shape h c (Unpin p o r) t f s = living_by h (by c (Unpin p o r)) p o refl refl (λ q. refl) (λ q. refl) s
+as_live_step shape h c (UnmapWhole o p r) t f s = living_by h (by c (UnmapWhole o p r)) p o refl refl (λ q. refl) (λ q. refl) s
+as_live_step shape h c (UnmapSub o p x m r) t f s = living_by h (by c (UnmapSub o p x m r)) p o refl refl (λ q. refl) (λ q. refl) s
+as_live_step shape h c (Unpin o p r) t f s = living_by h (by c (Unpin o p r)) p o refl refl (λ q. refl) (λ q. refl) s
 as_live_step shape h c w t f s = living_same h (by c w) refl refl (λ q. refl) (λ q. refl) s
 
 -- blocks taken out stay apart
@@ -280,9 +280,9 @@ good_step shape h k c (Alloc p b) is f g =
       go : (d : ℕ) (x : Bool) → list_any (nat_eq d) (blocks_in_use h) ≡ x → (list_any (nat_eq d) (blocks_in_use h) || (nat_eq d b || false)) ≡ true → d < shape.blocks
       go d true i e = g.in_range d i
       go d false i e = let y : nat_eq d b ≡ true = sym (or-false (nat_eq d b)) ∙ sym (ap (λ v. v || (nat_eq d b || false)) i) ∙ e in let z : d ≡ b = eqb-true d b y in omega (arith, f.inside)
-good_step shape h k c (UnmapWhole p o r) is f g = good_by shape.blocks (occupied h) p o g
-good_step shape h k c (UnmapSub p x m o r) is f g = good_by shape.blocks (occupied h) p o g
-good_step shape h k c (Unpin p o r) is f g = good_by shape.blocks (occupied h) p o g
+good_step shape h k c (UnmapWhole o p r) is f g = good_by shape.blocks (occupied h) p o g
+good_step shape h k c (UnmapSub o p x m r) is f g = good_by shape.blocks (occupied h) p o g
+good_step shape h k c (Unpin o p r) is f g = good_by shape.blocks (occupied h) p o g
 good_step shape h k c w is f g = g
 
 -- what holds of the blocks of a legal history

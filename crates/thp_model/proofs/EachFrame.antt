@@ -3,7 +3,7 @@ use Rattle.std.proofs.Common.{◌≡◌, ◌≢◌, ℕ, ◌+◌, ◌<◌, ◌�
 use Rattle.std.proofs.lemmas.Bool.Decides.{eqb_tells, nat_tests}
 use Rattle.thp_model.specs.declared.events.Event.{Event}
 use Rattle.thp_model.specs.declared.events.What.{What}
-use Rattle.thp_model.specs.declared.events.What.TheVariants.{Alloc, MapWhole, UnmapWhole, MapSub, UnmapSub, Unpin, Split}
+use Rattle.thp_model.specs.declared.events.What.TheVariants.{Alloc, MapWhole, UnmapWhole, MapSub, UnmapSub, Unpin, Write, Zero, Split}
 use Rattle.thp_model.specs.declared.shape.Shape.{Shape}
 use Rattle.thp_model.specs.History.{History, count_of, some_event, by}
 use Rattle.thp_model.specs.Counts.{is_live, is_split, is_alloc, allocates, frees, splits, allocations}
@@ -14,14 +14,14 @@ use Rattle.thp_model.specs.Places.{flights}
 use Rattle.thp_model.specs.Sets.{has}
 use Rattle.thp_model.specs.Shapes.{subpages}
 use Rattle.thp_model.specs.Words.{get_or-set_of}
-use Rattle.thp_model.proofs.Allowed.{allowed_map_whole}
+use Rattle.thp_model.proofs.Allowed.{allowed_map_whole, allowed_write, allowed_zero}
 use Rattle.thp_model.proofs.Bools.{and_no, and_both}
 use Rattle.thp_model.proofs.Holding.{whole_held, held_still, held_falls, unsplit_same, kept_map_sub, still_unmap_whole, still_unmap_sub, still_unpin, still_split}
 use Rattle.thp_model.proofs.LegalSteps.{legal_all}
-use Rattle.thp_model.proofs.Numbers.{Numbered, Fresh, numbered_push, numbered_none}
+use Rattle.thp_model.proofs.Numbers.{Numbered, Fresh, numbered_none}
 use Rattle.thp_model.proofs.Pushes.{count_of_push, some_event_push, count_same, count_more, some_same}
 use Rattle.thp_model.proofs.Sizes.{few_subpages}
-use Rattle.thp_model.proofs.Standing.{Sound, sound_push, sound_none, stand, flying-leaves}
+use Rattle.thp_model.proofs.Standing.{Sound, sound_push, sound_none, numbered_push, stand, flying-leaves}
 
 -- what one event does to one frame
 abbrev Turns : Shape → History → Event → ℕ → ℕ → Type 0
@@ -61,7 +61,7 @@ fresh_held shape h p i f = go (nat_lt i (subpages shape)) (some_event (allocates
   go false a b v e = refl
 
 -- an event that fits gives a frame back exactly where it ends its being held, and an allocation begins it
-turn : (shape : Shape) (h : History) (c : ℕ) (w : What) (p i : ℕ) → shape.order ≤ 9 → i < subpages shape → Sound h → Numbered h → FitsBy shape h (h ++ by c w ∷ []) c w → Turns shape h (by c w) p i
+turn : (shape : Shape) (h : History) (c : ℕ) (w : What) (p i : ℕ) → shape.order ≤ 9 → i < subpages shape → Sound shape h → Numbered h → FitsBy shape h (h ++ by c w ∷ []) c w → Turns shape h (by c w) p i
 turn shape h c (Alloc q b) p i small below s t f =
     let e : Event = by c (Alloc q b) in
     let k : History = h ++ e ∷ [] in
@@ -70,7 +70,7 @@ turn shape h c (Alloc q b) p i small below s t f =
           let fresh : Fresh h p = t.fresh p (let z : p ≡ q = y.1 in omega (arith, f.number)) in
           let live : is_live k p ≡ true = new_live _ _ _ _ (some_event_push (allocates p) h e) y.0 (some_same (frees p) h e refl ∙ fresh.not_freed) in
           new _ _ _ (whole_held shape k p i live (some_same (splits p) h e refl ∙ fresh.not_split) (lt-ltb i (subpages shape) below)) (fresh_held shape h p i fresh) y.0
-      | inr y ↦ same_turn shape h e p i (held_still shape h e p i (record { no_maps = λ j. y.0; no_unmaps = λ j. refl; no_alloc = y.0; no_free = refl; no_split = refl })) refl y.0
+      | inr y ↦ same_turn shape h e p i (held_still shape h e p i (record { no_maps = λ j. y.0; no_unmaps = λ j. refl; no_alloc = y.0; no_free = refl; no_split = refl; no_zeroes = λ j. y.0; no_writes = λ j. refl })) refl y.0
     ] where
       new_live : (a a' f b : Bool) → a' ≡ (a || b) → b ≡ true → f ≡ false → (a' && not f) ≡ true
       new_live a true true b e g h = absurd (cc)
@@ -84,30 +84,42 @@ turn shape h c (MapWhole q) p i small below s t f =
     let e : Event = by c (MapWhole q) in
     elim (eqb_tells p q) [
       | inl y ↦ same_turn shape h e p i (unsplit_same shape h e p i (let P : ℕ → Type 0 = λ x. is_split h x ≡ false in subst P (sym y.1) (allowed_map_whole shape h q f).1) refl refl refl) refl refl
-      | inr y ↦ same_turn shape h e p i (held_still shape h e p i (record { no_maps = λ j. y.0; no_unmaps = λ j. refl; no_alloc = refl; no_free = refl; no_split = refl })) refl refl
+      | inr y ↦ same_turn shape h e p i (held_still shape h e p i (record { no_maps = λ j. y.0; no_unmaps = λ j. refl; no_alloc = refl; no_free = refl; no_split = refl; no_zeroes = λ j. refl; no_writes = λ j. refl })) refl refl
     ]
-turn shape h c (UnmapWhole q o r) p i small below s t f =
-    let e : Event = by c (UnmapWhole q o r) in
-    release_turn shape h e q r p i small below refl refl f.1.set_is (held_falls shape h e q i (λ j. refl) refl refl) (λ a. held_still shape h e p i (still_unmap_whole p q o r a))
+turn shape h c (UnmapWhole o q r) p i small below s t f =
+    let e : Event = by c (UnmapWhole o q r) in
+    release_turn shape h e q r p i small below refl refl f.1.set_is (held_falls shape h e q i (λ j. refl) refl refl refl refl) (λ a. held_still shape h e p i (still_unmap_whole p q o r a))
 turn shape h c (MapSub q a d) p i small below s t f =
     let e : Event = by c (MapSub q a d) in
     elim (eqb_tells p q) [
       | inl y ↦ same_turn shape h e p i (let P : ℕ → Type 0 = λ x. is_held shape (h ++ e ∷ []) x i ≡ is_held shape h x i in subst P (sym y.1) (kept_map_sub shape h c q a d i f)) refl refl
-      | inr y ↦ same_turn shape h e p i (held_still shape h e p i (record { no_maps = λ j. and_no _ _ y.0; no_unmaps = λ j. refl; no_alloc = refl; no_free = refl; no_split = refl })) refl refl
+      | inr y ↦ same_turn shape h e p i (held_still shape h e p i (record { no_maps = λ j. and_no _ _ y.0; no_unmaps = λ j. refl; no_alloc = refl; no_free = refl; no_split = refl; no_zeroes = λ j. refl; no_writes = λ j. refl })) refl refl
     ]
-turn shape h c (UnmapSub q a d o r) p i small below s t f =
-    let e : Event = by c (UnmapSub q a d o r) in
-    release_turn shape h e q r p i small below refl refl f.1.set_is (held_falls shape h e q i (λ j. refl) refl refl) (λ y. held_still shape h e p i (still_unmap_sub p q a d o r y))
-turn shape h c (Unpin q o r) p i small below s t f =
-    let e : Event = by c (Unpin q o r) in
-    release_turn shape h e q r p i small below refl refl f.1.set_is (held_falls shape h e q i (λ j. refl) refl refl) (λ a. held_still shape h e p i (still_unpin p q o r a))
+turn shape h c (UnmapSub o q a d r) p i small below s t f =
+    let e : Event = by c (UnmapSub o q a d r) in
+    release_turn shape h e q r p i small below refl refl f.1.set_is (held_falls shape h e q i (λ j. refl) refl refl refl refl) (λ y. held_still shape h e p i (still_unmap_sub p q a d o r y))
+turn shape h c (Unpin o q r) p i small below s t f =
+    let e : Event = by c (Unpin o q r) in
+    release_turn shape h e q r p i small below refl refl f.1.set_is (held_falls shape h e q i (λ j. refl) refl refl refl refl) (λ a. held_still shape h e p i (still_unpin p q o r a))
 turn shape h c (Split q r) p i small below s t f =
     let e : Event = by c (Split q r) in
-    let up : 0 < stand h q = omega (arith, flying-leaves q c (flights h) f.in_flight) in
+    let up : 0 < stand shape h q = omega (arith, flying-leaves q c (flights h) f.in_flight) in
     release_turn shape h e q r p i small below refl refl f.set_is (λ g. whole_held shape h q i (s.live q up) (s.whole_page q up) (and_both (nat_lt i (subpages shape)) _ g).0) (λ a. held_still shape h e p i (still_split p q r a))
+turn shape h c (Write q a d) p i small below s t f =
+    let e : Event = by c (Write q a d) in
+    elim (eqb_tells p q) [
+      | inl y ↦ same_turn shape h e p i (unsplit_same shape h e p i (ap (is_split h) y.1 ∙ (allowed_write shape h q a d f).2) refl refl refl) refl refl
+      | inr y ↦ same_turn shape h e p i (held_still shape h e p i (record { no_maps = λ j. refl; no_unmaps = λ j. refl; no_alloc = refl; no_free = refl; no_split = refl; no_zeroes = λ j. refl; no_writes = λ j. and_no _ _ y.0 })) refl refl
+    ]
+turn shape h c (Zero q a d) p i small below s t f =
+    let e : Event = by c (Zero q a d) in
+    elim (eqb_tells p q) [
+      | inl y ↦ same_turn shape h e p i (unsplit_same shape h e p i (ap (is_split h) y.1 ∙ (allowed_zero shape h q a d f).2) refl refl refl) refl refl
+      | inr y ↦ same_turn shape h e p i (held_still shape h e p i (record { no_maps = λ j. refl; no_unmaps = λ j. refl; no_alloc = refl; no_free = refl; no_split = refl; no_zeroes = λ j. and_no _ _ y.0; no_writes = λ j. refl })) refl refl
+    ]
 turn shape h c w p i small below s t f =
     let e : Event = by c w in
-    same_turn shape h e p i (held_still shape h e p i (record { no_maps = λ j. refl; no_unmaps = λ j. refl; no_alloc = refl; no_free = refl; no_split = refl })) refl refl
+    same_turn shape h e p i (held_still shape h e p i (record { no_maps = λ j. refl; no_unmaps = λ j. refl; no_alloc = refl; no_free = refl; no_split = refl; no_zeroes = λ j. refl; no_writes = λ j. refl })) refl refl
 
 -- how many pages are numbered below
 more_step : (shape : Shape) (h : History) (c : ℕ) (w : What) (p : ℕ) → FitsBy shape h (h ++ by c w ∷ []) c w →
@@ -121,14 +133,14 @@ more_step shape h c w p f = ap (λ m. cond {A = ℕ} (nat_lt p m) 1 0) (count_sa
 
 -- each frame of each page allocated so far is held, or was given back once
 record Once (shape : Shape) (h : History) : Type 0 where
-  sound : Sound h
+  sound : Sound shape h
   numbered : Numbered h
   each : (p i : ℕ) → i < subpages shape → cond (is_held shape h p i) 1 0 + count_of (gives_frame p i) h ≡ cond (nat_lt p (allocations h)) 1 0
 
 -- one more event that fits keeps it
 once_push : (shape : Shape) (h : History) (e : Event) → shape.order ≤ 9 → Once shape h → Fits shape h e → Once shape (h ++ e ∷ [])
 once_push shape h e small s f = record {
-  sound = sound_push shape h e s.sound f;
+  sound = sound_push shape h e s.sound s.numbered f;
   numbered = numbered_push shape h e s.sound s.numbered f;
   each = λ p i below.
       omega (arith, count_of_push (gives_frame p i) h e, turn shape h e.caller e.what p i small below s.sound s.numbered f, more_step shape h e.caller e.what p f, s.each p i below);
@@ -137,7 +149,7 @@ once_push shape h e small s f = record {
 -- it holds of the empty history
 once_none : (shape : Shape) → Once shape []
 unfolding count_of some_event
-once_none shape = record { sound = sound_none; numbered = numbered_none; each = λ p i below. go (nat_lt i (subpages shape)) (nat_lt p 0) (none_lt p) } where
+once_none shape = record { sound = sound_none shape; numbered = numbered_none; each = λ p i below. go (nat_lt i (subpages shape)) (nat_lt p 0) (none_lt p) } where
   go : (x y : Bool) → y ≡ false → cond {A = ℕ} (x && false) 1 0 + 0 ≡ cond y 1 0
   go true true e = absurd (cc)
   go true false e = refl

@@ -8,7 +8,7 @@ use Rattle.thp_model.specs.declared.events.Event.{Event}
 use Rattle.thp_model.specs.declared.events.Outcome.{Outcome}
 use Rattle.thp_model.specs.declared.events.Outcome.TheVariants.{Freed, Queued}
 use Rattle.thp_model.specs.declared.events.What.{What}
-use Rattle.thp_model.specs.declared.events.What.TheVariants.{Alloc, MapWhole, UnmapWhole, MapSub, UnmapSub, SplitPmd, Pin, Unpin, Taken, Split, Pinned, Back, Dropped, Close}
+use Rattle.thp_model.specs.declared.events.What.TheVariants.{Alloc, MapWhole, UnmapWhole, MapSub, UnmapSub, SplitPmd, Pin, Unpin, Write, Zero, Taken, Split, Pinned, Used, Back, Dropped, Close}
 use Rattle.thp_model.specs.declared.shape.Shape.{Shape}
 use Rattle.thp_model.specs.History.{History, by, some_event}
 use Rattle.thp_model.specs.Counts.{is_live, is_split, is_closed, is_queued, is_freed, allocates, frees}
@@ -19,7 +19,7 @@ use Rattle.thp_model.specs.PlaceLaws.{enters, takes_of, is_others, acts_on}
 use Rattle.thp_model.specs.Places.{queue, flight, flights, has_page, stands}
 use Rattle.thp_model.specs.Runs.{still_flying}
 use Rattle.thp_model.proofs.Alive.{legal_grown}
-use Rattle.thp_model.proofs.Allowed.{allowed_alloc, allowed_map_whole, allowed_unmap_whole, allowed_map_sub, allowed_unmap_sub, allowed_split_pmd, allowed_pin, allowed_unpin}
+use Rattle.thp_model.proofs.Allowed.{allowed_alloc, allowed_map_whole, allowed_unmap_whole, allowed_map_sub, allowed_unmap_sub, allowed_split_pmd, allowed_pin, allowed_unpin, allowed_write, allowed_zero}
 use Rattle.thp_model.proofs.Blocks.{filter-filter}
 use Rattle.thp_model.proofs.Bools.{by_bool, or_first, and_both, and-true, and-false, not_true}
 use Rattle.thp_model.proofs.Counting.{count_any}
@@ -31,19 +31,19 @@ use Rattle.thp_model.proofs.Pushes.{queue_push}
 use Rattle.thp_model.proofs.Standing.{Sound, legal_sound, stand, times, flying, outcome_queued, any-pages, pages, first_has}
 
 -- a page that stands is live and not split
-up_by : (h : History) (p : ℕ) → stands h p ≡ true → 0 < stand h p
+pub up_by : (shape : Shape) (h : History) (p : ℕ) → stands shape h p ≡ true → 0 < stand shape h p
 unfolding times flying
-up_by h p e =
-    by_bool (has_page p (queue h)) _
-    (λ y. omega (arith, (count_any (λ q. nat_eq q p) (queue h)).1 y))
-    (λ y. omega (arith, (count_any (λ (f : ℕ × ℕ). nat_eq f.1 p) (flights h)).1 (sym (any-pages p (flights h)) ∙ second _ _ y (sym (list_any-append (λ q. nat_eq q p) (queue h) (pages (flights h))) ∙ e)))) where
+up_by shape h p e =
+    by_bool (has_page p (queue shape h)) _
+    (λ y. omega (arith, (count_any (λ q. nat_eq q p) (queue shape h)).1 y))
+    (λ y. omega (arith, (count_any (λ (f : ℕ × ℕ). nat_eq f.1 p) (flights h)).1 (sym (any-pages p (flights h)) ∙ second _ _ y (sym (list_any-append (λ q. nat_eq q p) (queue shape h) (pages (flights h))) ∙ e)))) where
       second : (a b : Bool) → a ≡ false → (a || b) ≡ true → b ≡ true
       second true b e f = absurd (cc)
       second false b e f = f
 
 -- a page that stands is live and not split
-pub stands_whole : (shape : Shape) (h : History) → IsLegal shape h → (p : ℕ) → stands h p ≡ true → (is_live h p ≡ true) × (is_split h p ≡ false)
-stands_whole shape h l p e = let s : Sound h = legal_sound shape h l in (s.live p (up_by h p e), s.whole_page p (up_by h p e))
+pub stands_whole : (shape : Shape) (h : History) → IsLegal shape h → (p : ℕ) → stands shape h p ≡ true → (is_live h p ≡ true) × (is_split h p ≡ false)
+stands_whole shape h l p e = let s : Sound shape h = legal_sound shape h l in (s.live p (up_by shape h p e), s.whole_page p (up_by shape h p e))
 
 -- nothing enters after a close
 not_queued : (shape : Shape) (h k : History) (p : ℕ) (o : Outcome) → is_closed h ≡ true → o ≡ outcome shape h k p → is_queued o ≡ false
@@ -53,9 +53,9 @@ not_queued shape h k p o c e = refl
 -- an event that fits a closed node puts no page in
 no_enter : (shape : Shape) (h k : History) (c : ℕ) (w : What) → is_closed h ≡ true → FitsBy shape h k c w → enters w ≡ false
 no_enter shape h k c (Alloc p b) y f = absurd (let g : is_closed h ≡ false = (allowed_alloc shape h f.allowed).0 in cc)
-no_enter shape h k c (UnmapWhole p o r) y f = not_queued shape h k p o y f.1.outcome_is
-no_enter shape h k c (UnmapSub p a m o r) y f = not_queued shape h k p o y f.1.outcome_is
-no_enter shape h k c (Unpin p o r) y f = not_queued shape h k p o y f.1.outcome_is
+no_enter shape h k c (UnmapWhole o p r) y f = not_queued shape h k p o y f.1.outcome_is
+no_enter shape h k c (UnmapSub o p a m r) y f = not_queued shape h k p o y f.1.outcome_is
+no_enter shape h k c (Unpin o p r) y f = not_queued shape h k p o y f.1.outcome_is
 no_enter shape h k c (Back p) y f = absurd (let g : is_closed h ≡ false = f.1 in cc)
 no_enter shape h k c w y f = refl
 
@@ -64,14 +64,14 @@ pub none_enters : (shape : Shape) (h : History) → IsLegal shape h → (k : ℕ
 none_enters shape h l k e g y = no_enter shape (take k h) (take k h ++ e ∷ []) e.caller e.what y (l.each k e g)
 
 -- a run of takes takes the queue's first pages
-pub oldest : (shape : Shape) (h : History) (c : ℕ) (ps : List ℕ) → IsLegal shape (h ++ takes_of c ps) → ps ≡ take (length ps) (queue h)
+pub oldest : (shape : Shape) (h : History) (c : ℕ) (ps : List ℕ) → IsLegal shape (h ++ takes_of c ps) → ps ≡ take (length ps) (queue shape h)
 oldest shape h c [] l = refl
 oldest shape h c (p ∷ ps) l =
     let e : Event = by c (Taken p) in
     let L : History → Type 0 = λ x. IsLegal shape x in
     let more : IsLegal shape ((h ++ e ∷ []) ++ takes_of c ps) = subst L (sym (append_assoc h (e ∷ []) (takes_of c ps))) l in
-    let first : slice_get (queue h) 0 ≡ Some p = (legal_at shape h e (takes_of c ps) l).oldest in
-    go (queue h) ps p first (oldest shape (h ++ e ∷ []) c ps more ∙ ap (λ q. take (length ps) q) (queue_push h e)) where
+    let first : slice_get (queue shape h) 0 ≡ Some p = (legal_at shape h e (takes_of c ps) l).oldest in
+    go (queue shape h) ps p first (oldest shape (h ++ e ∷ []) c ps more ∙ ap (λ q. take (length ps) q) (queue_push shape h e)) where
       go : (q ps : List ℕ) (p : ℕ) → slice_get q 0 ≡ Some p → ps ≡ take (length ps) (drop 1 q) → p ∷ ps ≡ take (suc (length ps)) q
       go [] ps p e f = absurd (cc)
       go (x ∷ q) ps p e f = let s : x ≡ p = cc in cc
@@ -98,11 +98,12 @@ skip false qs ps e = refl
 
 -- another caller's event takes out what it frees
 after_other : (c d : ℕ) (ps : List ℕ) (w : What) → nat_eq d c ≡ false → flight_after c ps d w ≡ filter (λ p. not (frees p w)) ps
-after_other c d ps (UnmapWhole p o r) e = by_free ps p o
-after_other c d ps (UnmapSub p f n o r) e = by_free ps p o
-after_other c d ps (Unpin p o r) e = by_free ps p o
+after_other c d ps (UnmapWhole o p r) e = by_free ps p o
+after_other c d ps (UnmapSub o p f n r) e = by_free ps p o
+after_other c d ps (Unpin o p r) e = by_free ps p o
 after_other c d ps (Taken p) e = skip _ _ _ e ∙ sym (filter_all ps)
 after_other c d ps (Split p r) e = skip _ _ _ e ∙ sym (filter_all ps)
+after_other c d ps (Used p) e = skip _ _ _ e ∙ sym (filter_all ps)
 after_other c d ps (Back p) e = skip _ _ _ e ∙ sym (filter_all ps)
 after_other c d ps (Dropped p) e = skip _ _ _ e ∙ sym (filter_all ps)
 after_other c d ps w e = sym (filter_all ps)
@@ -173,18 +174,21 @@ batch_in_front shape h es c ps qs l o e =
 acts_live : (shape : Shape) (h k : History) (c : ℕ) (w : What) (p : ℕ) → IsLegal shape h → FitsBy shape h k c w → acts_on p w ≡ true → is_live h p ≡ true
 acts_live shape h k c (Alloc q b) p l f y = absurd (cc)
 acts_live shape h k c (MapWhole q) p l f y = ap (is_live h) (eqb-true p q y) ∙ (allowed_map_whole shape h q f).0
-acts_live shape h k c (UnmapWhole q o r) p l f y = ap (is_live h) (eqb-true p q y) ∙ (allowed_unmap_whole shape h q f.0).0
+acts_live shape h k c (UnmapWhole o q r) p l f y = ap (is_live h) (eqb-true p q y) ∙ (allowed_unmap_whole shape h q f.0).0
 acts_live shape h k c (MapSub q a d) p l f y = ap (is_live h) (eqb-true p q y) ∙ (allowed_map_sub shape h q a d f).0
-acts_live shape h k c (UnmapSub q a d o r) p l f y = ap (is_live h) (eqb-true p q y) ∙ (allowed_unmap_sub shape h q a d f.0).0
+acts_live shape h k c (UnmapSub o q a d r) p l f y = ap (is_live h) (eqb-true p q y) ∙ (allowed_unmap_sub shape h q a d f.0).0
 acts_live shape h k c (SplitPmd q) p l f y = ap (is_live h) (eqb-true p q y) ∙ (allowed_split_pmd shape h q f).0
 acts_live shape h k c (Pin q) p l f y = ap (is_live h) (eqb-true p q y) ∙ (allowed_pin shape h q f).0
-acts_live shape h k c (Unpin q o r) p l f y = ap (is_live h) (eqb-true p q y) ∙ (allowed_unpin shape h q f.0).0
-acts_live shape h k c (Taken q) p l f y = ap (is_live h) (eqb-true p q y) ∙ (stands_whole shape h l q (first_stands (queue h) (pages (flights h)) q f.oldest)).0 where
+acts_live shape h k c (Unpin o q r) p l f y = ap (is_live h) (eqb-true p q y) ∙ (allowed_unpin shape h q f.0).0
+acts_live shape h k c (Write q a d) p l f y = ap (is_live h) (eqb-true p q y) ∙ (allowed_write shape h q a d f).0
+acts_live shape h k c (Zero q a d) p l f y = ap (is_live h) (eqb-true p q y) ∙ (allowed_zero shape h q a d f).0
+acts_live shape h k c (Taken q) p l f y = ap (is_live h) (eqb-true p q y) ∙ (stands_whole shape h l q (first_stands (queue shape h) (pages (flights h)) q f.oldest)).0 where
   first_stands : (xs ys : List ℕ) (q : ℕ) → slice_get xs 0 ≡ Some q → has_page q (xs ++ ys) ≡ true
   first_stands [] ys q e = absurd (cc)
   first_stands (x ∷ xs) ys q e = let same : x ≡ q = cc in or_first _ _ (eq-eqb x q same)
 acts_live shape h k c (Split q r) p l f y = ap (is_live h) (eqb-true p q y) ∙ (flies_live shape h c q l f.in_flight).0
 acts_live shape h k c (Pinned q) p l f y = ap (is_live h) (eqb-true p q y) ∙ (flies_live shape h c q l f.0).0
+acts_live shape h k c (Used q) p l f y = ap (is_live h) (eqb-true p q y) ∙ (flies_live shape h c q l f.0).0
 acts_live shape h k c (Back q) p l f y = ap (is_live h) (eqb-true p q y) ∙ (flies_live shape h c q l (first_has q (flight h c) f.0)).0
 acts_live shape h k c (Dropped q) p l f y = ap (is_live h) (eqb-true p q y) ∙ (flies_live shape h c q l (first_has q (flight h c) f.0)).0
 acts_live shape h k c Close p l f y = absurd (cc)
@@ -197,15 +201,18 @@ left_alone shape h l k e p g y = acts_live shape (take k h) (take k h ++ e ∷ [
 alloc_new : (shape : Shape) (h k : History) (c : ℕ) (w : What) (p : ℕ) → IsLegal shape h → FitsBy shape h k c w → allocates p w ≡ true → some_event (allocates p) h ≡ false
 alloc_new shape h k c (Alloc q b) p l f y = ((legal_grown shape h l).numbered.fresh p (let z : p ≡ q = eqb-true p q y in omega (arith, f.number))).never
 alloc_new shape h k c (MapWhole q) p l f y = absurd (cc)
-alloc_new shape h k c (UnmapWhole q o r) p l f y = absurd (cc)
+alloc_new shape h k c (UnmapWhole o q r) p l f y = absurd (cc)
 alloc_new shape h k c (MapSub q a d) p l f y = absurd (cc)
-alloc_new shape h k c (UnmapSub q a d o r) p l f y = absurd (cc)
+alloc_new shape h k c (UnmapSub o q a d r) p l f y = absurd (cc)
 alloc_new shape h k c (SplitPmd q) p l f y = absurd (cc)
 alloc_new shape h k c (Pin q) p l f y = absurd (cc)
-alloc_new shape h k c (Unpin q o r) p l f y = absurd (cc)
+alloc_new shape h k c (Unpin o q r) p l f y = absurd (cc)
+alloc_new shape h k c (Write q a d) p l f y = absurd (cc)
+alloc_new shape h k c (Zero q a d) p l f y = absurd (cc)
 alloc_new shape h k c (Taken q) p l f y = absurd (cc)
 alloc_new shape h k c (Split q r) p l f y = absurd (cc)
 alloc_new shape h k c (Pinned q) p l f y = absurd (cc)
+alloc_new shape h k c (Used q) p l f y = absurd (cc)
 alloc_new shape h k c (Back q) p l f y = absurd (cc)
 alloc_new shape h k c (Dropped q) p l f y = absurd (cc)
 alloc_new shape h k c Close p l f y = absurd (cc)
@@ -221,6 +228,6 @@ unfolding flights
 flight_none c = refl
 
 -- the queue starts empty
-pub queue_none : queue [] ≡ []
+pub queue_none : (shape : Shape) → queue shape [] ≡ []
 unfolding queue
-queue_none = refl
+queue_none shape = refl

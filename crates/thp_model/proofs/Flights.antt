@@ -4,7 +4,7 @@ use Rattle.std.specs.List.{filter}
 use Rattle.thp_model.specs.declared.events.Outcome.{Outcome}
 use Rattle.thp_model.specs.declared.events.Outcome.TheVariants.{Freed, Queued, Stays}
 use Rattle.thp_model.specs.declared.events.What.{What}
-use Rattle.thp_model.specs.declared.events.What.TheVariants.{UnmapWhole, UnmapSub, Unpin, Taken, Split, Back, Dropped}
+use Rattle.thp_model.specs.declared.events.What.TheVariants.{UnmapWhole, UnmapSub, Unpin, Taken, Split, Used, Back, Dropped}
 use Rattle.thp_model.specs.History.{History, by}
 use Rattle.thp_model.specs.FlightSteps.{flight_after, flight_by}
 use Rattle.thp_model.specs.Places.{flights, flight, flights_by, without, leaves}
@@ -78,11 +78,12 @@ by_freed c p Stays fs = refl
 
 -- the last event changes a flight so
 pub flight_push : (h : History) (c d : ℕ) (w : What) → flight (h ++ by d w ∷ []) c ≡ flight_after c (flight h c) d w
-flight_push h c d (UnmapWhole p o r) = ap (of c) (flights_push h (by d (UnmapWhole p o r))) ∙ by_freed c p o (flights h)
-flight_push h c d (UnmapSub p f n o r) = ap (of c) (flights_push h (by d (UnmapSub p f n o r))) ∙ by_freed c p o (flights h)
-flight_push h c d (Unpin p o r) = ap (of c) (flights_push h (by d (Unpin p o r))) ∙ by_freed c p o (flights h)
+flight_push h c d (UnmapWhole o p r) = ap (of c) (flights_push h (by d (UnmapWhole o p r))) ∙ by_freed c p o (flights h)
+flight_push h c d (UnmapSub o p f n r) = ap (of c) (flights_push h (by d (UnmapSub o p f n r))) ∙ by_freed c p o (flights h)
+flight_push h c d (Unpin o p r) = ap (of c) (flights_push h (by d (Unpin o p r))) ∙ by_freed c p o (flights h)
 flight_push h c d (Taken p) = ap (of c) (flights_push h (by d (Taken p))) ∙ of_push c d p (flights h)
 flight_push h c d (Split p r) = ap (of c) (flights_push h (by d (Split p r))) ∙ of-leaves c d p (flights h)
+flight_push h c d (Used p) = ap (of c) (flights_push h (by d (Used p))) ∙ of-leaves c d p (flights h)
 flight_push h c d (Back p) = ap (of c) (flights_push h (by d (Back p))) ∙ of-leaves c d p (flights h)
 flight_push h c d (Dropped p) = ap (of c) (flights_push h (by d (Dropped p))) ∙ of-leaves c d p (flights h)
 flight_push h c d w = ap (of c) (flights_push h (by d w))

@@ -7,8 +7,9 @@ use Rattle.thp_model.specs.declared.events.What.{What}
 use Rattle.thp_model.specs.declared.events.What.TheVariants.{UnmapWhole, MapSub, UnmapSub, Unpin, Split}
 use Rattle.thp_model.specs.declared.shape.Shape.{Shape}
 use Rattle.thp_model.specs.History.{History, count_of, some_event, by}
-use Rattle.thp_model.specs.Counts.{maps, unmaps, total, is_split, is_live, allocates, frees, splits, is_used}
-use Rattle.thp_model.specs.Frames.{is_held}
+use Rattle.thp_model.specs.Counts.{maps, unmaps, total, is_split, is_live, allocates, frees, splits}
+use Rattle.thp_model.specs.Frames.{is_held, keeps_frame}
+use Rattle.thp_model.specs.Underused.{shrinks_underused, is_zero_filled, writes, zeroes}
 use Rattle.thp_model.specs.Refusals.{refusal}
 use Rattle.thp_model.specs.Refusals as call
 use Rattle.thp_model.specs.Sets.{covers}
@@ -16,36 +17,40 @@ use Rattle.thp_model.specs.Shapes.{subpages}
 use Rattle.thp_model.proofs.Allowed.{allowed_map_sub}
 use Rattle.thp_model.proofs.Below.{some_none}
 use Rattle.thp_model.proofs.Bools.{by_bool, and_no}
-use Rattle.thp_model.proofs.Pushes.{count_of_push, some_event_push, count_same, some_same, live_stays}
+use Rattle.thp_model.proofs.Pushes.{count_of_push, some_event_push, count_same, some_same, live_stays, zero_stays}
 use Rattle.thp_model.proofs.Untouched.{apart}
 
--- the event changes neither the totals of page p nor whether it is live and split
+-- the event changes neither the totals of page p, nor whether it is live and split, nor what is zero-filled
 pub record Still (p : ℕ) (w : What) : Type 0 where
   pub no_maps : (i : ℕ) → maps p i w ≡ false
   pub no_unmaps : (i : ℕ) → unmaps p i w ≡ false
   pub no_alloc : allocates p w ≡ false
   pub no_free : frees p w ≡ false
   pub no_split : splits p w ≡ false
+  pub no_zeroes : (i : ℕ) → zeroes p i w ≡ false
+  pub no_writes : (i : ℕ) → writes p i w ≡ false
 
 -- whether a frame is held, by its parts
-abbrev pub held_by : ℕ → ℕ → Bool → Bool → ℕ → ℕ → Bool
-held_by n i l s a t = nat_lt i n && (l && (not s || (l && nat_lt 0 (a - t))))
+abbrev pub held_by : ℕ → ℕ → Bool → Bool → Bool → ℕ → ℕ → Bool → Bool
+held_by n i on l s a t z = nat_lt i n && (l && (not s || ((l && nat_lt 0 (a - t)) && not (on && z))))
 
 -- a frame is held by these parts alone
-held-ap : (n i : ℕ) (l l' s s' : Bool) (a a' t t' : ℕ) → l ≡ l' → s ≡ s' → a ≡ a' → t ≡ t' → held_by n i l s a t ≡ held_by n i l' s' a' t'
-held-ap n i l l' s s' a a' t t' e f g h = cc
+held-ap : (n i : ℕ) (on l l' s s' : Bool) (a a' t t' : ℕ) (z z' : Bool) → l ≡ l' → s ≡ s' → a ≡ a' → t ≡ t' → z ≡ z' → held_by n i on l s a t z ≡ held_by n i on l' s' a' t' z'
+held-ap n i on l l' s s' a a' t t' z z' e f g h j = cc
 
 -- an event that leaves them leaves what is held
 pub held_still : (shape : Shape) (h : History) (e : Event) (p i : ℕ) → Still p e.what → is_held shape (h ++ e ∷ []) p i ≡ is_held shape h p i
 held_still shape h e p i u =
-    held-ap (subpages shape) i _ _ _ _ _ _ _ _ (live_stays h e p u.no_alloc u.no_free) (some_same (splits p) h e u.no_split) (count_same (maps p i) h e (u.no_maps i)) (count_same (unmaps p i) h e (u.no_unmaps i))
+    held-ap (subpages shape) i (shrinks_underused shape) _ _ _ _ _ _ _ _ _ _ (live_stays h e p u.no_alloc u.no_free) (some_same (splits p) h e u.no_split) (count_same (maps p i) h e (u.no_maps i)) (count_same (unmaps p i) h e (u.no_unmaps i))
+    (zero_stays h e p i (u.no_zeroes i) (u.no_writes i))
 
 -- held stays so backwards where the totals only fall
-mono : (x l l' s u u' : Bool) → (l' ≡ true → l ≡ true) → (u' ≡ true → u ≡ true) → (x && (l' && (not s || (l' && u')))) ≡ true → (x && (l && (not s || (l && u)))) ≡ true
-mono false l l' s u u' f g h = h
-mono true l false s u u' f g h = absurd (cc)
-mono true l true false u u' f g h = let e : l ≡ true = f refl in rw e refl
-mono true l true true u u' f g h = let e : l ≡ true = f refl in rw (e, g h) refl
+mono : (x l l' s u u' z : Bool) → (l' ≡ true → l ≡ true) → (u' ≡ true → u ≡ true) → (x && (l' && (not s || ((l' && u') && not z)))) ≡ true → (x && (l && (not s || ((l && u) && not z)))) ≡ true
+mono false l l' s u u' z f g h = h
+mono true l false s u u' z f g h = absurd (cc)
+mono true l true false u u' z f g h = let e : l ≡ true = f refl in rw e refl
+mono true l true true u true z f g h = let e : l ≡ true = f refl in rw (e, g refl) h
+mono true l true true u false z f g h = absurd (cc)
 
 -- a total that an unmap lessens was positive
 fewer : (a t d : ℕ) → nat_lt 0 (a - (t + d)) ≡ true → nat_lt 0 (a - t) ≡ true
@@ -61,31 +66,33 @@ live_back h e p a l = go (some_event (allocates p) h) (some_event (frees p) h) (
 
 -- an event that adds no mapping leaves no frame held that wasn't
 pub held_falls : (shape : Shape) (h : History) (e : Event) (p i : ℕ) → ((j : ℕ) → maps p j e.what ≡ false) → allocates p e.what ≡ false → splits p e.what ≡ false →
-    is_held shape (h ++ e ∷ []) p i ≡ true → is_held shape h p i ≡ true
-held_falls shape h e p i no_maps no_alloc no_split f =
+    zeroes p i e.what ≡ false → writes p i e.what ≡ false → is_held shape (h ++ e ∷ []) p i ≡ true → is_held shape h p i ≡ true
+held_falls shape h e p i no_maps no_alloc no_split no_zeroes no_writes f =
     mono (nat_lt i (subpages shape)) (is_live h p) (is_live (h ++ e ∷ []) p) (is_split h p) (nat_lt 0 (total h p i)) (nat_lt 0 (count_of (maps p i) h - (count_of (unmaps p i) h + cond (unmaps p i e.what) 1 0)))
+    (shrinks_underused shape && is_zero_filled h p i)
     (live_back h e p no_alloc) (fewer (count_of (maps p i) h) (count_of (unmaps p i) h) (cond (unmaps p i e.what) 1 0))
-    (sym (held-ap (subpages shape) i (is_live (h ++ e ∷ []) p) (is_live (h ++ e ∷ []) p) _ _ _ _ _ _ refl (some_same (splits p) h e no_split) (count_same (maps p i) h e (no_maps i)) (count_of_push (unmaps p i) h e)) ∙ f)
+    (sym (held-ap (subpages shape) i (shrinks_underused shape) (is_live (h ++ e ∷ []) p) (is_live (h ++ e ∷ []) p) _ _ _ _ _ _ _ _ refl (some_same (splits p) h e no_split) (count_same (maps p i) h e (no_maps i)) (count_of_push (unmaps p i) h e)
+    (zero_stays h e p i no_zeroes no_writes)) ∙ f)
 
 -- an unmap of another page
-pub still_unmap_whole : (q p : ℕ) (o : Outcome) (r : List Bool) → (q ≢ p) → Still q (UnmapWhole p o r)
-still_unmap_whole q p o r f = record { no_maps = λ i. refl; no_unmaps = λ i. apart q p f; no_alloc = refl; no_free = and_no _ _ (apart q p f); no_split = refl }
+pub still_unmap_whole : (q p : ℕ) (o : Outcome) (r : List Bool) → (q ≢ p) → Still q (UnmapWhole o p r)
+still_unmap_whole q p o r f = record { no_maps = λ i. refl; no_unmaps = λ i. apart q p f; no_alloc = refl; no_free = and_no _ _ (apart q p f); no_split = refl; no_zeroes = λ j. refl; no_writes = λ j. refl }
 
 -- an unmap of subpages of another page
-pub still_unmap_sub : (q p a m : ℕ) (o : Outcome) (r : List Bool) → (q ≢ p) → Still q (UnmapSub p a m o r)
-still_unmap_sub q p a m o r f = record { no_maps = λ i. refl; no_unmaps = λ i. and_no _ _ (apart q p f); no_alloc = refl; no_free = and_no _ _ (apart q p f); no_split = refl }
+pub still_unmap_sub : (q p a m : ℕ) (o : Outcome) (r : List Bool) → (q ≢ p) → Still q (UnmapSub o p a m r)
+still_unmap_sub q p a m o r f = record { no_maps = λ i. refl; no_unmaps = λ i. and_no _ _ (apart q p f); no_alloc = refl; no_free = and_no _ _ (apart q p f); no_split = refl; no_zeroes = λ j. refl; no_writes = λ j. refl }
 
 -- an unpin of another page
-pub still_unpin : (q p : ℕ) (o : Outcome) (r : List Bool) → (q ≢ p) → Still q (Unpin p o r)
-still_unpin q p o r f = record { no_maps = λ i. refl; no_unmaps = λ i. refl; no_alloc = refl; no_free = and_no _ _ (apart q p f); no_split = refl }
+pub still_unpin : (q p : ℕ) (o : Outcome) (r : List Bool) → (q ≢ p) → Still q (Unpin o p r)
+still_unpin q p o r f = record { no_maps = λ i. refl; no_unmaps = λ i. refl; no_alloc = refl; no_free = and_no _ _ (apart q p f); no_split = refl; no_zeroes = λ j. refl; no_writes = λ j. refl }
 
 -- a split of another page
 pub still_split : (q p : ℕ) (r : List Bool) → (q ≢ p) → Still q (Split p r)
-still_split q p r f = record { no_maps = λ i. refl; no_unmaps = λ i. refl; no_alloc = refl; no_free = refl; no_split = apart q p f }
+still_split q p r f = record { no_maps = λ i. refl; no_unmaps = λ i. refl; no_alloc = refl; no_free = refl; no_split = apart q p f; no_zeroes = λ j. refl; no_writes = λ j. refl }
 
 -- a live page that isn't split holds each of its frames
 pub whole_held : (shape : Shape) (h : History) (p i : ℕ) → is_live h p ≡ true → is_split h p ≡ false → nat_lt i (subpages shape) ≡ true → is_held shape h p i ≡ true
-whole_held shape h p i l w x = go (nat_lt i (subpages shape)) (is_live h p) (is_split h p) (is_used h p i) x l w where
+whole_held shape h p i l w x = go (nat_lt i (subpages shape)) (is_live h p) (is_split h p) (keeps_frame shape h p i) x l w where
   go : (x l w u : Bool) → x ≡ true → l ≡ true → w ≡ false → (x && (l && (not w || u))) ≡ true
   go true true false u e f g = refl
   go true true true u e f g = absurd (cc)
@@ -104,18 +111,19 @@ unsplit_same shape h e p i w a f g =
 
 -- one more mapping of a frame that is held
 held_more : (shape : Shape) (h : History) (e : Event) (p i : ℕ) → is_held shape h p i ≡ true → allocates p e.what ≡ false → frees p e.what ≡ false → splits p e.what ≡ false →
-    unmaps p i e.what ≡ false → is_held shape (h ++ e ∷ []) p i ≡ true
-held_more shape h e p i f a g w t =
-    held-ap (subpages shape) i _ _ _ _ _ _ _ _ (live_stays h e p a g) (some_same (splits p) h e w) (count_of_push (maps p i) h e) (count_same (unmaps p i) h e t)
-    ∙ go (nat_lt i (subpages shape)) (is_live h p) (is_split h p) _ _ (more (count_of (maps p i) h) (count_of (unmaps p i) h) (cond (maps p i e.what) 1 0)) f where
+    unmaps p i e.what ≡ false → zeroes p i e.what ≡ false → writes p i e.what ≡ false → is_held shape (h ++ e ∷ []) p i ≡ true
+held_more shape h e p i f a g w t z y =
+    held-ap (subpages shape) i (shrinks_underused shape) _ _ _ _ _ _ _ _ _ _ (live_stays h e p a g) (some_same (splits p) h e w) (count_of_push (maps p i) h e) (count_same (unmaps p i) h e t) (zero_stays h e p i z y)
+    ∙ go (nat_lt i (subpages shape)) (is_live h p) (is_split h p) _ _ (shrinks_underused shape && is_zero_filled h p i) (more (count_of (maps p i) h) (count_of (unmaps p i) h) (cond (maps p i e.what) 1 0)) f where
       more : (a t d : ℕ) → nat_lt 0 (a - t) ≡ true → nat_lt 0 (a + d - t) ≡ true
       more a t d h = grind (arith, nat_tests)
 
-      go : (x l s u u' : Bool) → (u ≡ true → u' ≡ true) → (x && (l && (not s || (l && u)))) ≡ true → (x && (l && (not s || (l && u')))) ≡ true
-      go true true true u u' f e = f e
-      go true true false u u' f e = refl
-      go true false s u u' f e = absurd (cc)
-      go false l s u u' f e = absurd (cc)
+      go : (x l s u u' z : Bool) → (u ≡ true → u' ≡ true) → (x && (l && (not s || ((l && u) && not z)))) ≡ true → (x && (l && (not s || ((l && u') && not z)))) ≡ true
+      go true true true true u' z f e = rw (f refl) e
+      go true true true false u' z f e = absurd (cc)
+      go true true false u u' z f e = refl
+      go true false s u u' z f e = absurd (cc)
+      go false l s u u' z f e = absurd (cc)
 
 -- an allowed mapping of subpages leaves what is held
 pub kept_map_sub : (shape : Shape) (h : History) (c p a d i : ℕ) → refusal shape h (call.map_sub p a d) ≡ None →
@@ -127,9 +135,9 @@ kept_map_sub shape h c p a d i f =
     (λ y. by_bool (nat_lt i (subpages shape)) _
     (λ x.
     let still : is_held shape h p i ≡ true = was_held (is_split h p) _ (covers a d i) (is_held shape h p i) w y (allowed_map_sub shape h p a d f).2 (λ g. some_none (subpages shape) _ g i (ltb-true i (subpages shape) x)) in
-    held_more shape h e p i still refl refl refl refl ∙ sym still)
+    held_more shape h e p i still refl refl refl refl refl refl ∙ sym still)
     (λ x. and_no (nat_lt i (subpages shape)) _ x ∙ sym (and_no (nat_lt i (subpages shape)) _ x)))
-    (λ y. held-ap (subpages shape) i _ _ _ _ _ _ _ _ (live_stays h e p refl refl) (some_same (splits p) h e refl) (count_same (maps p i) h e (and_second (nat_eq p p) _ y)) (count_same (unmaps p i) h e refl)))
+    (λ y. held-ap (subpages shape) i (shrinks_underused shape) _ _ _ _ _ _ _ _ _ _ (live_stays h e p refl refl) (some_same (splits p) h e refl) (count_same (maps p i) h e (and_second (nat_eq p p) _ y)) (count_same (unmaps p i) h e refl) (zero_stays h e p i refl refl)))
     (λ w. unsplit_same shape h e p i w refl refl refl) where
       and_second : (b c : Bool) → c ≡ false → (b && c) ≡ false
       and_second true c e = e

@@ -5,23 +5,23 @@ use Rattle.std.proofs.lemmas.Bool.Decides.{eqb_tells, nat_tests}
 use Rattle.std.proofs.lemmas.List.Sums.{sum_by-append, sum_by-cons}
 use Rattle.thp_model.specs.declared.events.Event.{Event}
 use Rattle.thp_model.specs.declared.events.What.{What}
-use Rattle.thp_model.specs.declared.events.What.TheVariants.{Alloc, MapWhole, UnmapWhole, MapSub, UnmapSub, Unpin, Split}
+use Rattle.thp_model.specs.declared.events.What.TheVariants.{Alloc, MapWhole, UnmapWhole, MapSub, UnmapSub, Unpin, Write, Zero, Split}
 use Rattle.thp_model.specs.declared.shape.Shape.{Shape}
 use Rattle.thp_model.specs.History.{History, count_of, some_event, by}
 use Rattle.thp_model.specs.Counts.{is_live, is_split, is_alloc, allocates, frees, splits, allocations}
-use Rattle.thp_model.specs.Frames.{is_held, released, given, gives_back, frames_given, frames_held, sum_below, count_below}
+use Rattle.thp_model.specs.Frames.{is_held, released, given, gives_back, frames_given, frames_held}
 use Rattle.thp_model.specs.Legal.{FitsBy, IsLegal}
 use Rattle.thp_model.specs.Places.{flights}
-use Rattle.thp_model.specs.Sets.{set_size}
+use Rattle.thp_model.specs.Sets.{set_size, sum_below, count_below}
 use Rattle.thp_model.specs.Shapes.{subpages}
-use Rattle.thp_model.proofs.Allowed.{allowed_map_whole, allowed_unmap_whole, allowed_unmap_sub, allowed_unpin}
+use Rattle.thp_model.proofs.Allowed.{allowed_map_whole, allowed_unmap_whole, allowed_unmap_sub, allowed_unpin, allowed_write, allowed_zero}
 use Rattle.thp_model.proofs.Bools.{and_no, and_both}
 use Rattle.thp_model.proofs.Holding.{held_still, held_falls, still_unmap_whole, still_unmap_sub, still_unpin, still_split, whole_held, unsplit_same, kept_map_sub}
 use Rattle.thp_model.proofs.LegalSteps.{legal_all}
-use Rattle.thp_model.proofs.Numbers.{Fresh, Numbered, live_below, numbered_push, numbered_none}
+use Rattle.thp_model.proofs.Numbers.{Fresh, Numbered, live_below, numbered_none}
 use Rattle.thp_model.proofs.Pushes.{count_same, count_more, some_event_push, some_same, given_push}
 use Rattle.thp_model.proofs.Sizes.{few_subpages}
-use Rattle.thp_model.proofs.Standing.{Sound, sound_push, sound_none, stand, flying-leaves}
+use Rattle.thp_model.proofs.Standing.{Sound, sound_push, sound_none, numbered_push, stand, flying-leaves}
 use Rattle.thp_model.proofs.SumsBelow.{sum_below-ext, sum_below-add, sum_below-one, sum_below-const, sum_below-stop, sum_below_suc, set_size-set_of}
 
 -- how many frames an event gives back
@@ -106,7 +106,7 @@ kept_alloc shape h c p b t is m =
     let more : allocations k ≡ suc (allocations h) = count_more is_alloc h e refl ∙ omega arith in
     let old : sum_below (allocations h) (λ q. count_below (subpages shape) (is_held shape k q)) ≡ frames_held shape h =
     sum_below-ext (allocations h) _ _ (λ q below. sum_below-ext (subpages shape) _ _ (λ i under. ap (λ x. cond x 1 0)
-    (held_still shape h e q i (let a : nat_eq q p ≡ false = ne_eqb q p (λ z. omega (arith, z, is)) in record { no_maps = λ j. a; no_unmaps = λ j. refl; no_alloc = a; no_free = refl; no_split = refl })))) in
+    (held_still shape h e q i (let a : nat_eq q p ≡ false = ne_eqb q p (λ z. omega (arith, z, is)) in record { no_maps = λ j. a; no_unmaps = λ j. refl; no_alloc = a; no_free = refl; no_split = refl; no_zeroes = λ j. a; no_writes = λ j. refl })))) in
     let live : is_live k p ≡ true = new_live (some_event (allocates p) h) (some_event (allocates p) k) (some_event (frees p) k) (allocates p e.what) (some_event_push (allocates p) h e) (eq-eqb p p refl) (some_same (frees p) h e refl ∙ fresh.not_freed) in
     let new : count_below (subpages shape) (is_held shape k p) ≡ 1 * subpages shape =
     sum_below-ext (subpages shape) _ _ (λ i under. ap (λ x. cond x 1 0) (whole_held shape k p i live (some_same (splits p) h e refl ∙ fresh.not_split) (lt-ltb i (subpages shape) under))) ∙ sum_below-const (subpages shape) 1 in
@@ -125,7 +125,7 @@ kept_alloc shape h c p b t is m =
       new_live false false f b e g h = absurd (cc)
 
 -- an event that fits keeps the sum
-kept_step : (shape : Shape) (h : History) (c : ℕ) (w : What) → shape.order ≤ 9 → Sound h → Numbered h → FitsBy shape h (h ++ by c w ∷ []) c w →
+kept_step : (shape : Shape) (h : History) (c : ℕ) (w : What) → shape.order ≤ 9 → Sound shape h → Numbered h → FitsBy shape h (h ++ by c w ∷ []) c w →
     Balanced shape h → Balanced shape (h ++ by c w ∷ [])
 kept_step shape h c (Alloc p b) small s t f m = kept_alloc shape h c p b t f.number m
 kept_step shape h c (MapWhole p) small s t f m =
@@ -134,11 +134,11 @@ kept_step shape h c (MapWhole p) small s t f m =
     (λ q i.
     elim (eqb_tells q p) [
       | inl y ↦ unsplit_same shape h e q i (let P : ℕ → Type 0 = λ x. is_split h x ≡ false in subst P (sym y.1) (allowed_map_whole shape h p f).1) refl refl refl
-      | inr y ↦ held_still shape h e q i (record { no_maps = λ j. y.0; no_unmaps = λ j. refl; no_alloc = refl; no_free = refl; no_split = refl })
+      | inr y ↦ held_still shape h e q i (record { no_maps = λ j. y.0; no_unmaps = λ j. refl; no_alloc = refl; no_free = refl; no_split = refl; no_zeroes = λ j. refl; no_writes = λ j. refl })
     ]) m
-kept_step shape h c (UnmapWhole p o r) small s t f m =
-    let e : Event = by c (UnmapWhole p o r) in
-    release shape h e p r small (live_below h p t (allowed_unmap_whole shape h p f.0).0) refl refl f.1.set_is (λ i. held_falls shape h e p i (λ j. refl) refl refl)
+kept_step shape h c (UnmapWhole o p r) small s t f m =
+    let e : Event = by c (UnmapWhole o p r) in
+    release shape h e p r small (live_below h p t (allowed_unmap_whole shape h p f.0).0) refl refl f.1.set_is (λ i. held_falls shape h e p i (λ j. refl) refl refl refl refl)
     (λ q i a. held_still shape h e q i (still_unmap_whole q p o r a)) m
 kept_step shape h c (MapSub p a d) small s t f m =
     let e : Event = by c (MapSub p a d) in
@@ -146,26 +146,42 @@ kept_step shape h c (MapSub p a d) small s t f m =
     (λ q i.
     elim (eqb_tells q p) [
       | inl y ↦ let P : ℕ → Type 0 = λ x. is_held shape (h ++ e ∷ []) x i ≡ is_held shape h x i in subst P (sym y.1) (kept_map_sub shape h c p a d i f)
-      | inr y ↦ held_still shape h e q i (record { no_maps = λ j. and_no _ _ y.0; no_unmaps = λ j. refl; no_alloc = refl; no_free = refl; no_split = refl })
+      | inr y ↦ held_still shape h e q i (record { no_maps = λ j. and_no _ _ y.0; no_unmaps = λ j. refl; no_alloc = refl; no_free = refl; no_split = refl; no_zeroes = λ j. refl; no_writes = λ j. refl })
     ]) m
-kept_step shape h c (UnmapSub p a d o r) small s t f m =
-    let e : Event = by c (UnmapSub p a d o r) in
-    release shape h e p r small (live_below h p t (allowed_unmap_sub shape h p a d f.0).0) refl refl f.1.set_is (λ i. held_falls shape h e p i (λ j. refl) refl refl)
+kept_step shape h c (UnmapSub o p a d r) small s t f m =
+    let e : Event = by c (UnmapSub o p a d r) in
+    release shape h e p r small (live_below h p t (allowed_unmap_sub shape h p a d f.0).0) refl refl f.1.set_is (λ i. held_falls shape h e p i (λ j. refl) refl refl refl refl)
     (λ q i y. held_still shape h e q i (still_unmap_sub q p a d o r y)) m
-kept_step shape h c (Unpin p o r) small s t f m =
-    let e : Event = by c (Unpin p o r) in
-    release shape h e p r small (live_below h p t (allowed_unpin shape h p f.0).0) refl refl f.1.set_is (λ i. held_falls shape h e p i (λ j. refl) refl refl)
+kept_step shape h c (Unpin o p r) small s t f m =
+    let e : Event = by c (Unpin o p r) in
+    release shape h e p r small (live_below h p t (allowed_unpin shape h p f.0).0) refl refl f.1.set_is (λ i. held_falls shape h e p i (λ j. refl) refl refl refl refl)
     (λ q i a. held_still shape h e q i (still_unpin q p o r a)) m
 kept_step shape h c (Split p r) small s t f m =
     let e : Event = by c (Split p r) in
-    let up : 0 < stand h p = omega (arith, flying-leaves p c (flights h) f.in_flight) in
+    let up : 0 < stand shape h p = omega (arith, flying-leaves p c (flights h) f.in_flight) in
     release shape h e p r small (live_below h p t (s.live p up)) refl refl f.set_is (λ i g. whole_held shape h p i (s.live p up) (s.whole_page p up) (and_both (nat_lt i (subpages shape)) _ g).0)
     (λ q i a. held_still shape h e q i (still_split q p r a)) m
-kept_step shape h c w small s t f m = quiet shape h (by c w) refl refl (λ q i. held_still shape h (by c w) q i (record { no_maps = λ j. refl; no_unmaps = λ j. refl; no_alloc = refl; no_free = refl; no_split = refl })) m
+kept_step shape h c (Write p a d) small s t f m =
+    let e : Event = by c (Write p a d) in
+    quiet shape h e refl refl
+    (λ q i.
+    elim (eqb_tells q p) [
+      | inl y ↦ unsplit_same shape h e q i (ap (is_split h) y.1 ∙ (allowed_write shape h p a d f).2) refl refl refl
+      | inr y ↦ held_still shape h e q i (record { no_maps = λ j. refl; no_unmaps = λ j. refl; no_alloc = refl; no_free = refl; no_split = refl; no_zeroes = λ j. refl; no_writes = λ j. and_no _ _ y.0 })
+    ]) m
+kept_step shape h c (Zero p a d) small s t f m =
+    let e : Event = by c (Zero p a d) in
+    quiet shape h e refl refl
+    (λ q i.
+    elim (eqb_tells q p) [
+      | inl y ↦ unsplit_same shape h e q i (ap (is_split h) y.1 ∙ (allowed_zero shape h p a d f).2) refl refl refl
+      | inr y ↦ held_still shape h e q i (record { no_maps = λ j. refl; no_unmaps = λ j. refl; no_alloc = refl; no_free = refl; no_split = refl; no_zeroes = λ j. and_no _ _ y.0; no_writes = λ j. refl })
+    ]) m
+kept_step shape h c w small s t f m = quiet shape h (by c w) refl refl (λ q i. held_still shape h (by c w) q i (record { no_maps = λ j. refl; no_unmaps = λ j. refl; no_alloc = refl; no_free = refl; no_split = refl; no_zeroes = λ j. refl; no_writes = λ j. refl })) m
 
 -- what holds of each legal history on the way
 record All_of (shape : Shape) (h : History) : Type 0 where
-  sound : Sound h
+  sound : Sound shape h
   numbered : Numbered h
   balanced : Balanced shape h
 
@@ -177,9 +193,9 @@ none_yet shape = omega arith
 -- in a legal history each frame of each page allocated is held or was given back
 pub frames_kept : (shape : Shape) (h : History) → shape.order ≤ 9 → IsLegal shape h → subpages shape * allocations h ≡ frames_held shape h + frames_given h
 frames_kept shape h small l =
-    (legal_all shape (All_of shape) (record { sound = sound_none; numbered = numbered_none; balanced = none_yet shape })
+    (legal_all shape (All_of shape) (record { sound = sound_none shape; numbered = numbered_none; balanced = none_yet shape })
     (λ k e a f. record {
-      sound = sound_push shape k e a.sound f;
+      sound = sound_push shape k e a.sound a.numbered f;
       numbered = numbered_push shape k e a.sound a.numbered f;
       balanced = kept_step shape k e.caller e.what small a.sound a.numbered f a.balanced;
     }) h l).balanced

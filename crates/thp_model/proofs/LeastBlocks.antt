@@ -50,9 +50,9 @@ pages_by ps p _ = ps
 -- the live pages after an event
 abbrev pages_after : List ℕ → What → List ℕ
 pages_after ps (Alloc p b) = ps ++ p ∷ []
-pages_after ps (UnmapWhole p o r) = pages_by ps p o
-pages_after ps (UnmapSub p f n o r) = pages_by ps p o
-pages_after ps (Unpin p o r) = pages_by ps p o
+pages_after ps (UnmapWhole o p r) = pages_by ps p o
+pages_after ps (UnmapSub o p f n r) = pages_by ps p o
+pages_after ps (Unpin o p r) = pages_by ps p o
 pages_after ps _ = ps
 
 -- they don't look at the block
@@ -80,9 +80,9 @@ of_by bs p o = refl
 -- the pages after an event
 of_after : (bs : List (ℕ × ℕ)) (w : What) → pages_of (occupied_after bs w) ≡ pages_after (pages_of bs) w
 of_after bs (Alloc p b) = map-append (λ (f : ℕ × ℕ). f.1) bs ((b, p) ∷ [])
-of_after bs (UnmapWhole p o r) = of_by bs p o
-of_after bs (UnmapSub p f n o r) = of_by bs p o
-of_after bs (Unpin p o r) = of_by bs p o
+of_after bs (UnmapWhole o p r) = of_by bs p o
+of_after bs (UnmapSub o p f n r) = of_by bs p o
+of_after bs (Unpin o p r) = of_by bs p o
 of_after bs w = refl
 
 -- the pages of the blocks in use are the live pages in order

@@ -27,6 +27,7 @@ pub mod PageRefusals
 pub mod PageOutcomes
 pub mod FlightLaws
 pub mod EachFrame
+pub mod PartlyStands
 pub mod Alike
 pub mod LeftOut
 pub mod LeastBlocks

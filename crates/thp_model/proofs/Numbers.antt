@@ -1,18 +1,13 @@
 -- Pages are numbered in the order of their allocation: one that isn't allocated yet had no event.
-use Rattle.std.proofs.Common.{◌≡◌, ℕ, ◌+◌, ◌<◌, ◌≤◌, Bool, true, false, not, ◌&&◌, [], ◌∷◌, ◌++◌, refl, ◌∙◌, arith, nat_eq, inl, inr, ne_eqb}
+use Rattle.std.proofs.Common.{◌≡◌, ℕ, ◌<◌, ◌≤◌, Bool, true, false, not, ◌&&◌, [], ◌∷◌, ◌++◌, refl, ◌∙◌, arith, nat_eq, inl, inr, ne_eqb}
 use Rattle.std.proofs.lemmas.Bool.{cases_lt}
 use Rattle.thp_model.specs.declared.events.Event.{Event}
-use Rattle.thp_model.specs.declared.events.What.{What}
-use Rattle.thp_model.specs.declared.events.What.TheVariants.{Alloc, MapWhole, UnmapWhole, MapSub, UnmapSub, SplitPmd, Pin, Unpin, Taken, Split, Pinned, Back, Dropped, Close}
 use Rattle.thp_model.specs.declared.shape.Shape.{Shape}
-use Rattle.thp_model.specs.History.{History, count_of, some_event, by}
-use Rattle.thp_model.specs.Counts.{maps, unmaps, maps_whole, unmaps_whole, pins_page, unpins_page, is_live, allocates, frees, splits, is_alloc, allocations}
-use Rattle.thp_model.specs.Legal.{Fits, FitsBy}
-use Rattle.thp_model.specs.Places.{flights}
-use Rattle.thp_model.proofs.Allowed.{allowed_map_whole, allowed_unmap_whole, allowed_map_sub, allowed_unmap_sub, allowed_split_pmd, allowed_pin, allowed_unpin}
-use Rattle.thp_model.proofs.Pushes.{count_of_push, count_same, count_more, some_same}
-use Rattle.thp_model.proofs.Standing.{Sound, stand, flying-leaves}
-use Rattle.thp_model.proofs.Untouched.{Untouched, is_about, untouched}
+use Rattle.thp_model.specs.History.{History, count_of, some_event}
+use Rattle.thp_model.specs.Counts.{maps, unmaps, maps_whole, unmaps_whole, pins_page, unpins_page, is_live, allocates, frees, splits, allocations}
+use Rattle.thp_model.specs.Underused.{is_partly_mapped}
+use Rattle.thp_model.proofs.Pushes.{count_same, some_same, partly_stays, is_partly_mapped_none}
+use Rattle.thp_model.proofs.Untouched.{Untouched}
 
 -- page p had no event
 pub record Fresh (h : History) (p : ℕ) : Type 0 where
@@ -25,6 +20,7 @@ pub record Fresh (h : History) (p : ℕ) : Type 0 where
   pub never : some_event (allocates p) h ≡ false
   pub not_freed : some_event (frees p) h ≡ false
   pub not_split : some_event (splits p) h ≡ false
+  pub not_partly : (shape : Shape) → is_partly_mapped shape h p ≡ false
 
 -- pages that aren't allocated yet had no event
 pub record Numbered (h : History) : Type 0 where
@@ -45,28 +41,6 @@ live_below h p s l =
 pub beyond : (h : History) (p q m : ℕ) → Numbered h → is_live h p ≡ true → m ≡ allocations h → m ≤ q → nat_eq q p ≡ false
 beyond h p q m t l e g = ne_eqb q p (λ z. let low : p < allocations h = live_below h p t l in omega (arith, z))
 
--- an event that fits isn't about a page that is still to be allocated after it
-about_step : (shape : Shape) (h : History) (c : ℕ) (w : What) (q : ℕ) → Sound h → Numbered h → FitsBy shape h (h ++ by c w ∷ []) c w →
-    allocations (h ++ by c w ∷ []) ≤ q → is_about q w ≡ false
-about_step shape h c (Alloc p b) q s t f g =
-    let more : allocations (h ++ by c (Alloc p b) ∷ []) ≡ allocations h + 1 = count_more is_alloc h _ refl in
-    ne_eqb q p (λ z. omega (arith, z, f.number))
-about_step shape h c (MapWhole p) q s t f g = beyond h p q _ t (allowed_map_whole shape h p f).0 (count_same is_alloc h (by c (MapWhole p)) refl) g
-about_step shape h c (UnmapWhole p o r) q s t f g = beyond h p q _ t (allowed_unmap_whole shape h p f.0).0 (count_same is_alloc h (by c (UnmapWhole p o r)) refl) g
-about_step shape h c (MapSub p a d) q s t f g = beyond h p q _ t (allowed_map_sub shape h p a d f).0 (count_same is_alloc h (by c (MapSub p a d)) refl) g
-about_step shape h c (UnmapSub p a d o r) q s t f g = beyond h p q _ t (allowed_unmap_sub shape h p a d f.0).0 (count_same is_alloc h (by c (UnmapSub p a d o r)) refl) g
-about_step shape h c (SplitPmd p) q s t f g = beyond h p q _ t (allowed_split_pmd shape h p f).0 (count_same is_alloc h (by c (SplitPmd p)) refl) g
-about_step shape h c (Pin p) q s t f g = beyond h p q _ t (allowed_pin shape h p f).0 (count_same is_alloc h (by c (Pin p)) refl) g
-about_step shape h c (Unpin p o r) q s t f g = beyond h p q _ t (allowed_unpin shape h p f.0).0 (count_same is_alloc h (by c (Unpin p o r)) refl) g
-about_step shape h c (Split p r) q s t f g =
-    let up : 0 < stand h p = omega (arith, flying-leaves p c (flights h) f.in_flight) in
-    beyond h p q _ t (s.live p up) (count_same is_alloc h (by c (Split p r)) refl) g
-about_step shape h c (Taken p) q s t f g = refl
-about_step shape h c (Pinned p) q s t f g = refl
-about_step shape h c (Back p) q s t f g = refl
-about_step shape h c (Dropped p) q s t f g = refl
-about_step shape h c Close q s t f g = refl
-
 -- a page without events, after an event that isn't about it
 pub fresh_push : (h : History) (e : Event) (p : ℕ) → Untouched p e.what → Fresh h p → Fresh (h ++ e ∷ []) p
 fresh_push h e p u f = record {
@@ -79,14 +53,7 @@ fresh_push h e p u f = record {
   never = some_same (allocates p) h e u.no_alloc ∙ f.never;
   not_freed = some_same (frees p) h e u.no_free ∙ f.not_freed;
   not_split = some_same (splits p) h e u.no_split ∙ f.not_split;
-}
-
--- one more event that fits keeps the numbers
-pub numbered_push : (shape : Shape) (h : History) (e : Event) → Sound h → Numbered h → Fits shape h e → Numbered (h ++ e ∷ [])
-numbered_push shape h e s t f = record {
-  fresh = λ q above.
-      fresh_push h e q (untouched q e.what (about_step shape h e.caller e.what q s t f above))
-      (t.fresh q (omega (arith, count_of_push is_alloc h e)));
+  not_partly = λ shape. partly_stays shape h e p u.no_unmap ∙ f.not_partly shape;
 }
 
 -- they hold of the empty history
@@ -104,5 +71,6 @@ numbered_none = record {
         never = refl;
         not_freed = refl;
         not_split = refl;
+        not_partly = λ shape. is_partly_mapped_none shape p;
       };
 }

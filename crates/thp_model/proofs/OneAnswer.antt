@@ -5,18 +5,19 @@ use Rattle.thp_model.specs.declared.events.Event.{Event}
 use Rattle.thp_model.specs.declared.events.Outcome.{Outcome}
 use Rattle.thp_model.specs.declared.events.Outcome.TheVariants.{Freed, Queued, Stays}
 use Rattle.thp_model.specs.declared.events.What.{What}
-use Rattle.thp_model.specs.declared.events.What.TheVariants.{Alloc, MapWhole, UnmapWhole, MapSub, UnmapSub, SplitPmd, Pin, Unpin, Taken, Split, Pinned, Back, Dropped, Close}
+use Rattle.thp_model.specs.declared.events.What.TheVariants.{Alloc, MapWhole, UnmapWhole, MapSub, UnmapSub, SplitPmd, Pin, Unpin, Write, Zero, Taken, Split, Pinned, Used, Back, Dropped, Close}
 use Rattle.thp_model.specs.declared.shape.Shape.{Shape}
 use Rattle.thp_model.specs.BlockLaws.{with_block, SameButBlocks}
-use Rattle.thp_model.specs.Counts.{maps, unmaps, pins_page, unpins_page, allocates, frees, splits, total, pins, is_closed}
+use Rattle.thp_model.specs.Counts.{maps, unmaps, pins_page, unpins_page, allocates, frees, splits, total, pins}
 use Rattle.thp_model.specs.Frames.{is_held, released, outcome}
 use Rattle.thp_model.specs.History.{History, by, count_of, some_event}
-use Rattle.thp_model.specs.Legal.{FitsBy, Gives}
+use Rattle.thp_model.specs.Legal.{FitsBy, Gives, is_dropped}
 use Rattle.thp_model.specs.RequestLaws.{asked}
 use Rattle.thp_model.specs.Shapes.{subpages}
-use Rattle.thp_model.proofs.Alike.{Blind, count_alike, some_alike, maps_blind, unmaps_blind, pin_blind, unpin_blind, allocates_blind, frees_blind, splits_blind, alike, Alike, held_alike, stands_alike, flight_alike}
+use Rattle.thp_model.specs.Underused.{shrinks_underused, zeroes, writes, is_zero_filled, is_worth_split}
+use Rattle.thp_model.proofs.Alike.{Blind, count_alike, some_alike, maps_blind, unmaps_blind, pin_blind, unpin_blind, allocates_blind, frees_blind, splits_blind, alike, Alike, held-by, held_alike, worth_alike, dropped_alike, stands_alike, flight_alike}
 use Rattle.thp_model.proofs.Below.{some_below-ext}
-use Rattle.thp_model.proofs.Pushes.{count_of_push, some_event_push}
+use Rattle.thp_model.proofs.Pushes.{count_of_push, some_event_push, is_zero_filled_push}
 use Rattle.thp_model.proofs.WordLemmas.{set_of-ext}
 
 -- as many events pass a blind test after two events that it tells alike
@@ -43,6 +44,8 @@ record Match (p : ℕ) (v w : What) : Type 0 where
   unmaps_both : (i : ℕ) → unmaps p i v ≡ unmaps p i w
   pin : pins_page p v ≡ pins_page p w
   unpin : unpins_page p v ≡ unpins_page p w
+  zeroes_both : (i : ℕ) → zeroes p i v ≡ zeroes p i w
+  writes_both : (i : ℕ) → writes p i v ≡ writes p i w
 
 module _ (shape : Shape) (h k : History) (e f : Event) (s : SameButBlocks h k) (p : ℕ) (m : Match p e.what f.what) where
   total_one : (i : ℕ) → total (h ++ e ∷ []) p i ≡ total (k ++ f ∷ []) p i
@@ -50,6 +53,12 @@ module _ (shape : Shape) (h k : History) (e f : Event) (s : SameButBlocks h k) (
 
   pins_one : pins (h ++ e ∷ []) p ≡ pins (k ++ f ∷ []) p
   pins_one = less _ _ _ _ (count_one (pins_page p) (pin_blind p) h k e f s m.pin) (count_one (unpins_page p) (unpin_blind p) h k e f s m.unpin)
+
+  zero_one : (i : ℕ) → is_zero_filled (h ++ e ∷ []) p i ≡ is_zero_filled (k ++ f ∷ []) p i
+  zero_one i =
+      is_zero_filled_push p i h e ∙ parts _ _ _ _ _ _ (m.zeroes_both i) ((alike h k s).zero p i) (m.writes_both i) ∙ sym (is_zero_filled_push p i k f) where
+        parts : (a a' b b' d d' : Bool) → a ≡ a' → b ≡ b' → d ≡ d' → (a || (b && not d)) ≡ (a' || (b' && not d'))
+        parts a a' b b' d d' e f g = cc
 
   outcome_one : outcome shape h (h ++ e ∷ []) p ≡ outcome shape k (k ++ f ∷ []) p
   outcome_one =
@@ -69,10 +78,8 @@ module _ (shape : Shape) (h k : History) (e f : Event) (s : SameButBlocks h k) (
   released_one x y z = set_of-ext _ _ (λ i l. both (is_held shape h p i) _ (is_held shape (h ++ e ∷ []) p i) _ (held_alike shape h k (alike h k s) p i) (after i)) where
     after : (i : ℕ) → is_held shape (h ++ e ∷ []) p i ≡ is_held shape (k ++ f ∷ []) p i
     after i =
-        go (nat_lt i (subpages shape)) _ _ _ _ _ _ (both _ _ _ _ (some_one (allocates p) (allocates_blind p) h k e f s x) (some_one (frees p) (frees_blind p) h k e f s y))
-        (some_one (splits p) (splits_blind p) h k e f s z) (total_one i) where
-          go : (x l l' s s' : Bool) (t t' : ℕ) → l ≡ l' → s ≡ s' → t ≡ t' → (x && (l && (not s || (l && nat_lt 0 t)))) ≡ (x && (l' && (not s' || (l' && nat_lt 0 t'))))
-          go x l l' s s' t t' e f g = cc
+        held-by (nat_lt i (subpages shape)) (shrinks_underused shape) _ _ _ _ _ _ _ _ (both _ _ _ _ (some_one (allocates p) (allocates_blind p) h k e f s x) (some_one (frees p) (frees_blind p) h k e f s y))
+        (some_one (splits p) (splits_blind p) h k e f s z) (total_one i) (zero_one i)
 
   -- of an unmap or an unpin
   gives_one : (q : ℕ) (o u : Outcome) (r t : List Bool) → p ≡ q → allocates p e.what ≡ allocates p f.what → splits p e.what ≡ splits p f.what → (o ≡ u → frees p e.what ≡ frees p f.what) →
@@ -91,36 +98,58 @@ first_one q q' p p' e f g = cc
 never : (m m' p p' : ℕ) → m ≡ m' → m ≡ 0 → 0 < m' → ⊥
 never m m' p p' e f g = omega arith
 
+-- a page that goes back to the queue isn't dropped
+no_return : (b x d : Bool) → b ≡ false → x ≡ true → (b || not x) ≡ d → d ≡ true → ⊥
+no_return true x d e f g h = absurd (cc)
+no_return false false d e f g h = absurd (cc)
+no_return false true true e f g h = absurd (cc)
+no_return false true false e f g h = absurd (cc)
+
 -- the same request has one answer, but for its block
 pub one_answer : (shape : Shape) (h k : History) (c : ℕ) (v w : What) → SameButBlocks h k → asked v ≡ asked w →
     FitsBy shape h (h ++ by c v ∷ []) c v → FitsBy shape k (k ++ by c w ∷ []) c w → with_block 0 v ≡ with_block 0 w
 one_answer shape h k c (Alloc p b) (Alloc q d) s e f g = ap (λ x. Alloc x 0) (f.number ∙ (alike h k s).allocations ∙ sym g.number)
-one_answer shape h k c (UnmapWhole p o r) (UnmapWhole q u t) s e f g =
+one_answer shape h k c (UnmapWhole o p r) (UnmapWhole u q t) s e f g =
     let same : p ≡ q = cc in
-    let one : (o ≡ u) × (r ≡ t) = gives_one shape h k (by c (UnmapWhole p o r)) (by c (UnmapWhole q u t)) s p
-    (record { maps_both = λ i. refl; unmaps_both = λ i. ap (λ x. nat_eq p x) same; pin = refl; unpin = refl }) q o u r t same refl refl (λ y. cc) f.1 g.1 in cc
-one_answer shape h k c (UnmapSub p a m o r) (UnmapSub q b l u t) s e f g =
+    let one : (o ≡ u) × (r ≡ t) = gives_one shape h k (by c (UnmapWhole o p r)) (by c (UnmapWhole u q t)) s p
+    (record { maps_both = λ i. refl; unmaps_both = λ i. ap (λ x. nat_eq p x) same; pin = refl; unpin = refl; zeroes_both = λ i. refl; writes_both = λ i. refl }) q o u r t same refl refl (λ y. cc) f.1 g.1 in cc
+one_answer shape h k c (UnmapSub o p a m r) (UnmapSub u q b l t) s e f g =
     let same : p ≡ q = cc in
-    let one : (o ≡ u) × (r ≡ t) = gives_one shape h k (by c (UnmapSub p a m o r)) (by c (UnmapSub q b l u t)) s p
-    (record { maps_both = λ i. refl; unmaps_both = λ i. cc; pin = refl; unpin = refl }) q o u r t same refl refl (λ y. cc) f.1 g.1 in cc
-one_answer shape h k c (Unpin p o r) (Unpin q u t) s e f g =
+    let one : (o ≡ u) × (r ≡ t) = gives_one shape h k (by c (UnmapSub o p a m r)) (by c (UnmapSub u q b l t)) s p
+    (record { maps_both = λ i. refl; unmaps_both = λ i. cc; pin = refl; unpin = refl; zeroes_both = λ i. refl; writes_both = λ i. refl }) q o u r t same refl refl (λ y. cc) f.1 g.1 in cc
+one_answer shape h k c (Unpin o p r) (Unpin u q t) s e f g =
     let same : p ≡ q = cc in
-    let one : (o ≡ u) × (r ≡ t) = gives_one shape h k (by c (Unpin p o r)) (by c (Unpin q u t)) s p
-    (record { maps_both = λ i. refl; unmaps_both = λ i. refl; pin = refl; unpin = ap (λ x. nat_eq p x) same }) q o u r t same refl refl (λ y. cc) f.1 g.1 in cc
-one_answer shape h k c (Taken p) (Taken q) s e f g = ap (λ x. Taken x) (first_one _ _ p q (alike h k s).queue f.oldest g.oldest)
+    let one : (o ≡ u) × (r ≡ t) = gives_one shape h k (by c (Unpin o p r)) (by c (Unpin u q t)) s p
+    (record { maps_both = λ i. refl; unmaps_both = λ i. refl; pin = refl; unpin = ap (λ x. nat_eq p x) same; zeroes_both = λ i. refl; writes_both = λ i. refl }) q o u r t same refl refl (λ y. cc) f.1 g.1 in cc
+one_answer shape h k c (Taken p) (Taken q) s e f g = ap (λ x. Taken x) (first_one _ _ p q ((alike h k s).queue shape) f.oldest g.oldest)
 one_answer shape h k c (Split p r) (Split q t) s e f g =
     let same : p ≡ q = cc in
     let P : ℕ → Type 0 = λ x. t ≡ released shape k (k ++ by c (Split q t) ∷ []) x in
     let set : r ≡ t = f.set_is ∙ released_one shape h k (by c (Split p r)) (by c (Split q t)) s p
-    (record { maps_both = λ i. refl; unmaps_both = λ i. refl; pin = refl; unpin = refl }) refl refl (ap (λ x. nat_eq p x) same) ∙ sym (subst P (sym same) g.set_is) in cc
+    (record { maps_both = λ i. refl; unmaps_both = λ i. refl; pin = refl; unpin = refl; zeroes_both = λ i. refl; writes_both = λ i. refl }) refl refl (ap (λ x. nat_eq p x) same) ∙ sym (subst P (sym same) g.set_is) in cc
 one_answer shape h k c (Split p r) (Pinned q) s e f g =
     let same : p ≡ q = cc in absurd (never _ _ p q ((alike h k s).pins p ∙ ap (pins k) same) f.unpinned g.1)
 one_answer shape h k c (Pinned p) (Split q r) s e f g =
     let same : p ≡ q = cc in absurd (never _ _ p q (sym ((alike h k s).pins p ∙ ap (pins k) same)) g.unpinned f.1)
 one_answer shape h k c (Back p) (Back q) s e f g = ap (λ x. Back x) (first_one _ _ p q (flight_alike shape h k (alike h k s) c) f.0 g.0)
 one_answer shape h k c (Dropped p) (Dropped q) s e f g = ap (λ x. Dropped x) (first_one _ _ p q (flight_alike shape h k (alike h k s) c) f.0 g.0)
-one_answer shape h k c (Back p) (Dropped q) s e f g = absurd (let y : is_closed h ≡ is_closed k = (alike h k s).closed in let a : is_closed h ≡ false = f.1 in let b : is_closed k ≡ true = g.1 in cc)
-one_answer shape h k c (Dropped p) (Back q) s e f g = absurd (let y : is_closed h ≡ is_closed k = (alike h k s).closed in let a : is_closed h ≡ true = f.1 in let b : is_closed k ≡ false = g.1 in cc)
+one_answer shape h k c (Back p) (Dropped q) s e f g =
+    let same : p ≡ q = first_one _ _ p q (flight_alike shape h k (alike h k s) c) f.0 g.0 in
+    absurd (no_return _ _ _ f.1 f.2 (dropped_alike shape h k (alike h k s) p ∙ ap (is_dropped shape k) same) g.1)
+one_answer shape h k c (Dropped p) (Back q) s e f g =
+    let same : p ≡ q = first_one _ _ p q (flight_alike shape h k (alike h k s) c) f.0 g.0 in
+    absurd (no_return _ _ _ g.1 g.2 (ap (is_dropped shape k) (sym same) ∙ sym (dropped_alike shape h k (alike h k s) p)) f.1)
+one_answer shape h k c (Used p) (Split q r) s e f g =
+    let same : p ≡ q = cc in absurd (let y : false ≡ true = sym f.1 ∙ worth_alike shape h k (alike h k s) p ∙ ap (is_worth_split shape k) same ∙ g.worth in cc)
+one_answer shape h k c (Split p r) (Used q) s e f g =
+    let same : p ≡ q = cc in absurd (let y : true ≡ false = sym f.worth ∙ worth_alike shape h k (alike h k s) p ∙ ap (is_worth_split shape k) same ∙ g.1 in cc)
+one_answer shape h k c (Used p) (Pinned q) s e f g =
+    let same : p ≡ q = cc in absurd (let y : false ≡ true = sym f.1 ∙ worth_alike shape h k (alike h k s) p ∙ ap (is_worth_split shape k) same ∙ g.2 in cc)
+one_answer shape h k c (Pinned p) (Used q) s e f g =
+    let same : p ≡ q = cc in absurd (let y : true ≡ false = sym f.2 ∙ worth_alike shape h k (alike h k s) p ∙ ap (is_worth_split shape k) same ∙ g.1 in cc)
+one_answer shape h k c (Used p) (Used q) s e f g = cc
+one_answer shape h k c (Write p a m) (Write q b l) s e f g = cc
+one_answer shape h k c (Zero p a m) (Zero q b l) s e f g = cc
 one_answer shape h k c (MapWhole p) (MapWhole q) s e f g = cc
 one_answer shape h k c (MapSub p a m) (MapSub q b l) s e f g = cc
 one_answer shape h k c (SplitPmd p) (SplitPmd q) s e f g = cc

@@ -32,20 +32,20 @@ pub once_flies : (shape : Shape) (h : History) (c p : ℕ) → IsLegal shape h �
 once_flies shape h c p l = omega (arith, times_flight p c (flights h), (legal_sound shape h l).once p)
 
 -- nor in the queue
-pub once_queued : (shape : Shape) (h : History) (p : ℕ) → IsLegal shape h → times p (queue h) ≤ 1
+pub once_queued : (shape : Shape) (h : History) (p : ℕ) → IsLegal shape h → times p (queue shape h) ≤ 1
 once_queued shape h p l = omega (arith, (legal_sound shape h l).once p)
 
 -- a page of a flight stands
-pub flies_stands : (h : History) (c p : ℕ) → has_page p (flight h c) ≡ true → 0 < stand h p
+pub flies_stands : (shape : Shape) (h : History) (c p : ℕ) → has_page p (flight h c) ≡ true → 0 < stand shape h p
 unfolding flying
-flies_stands h c p e = omega (arith, in_flight p c (flights h) e, less) where
+flies_stands shape h c p e = omega (arith, in_flight p c (flights h) e, less) where
   less : count_by (λ (f : ℕ × ℕ). nat_eq f.0 c && nat_eq f.1 p) (flights h) ≤ count_by (λ (f : ℕ × ℕ). nat_eq f.1 p) (flights h)
   less = count-le _ _ (flights h) (λ f y. (and_both (nat_eq f.0 c) (nat_eq f.1 p) y).1)
 
 -- in a legal history a page of a flight is live and not split
 pub flies_live : (shape : Shape) (h : History) (c p : ℕ) → IsLegal shape h → has_page p (flight h c) ≡ true → (is_live h p ≡ true) × (is_split h p ≡ false)
 flies_live shape h c p l e =
-    let s : Sound h = legal_sound shape h l in (s.live p (flies_stands h c p e), s.whole_page p (flies_stands h c p e))
+    let s : Sound shape h = legal_sound shape h l in (s.live p (flies_stands shape h c p e), s.whole_page p (flies_stands shape h c p e))
 
 -- a list has a page that stands in it, and none that doesn't
 pub has_times : (p : ℕ) (ps : List ℕ) → has_page p ps ≡ true → 0 < times p ps

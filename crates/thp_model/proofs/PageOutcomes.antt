@@ -4,11 +4,13 @@ use Rattle.thp_model.specs.declared.events.Event.{Event}
 use Rattle.thp_model.specs.declared.events.Outcome.{Outcome}
 use Rattle.thp_model.specs.declared.events.Outcome.TheVariants.{Freed, Queued, Stays}
 use Rattle.thp_model.specs.declared.shape.Shape.{Shape}
+use Rattle.thp_model.specs.Sets.{has}
 use Rattle.thp_model.specs.Shapes.{subpages}
 use Rattle.thp_model.specs.History.{History}
-use Rattle.thp_model.specs.Counts.{is_live, is_closed, is_freed, is_used, total, allocates, frees}
+use Rattle.thp_model.specs.Counts.{is_live, is_closed, is_freed, is_used, is_mapped, loses_use, total, allocates, frees}
+use Rattle.thp_model.specs.Underused.{shrinks_underused}
 use Rattle.thp_model.specs.Places.{stands}
-use Rattle.thp_model.specs.Frames.{is_held, is_mapped, loses_use, outcome, released}
+use Rattle.thp_model.specs.Frames.{is_held, outcome, released}
 use Rattle.thp_model.specs.Legal.{Gives}
 use Rattle.thp_model.specs.Runs.{unused}
 use Rattle.thp_model.specs.Pages.{PageState, size, total_at, has_use, drops_use, holds, gives_frames, Tallies, PageSplit}
@@ -32,9 +34,9 @@ loses_is shape h k p old new a b =
 
 -- the outcome of what makes of h the history k
 pub outcome_is : (shape : Shape) (h k : History) (p : ℕ) (old new : PageState) → Tallies shape h p old → Tallies shape k p new →
-    outcome shape h k p ≡ page_outcome old new (is_closed h) (stands h p)
+    outcome shape h k p ≡ page_outcome old new (is_closed h) (stands shape h p)
 outcome_is shape h k p old new a b =
-    parts _ _ _ _ _ _ _ _ (is_closed h) (stands h p) (mapped_is shape k p new b) (pins_is shape k p new b) (sym a.split) (loses_is shape h k p old new a b) where
+    parts _ _ _ _ _ _ _ _ (is_closed h) (stands shape h p) (mapped_is shape k p new b) (pins_is shape k p new b) (sym a.split) (loses_is shape h k p old new a b) where
       parts : (y y' : Bool) (n n' : ℕ) (s s' x x' c t : Bool) → y ≡ y' → n ≡ n' → s ≡ s' → x ≡ x' →
           cond (not y && nat_eq n 0) Freed (cond (not s && (x && (y && (not c && not t)))) Queued Stays)
           ≡ cond (not y' && nat_eq n' 0) Freed (cond (not s' && (x' && (y' && (not c && not t)))) Queued Stays)
@@ -71,12 +73,12 @@ released_alive shape h k p old new a b l after =
       both x x' y y' e f = cc
 
 -- a split of a page gives back the frames of its subpages that aren't in use
-pub unused_is : (shape : Shape) (h : History) (p : ℕ) (old new : PageState) → Tallies shape h p old → is_live h p ≡ true → old.split ≡ false → PageSplit old new →
+pub unused_is : (shape : Shape) (h : History) (p : ℕ) (old new : PageState) → Tallies shape h p old → is_live h p ≡ true → old.split ≡ false → PageSplit (shrinks_underused shape) old new →
     unused shape h p ≡ gives_frames old new
 unused_is shape h p old new m l s w =
     set_of-ext _ _ (λ i below. by_bool (nat_lt i (subpages shape)) _
-    (λ y. yes (nat_lt i (subpages shape)) (nat_lt i (size old)) (nat_lt i (size new)) (is_live h p) old.split new.split _ _ _ y (inside i) (inside' i) l s w.split
-    (total_is shape h p i old m (ltb-true i (subpages shape) y)) (same i (ltb-true i (subpages shape) y)))
+    (λ y. yes (nat_lt i (subpages shape)) (nat_lt i (size old)) (nat_lt i (size new)) (is_live h p) old.split new.split _ _ _ _ _ _ _ _ y (inside i) (inside' i) l s w.split
+    (total_is shape h p i old m (ltb-true i (subpages shape) y)) (same i (ltb-true i (subpages shape) y)) w.gave_zero (ap (λ z. has z i) w.zero ∙ m.zero i (ltb-true i (subpages shape) y)))
     (λ y. no (nat_lt i (subpages shape)) (nat_lt i (size old)) _ _ _ y (inside i))) where
       inside : (i : ℕ) → nat_lt i (subpages shape) ≡ nat_lt i (size old)
       inside i = ap (λ n. nat_lt i n) (sym (size_is shape h p old m))
@@ -87,9 +89,9 @@ unused_is shape h p old new m l s w =
       same : (i : ℕ) → i < subpages shape → total_at new i ≡ total_at old i
       same i below = omega (arith, w.whole, w.own i (omega (arith, size_is shape h p old m)))
 
-      yes : (x x' x'' l s s' : Bool) (u v v' : ℕ) → x ≡ true → x ≡ x' → x' ≡ x'' → l ≡ true → s ≡ false → s' ≡ true → u ≡ v → v' ≡ v →
-          (x && not (l && nat_lt 0 u)) ≡ ((x' && (not s || nat_lt 0 v)) && not (x'' && (not s' || nat_lt 0 v')))
-      yes x x' x'' l s s' u v v' a b c d e f g h = rw (sym c, sym b, a, d, e, f, g, h) refl
+      yes : (x x' x'' l s s' : Bool) (u v v' : ℕ) (on gave z z' q : Bool) → x ≡ true → x ≡ x' → x' ≡ x'' → l ≡ true → s ≡ false → s' ≡ true → u ≡ v → v' ≡ v → gave ≡ on → z' ≡ z →
+          (x && not ((l && nat_lt 0 u) && not (on && z))) ≡ ((x' && (not s || q)) && not (x'' && (not s' || (nat_lt 0 v' && not (gave && z')))))
+      yes x x' x'' l s s' u v v' on gave z z' q a b c d e f g h j k = rw (sym c, sym b, a, d, e, f, g, h, j, k) refl
 
       no : (x x' y z z' : Bool) → x ≡ false → x ≡ x' → (x && y) ≡ ((x' && z) && not z')
       no x x' y z z' e f = cc
@@ -101,7 +103,7 @@ lives_by h e p o l a f = lives_on h e p l a ∙ ap not (f ∙ ap (λ b. b && is_
 
 -- the outcome and the frames that an event must name
 pub gives_is : (shape : Shape) (h k : History) (p : ℕ) (o : Outcome) (old new : PageState) → Tallies shape h p old → Tallies shape k p new → is_live h p ≡ true →
-    is_live k p ≡ not (is_freed o) → o ≡ page_outcome old new (is_closed h) (stands h p) → Gives shape h k p o (page_released old new o)
+    is_live k p ≡ not (is_freed o) → o ≡ page_outcome old new (is_closed h) (stands shape h p) → Gives shape h k p o (page_released old new o)
 gives_is shape h k p o old new a b l after e = record {
   outcome_is = e ∙ sym (outcome_is shape h k p old new a b);
   set_is = sym (released_is shape h k p o old new a b l after);

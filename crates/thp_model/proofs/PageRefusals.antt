@@ -5,6 +5,7 @@ use Rattle.thp_model.specs.declared.refusal.Refusal.TheVariants as reason
 use Rattle.thp_model.specs.declared.shape.Shape.{Shape}
 use Rattle.thp_model.specs.Sets.{covers, some_below}
 use Rattle.thp_model.specs.Shapes.{subpages}
+use Rattle.thp_model.specs.Underused.{shrinks_underused}
 use Rattle.thp_model.specs.History.{History}
 use Rattle.thp_model.specs.Counts.{is_live, total}
 use Rattle.thp_model.specs.Frames.{is_held}
@@ -21,11 +22,14 @@ some_is shape h p t f g m e = some_below-ext (subpages shape) f g e ∙ ap (λ n
 
 -- a live page holds the frames that its state says
 pub held_is : (shape : Shape) (h : History) (p i : ℕ) (t : PageState) → Tallies shape h p t → is_live h p ≡ true → is_held shape h p i ≡ holds t i
-held_is shape h p i t m l = go _ _ _ _ _ _ _ (λ y. total_is shape h p i t m (ltb-true i (subpages shape) y)) (ap (λ n. nat_lt i n) (sym (size_is shape h p t m))) l (sym m.split) where
-  go : (x x' l s s' : Bool) (u u' : ℕ) → (x ≡ true → u ≡ u') → x ≡ x' → l ≡ true → s ≡ s' → (x && (l && (not s || (l && nat_lt 0 u)))) ≡ (x' && (not s' || nat_lt 0 u'))
-  go true x' true s s' u u' e f g h = let same : u ≡ u' = e refl in cc
-  go true x' false s s' u u' e f g h = absurd (cc)
-  go false x' l s s' u u' e f g h = cc
+held_is shape h p i t m l =
+    go _ _ _ _ _ (shrinks_underused shape) _ _ _ _ _ (λ y. total_is shape h p i t m (ltb-true i (subpages shape) y)) (λ y. m.zero i (ltb-true i (subpages shape) y))
+    (ap (λ n. nat_lt i n) (sym (size_is shape h p t m))) l (sym m.split) m.gave_zero where
+      go : (x x' l s s' on g z z' : Bool) (u u' : ℕ) → (x ≡ true → u ≡ u') → (x ≡ true → z' ≡ z) → x ≡ x' → l ≡ true → s ≡ s' → (s' ≡ true → g ≡ on) →
+          (x && (l && (not s || ((l && nat_lt 0 u) && not (on && z))))) ≡ (x' && (not s' || (nat_lt 0 u' && not (g && z'))))
+      go true x' l s true on g z z' u u' a b d e f j = rw (sym d, e, f, j refl, a refl, b refl) refl
+      go true x' l s false on g z z' u u' a b d e f j = rw (sym d, e, f) refl
+      go false x' l s s' on g z z' u u' a b d e f j = rw (sym d) refl
 
 -- a page that doesn't live holds nothing
 pub held_gone : (shape : Shape) (h : History) (p i : ℕ) → is_live h p ≡ false → is_held shape h p i ≡ false
@@ -108,6 +112,28 @@ refusal_unmap_sub shape h p first count t m l =
     ∙ two_tests _ _ _ _ reason.BadRange reason.NotMapped (bad_range_is shape h p first count t m)
     (some_of_is shape h p first count t _ _ m (λ i below. ap (λ n. nat_eq n 0) (own_is shape h p i t m below)))
 
+-- whether a subpage is mapped
+unmapped_is : (shape : Shape) (h : History) (p : ℕ) (t : PageState) → Tallies shape h p t → (i : ℕ) → i < subpages shape → nat_eq (total h p i) 0 ≡ nat_eq (total_at t i) 0
+unmapped_is shape h p t m i below = ap (λ n. nat_eq n 0) (total_is shape h p i t m below)
+
+-- a write of data to a range
+pub refusal_write : (shape : Shape) (h : History) (p first count : ℕ) (t : PageState) → Tallies shape h p t → is_live h p ≡ true →
+    refusal shape h (call.write p first count) ≡ page_refusal t (call.write p first count)
+unfolding refusal page_refusal
+refusal_write shape h p first count t m l =
+    live_first (is_live h p) reason.NoPage _ l
+    ∙ three_tests _ _ _ _ _ _ reason.BadRange reason.IsSplit reason.NotMapped (bad_range_is shape h p first count t m) (sym m.split)
+    (some_of_is shape h p first count t _ _ m (unmapped_is shape h p t m))
+
+-- a write of zeros to a range
+pub refusal_zero : (shape : Shape) (h : History) (p first count : ℕ) (t : PageState) → Tallies shape h p t → is_live h p ≡ true →
+    refusal shape h (call.zero_fill p first count) ≡ page_refusal t (call.zero_fill p first count)
+unfolding refusal page_refusal
+refusal_zero shape h p first count t m l =
+    live_first (is_live h p) reason.NoPage _ l
+    ∙ three_tests _ _ _ _ _ _ reason.BadRange reason.IsSplit reason.NotMapped (bad_range_is shape h p first count t m) (sym m.split)
+    (some_of_is shape h p first count t _ _ m (unmapped_is shape h p t m))
+
 -- one more pin
 pub refusal_pin : (shape : Shape) (h : History) (p : ℕ) (t : PageState) → Tallies shape h p t → is_live h p ≡ true →
     refusal shape h (call.pin p) ≡ page_refusal t (call.pin p)
@@ -125,4 +151,4 @@ refusal_unpin shape h p t m l =
     ∙ two_tests _ _ _ _ reason.IsSplit reason.NotPinned (sym m.split) (ap (λ n. nat_eq n 0) (pins_is shape h p t m))
 
 -- the refusals of the calls about a live page
-pub ruleset page_refusals = (refusal_map_whole, refusal_unmap_whole, refusal_map_sub, refusal_unmap_sub, refusal_split_pmd, refusal_pin, refusal_unpin)
+pub ruleset page_refusals = (refusal_map_whole, refusal_unmap_whole, refusal_map_sub, refusal_unmap_sub, refusal_split_pmd, refusal_pin, refusal_unpin, refusal_write, refusal_zero)

@@ -6,12 +6,14 @@ use Rattle.std.proofs.lemmas.List.Sums.{sum_by_push, fold_push}
 use Rattle.std.proofs.lemmas.List.Folds.{list_any-append}
 use Rattle.thp_model.specs.declared.events.Event.{Event}
 use Rattle.thp_model.specs.declared.events.What.{What}
+use Rattle.thp_model.specs.declared.shape.Shape.{Shape}
 use Rattle.thp_model.specs.History.{History, count_of, some_event, events_of}
 use Rattle.thp_model.specs.Counts.{is_live, allocates, frees}
 use Rattle.thp_model.specs.Places.{queue, queue_after, flights, flights_after, is_taking, takes_by}
-use Rattle.thp_model.specs.Counters.{thp_split_pmd, add_split_pmds, splits_pmds}
+use Rattle.thp_model.specs.Counters.{thp_split_pmd, add_split_pmds, splits_pmds, thp_underused_split_page, add_split_underused, splits_underused}
 use Rattle.thp_model.specs.Frames.{given, gives_back}
-use Rattle.thp_model.proofs.Bools.{or-false}
+use Rattle.thp_model.specs.Underused.{zero_after, is_zero_filled, writes, zeroes, unmaps_some, unmaps_part, add_unmap, is_partly_mapped}
+use Rattle.thp_model.proofs.Bools.{or-false, and_no}
 use Rattle.thp_model.proofs.ListPlaces.{append_none}
 
 -- how many events pass a test
@@ -26,9 +28,9 @@ some_event_push test h e =
     list_any-append (λ (x : Event). test x.what) h (e ∷ []) ∙ ap (λ b. some_event test h || b) (or-false (test e.what))
 
 -- the queue
-pub queue_push : (h : History) (e : Event) → queue (h ++ e ∷ []) ≡ queue_after (queue h) e.what
+pub queue_push : (shape : Shape) (h : History) (e : Event) → queue shape (h ++ e ∷ []) ≡ queue_after shape (queue shape h) e.what
 unfolding queue
-queue_push h e = fold_push (λ ps (x : Event). queue_after ps x.what) [] h e
+queue_push shape h e = fold_push (λ ps (x : Event). queue_after shape ps x.what) [] h e
 
 -- the flights
 pub flights_push : (h : History) (e : Event) → flights (h ++ e ∷ []) ≡ flights_after (flights h) e.caller e.what
@@ -82,10 +84,80 @@ pub thp_split_pmd_none : thp_split_pmd [] ≡ 0
 unfolding thp_split_pmd
 thp_split_pmd_none = refl
 
+-- the count of underused pages split goes along the history too
+history_so : (shape : Shape) (k : History) (n : ℕ) (h : History) → (fold (add_split_underused shape) (k, n) h).0 ≡ k ++ h
+history_so shape k n [] = sym (append_none k)
+history_so shape k n (e ∷ h) = history_so shape (k ++ e ∷ []) (n + splits_underused shape k e.what) h ∙ append_assoc k (e ∷ []) h
+
+-- how many pages were split as underused
+pub thp_underused_split_page_push : (shape : Shape) (h : History) (e : Event) →
+    thp_underused_split_page shape (h ++ e ∷ []) ≡ thp_underused_split_page shape h + splits_underused shape h e.what
+unfolding thp_underused_split_page
+thp_underused_split_page_push shape h e =
+    ap (λ (k : History × ℕ). k.1) (fold_push (add_split_underused shape) ([], 0) h e)
+    ∙ ap (λ k. (fold (add_split_underused shape) ([], 0) h).1 + splits_underused shape k e.what) (history_so shape [] 0 h)
+
+-- at the start none was split
+pub thp_underused_split_page_none : (shape : Shape) → thp_underused_split_page shape [] ≡ 0
+unfolding thp_underused_split_page
+thp_underused_split_page_none shape = refl
+
+-- whether a subpage is zero-filled
+pub is_zero_filled_push : (p i : ℕ) (h : History) (e : Event) → is_zero_filled (h ++ e ∷ []) p i ≡ zero_after p i (is_zero_filled h p i) e.what
+unfolding is_zero_filled
+is_zero_filled_push p i h e = fold_push (λ before (x : Event). zero_after p i before x.what) true h e
+
+-- an event that fills no subpage of page p
+pub zero_stays : (h : History) (e : Event) (p i : ℕ) → zeroes p i e.what ≡ false → writes p i e.what ≡ false →
+    is_zero_filled (h ++ e ∷ []) p i ≡ is_zero_filled h p i
+zero_stays h e p i z w = is_zero_filled_push p i h e ∙ go _ _ _ z w where
+  go : (b x y : Bool) → x ≡ false → y ≡ false → (x || (b && not y)) ≡ b
+  go b true y e f = absurd (cc)
+  go b false true e f = absurd (cc)
+  go true false false e f = refl
+  go false false false e f = refl
+
+-- whether a page is partly mapped goes along the history
+history_by : (shape : Shape) (p : ℕ) (k : History) (b : Bool) (h : History) → (fold (add_unmap shape p) (k, b) h).0 ≡ k ++ h
+history_by shape p k b [] = sym (append_none k)
+history_by shape p k b (e ∷ h) = history_by shape p (k ++ e ∷ []) (b || unmaps_part shape p k e) h ∙ append_assoc k (e ∷ []) h
+
+-- whether a page is partly mapped
+pub is_partly_mapped_push : (shape : Shape) (h : History) (e : Event) (p : ℕ) →
+    is_partly_mapped shape (h ++ e ∷ []) p ≡ (is_partly_mapped shape h p || unmaps_part shape p h e)
+unfolding is_partly_mapped
+is_partly_mapped_push shape h e p =
+    ap (λ (k : History × Bool). k.1) (fold_push (add_unmap shape p) ([], false) h e)
+    ∙ ap (λ k. (fold (add_unmap shape p) ([], false) h).1 || unmaps_part shape p k e) (history_by shape p [] false h)
+
+-- no page of the empty history is
+pub is_partly_mapped_none : (shape : Shape) (p : ℕ) → is_partly_mapped shape [] p ≡ false
+unfolding is_partly_mapped
+is_partly_mapped_none shape p = refl
+
+-- an event that unmaps nothing of page p
+pub partly_stays : (shape : Shape) (h : History) (e : Event) (p : ℕ) → unmaps_some p e.what ≡ false →
+    is_partly_mapped shape (h ++ e ∷ []) p ≡ is_partly_mapped shape h p
+partly_stays shape h e p f =
+    is_partly_mapped_push shape h e p
+    ∙ ap (λ b. is_partly_mapped shape h p || b) (and_no _ _ f) ∙ or-false (is_partly_mapped shape h p)
+
 -- the record of frames given back
 pub given_push : (h : History) (e : Event) → given (h ++ e ∷ []) ≡ given h ++ filter_map gives_back (e ∷ [])
 unfolding given
 given_push h e = filter_map-append gives_back h (e ∷ [])
 
 -- a history with one more event
-pub ruleset history_pushes = (count_of_push, some_event_push, queue_push, flights_push, is_taking_push, events_of_push, thp_split_pmd_push, given_push)
+pub ruleset history_pushes = (
+  count_of_push,
+  some_event_push,
+  queue_push,
+  flights_push,
+  is_taking_push,
+  events_of_push,
+  thp_split_pmd_push,
+  thp_underused_split_page_push,
+  is_zero_filled_push,
+  is_partly_mapped_push,
+  given_push,
+)

@@ -1,5 +1,5 @@
 -- No page stands twice in the queue and the flights joined, and each that stands there is live and not split.
-use Rattle.std.proofs.Common.{◌≡◌, ℕ, ◌+◌, ◌<◌, ◌≤◌, Bool, true, false, cond, not, ◌&&◌, ◌||◌, List, [], ◌∷◌, ◌++◌, Some, drop, map, refl, ap, sym, ◌∙◌, subst, arith, eq-eqb, ne_eqb, inl, inr}
+use Rattle.std.proofs.Common.{◌≡◌, ℕ, suc, zero, ◌+◌, ◌<◌, ◌≤◌, Bool, true, false, cond, not, ◌&&◌, ◌||◌, List, [], ◌∷◌, ◌++◌, Some, drop, map, refl, ap, sym, ◌∙◌, subst, arith, eq-eqb, ne_eqb, inl, inr}
 use Rattle.std.specs.Prelude.{slice_get, count_by, nat_eq, nat_lt}
 use Rattle.std.specs.List.{filter, list_any}
 use Rattle.std.proofs.lemmas.List.Sums.{sum_by_push, sum_by-cons, sum_by-append}
@@ -9,20 +9,23 @@ use Rattle.thp_model.specs.declared.events.Event.{Event}
 use Rattle.thp_model.specs.declared.events.Outcome.{Outcome}
 use Rattle.thp_model.specs.declared.events.Outcome.TheVariants.{Freed, Queued, Stays}
 use Rattle.thp_model.specs.declared.events.What.{What}
-use Rattle.thp_model.specs.declared.events.What.TheVariants.{UnmapWhole, UnmapSub, Unpin, Taken, Split, Back, Dropped}
+use Rattle.thp_model.specs.declared.events.What.TheVariants.{Alloc, MapWhole, UnmapWhole, MapSub, UnmapSub, SplitPmd, Pin, Unpin, Write, Zero, Taken, Split, Pinned, Used, Back, Dropped, Close}
 use Rattle.thp_model.specs.declared.shape.Shape.{Shape}
-use Rattle.thp_model.specs.History.{History, some_event}
-use Rattle.thp_model.specs.Counts.{total, pins, is_closed, is_freed, is_live, is_split, frees, splits, allocates}
+use Rattle.thp_model.specs.History.{History, some_event, by}
+use Rattle.thp_model.specs.Counts.{total, pins, is_closed, is_freed, is_live, is_split, frees, splits, allocates, is_alloc, allocations}
 use Rattle.thp_model.specs.Places.{standing, stands, queue, flights, queue_after, flights_after, queue_by, flights_by, without, leaves, has_page, flight}
 use Rattle.thp_model.specs.Legal.{IsLegal, Fits, FitsBy}
 use Rattle.thp_model.specs.Frames.{outcome}
 use Rattle.thp_model.specs.Sets.{some_below}
 use Rattle.thp_model.specs.Shapes.{subpages}
-use Rattle.thp_model.proofs.Allowed.{allowed_unmap_whole, allowed_unmap_sub, allowed_unpin}
+use Rattle.thp_model.specs.Underused.{shrinks_underused}
+use Rattle.thp_model.proofs.Allowed.{allowed_map_whole, allowed_unmap_whole, allowed_map_sub, allowed_unmap_sub, allowed_split_pmd, allowed_pin, allowed_unpin, allowed_write, allowed_zero}
 use Rattle.thp_model.proofs.Bools.{or_none, and-false, one_if, none_if}
 use Rattle.thp_model.proofs.Counting.{count-filter, count-le, count_any, count-cons}
 use Rattle.thp_model.proofs.LegalSteps.{legal_all}
-use Rattle.thp_model.proofs.Pushes.{queue_push, flights_push, some_event_push}
+use Rattle.thp_model.proofs.Numbers.{Fresh, Numbered, live_below, beyond, fresh_push, numbered_none}
+use Rattle.thp_model.proofs.Pushes.{queue_push, flights_push, some_event_push, some_same, count_of_push, count_same, count_more}
+use Rattle.thp_model.proofs.Untouched.{is_about, untouched}
 
 -- how often page p stands in the queue, and in the flights
 unfoldable pub times : ℕ → List ℕ → ℕ
@@ -130,19 +133,19 @@ first_has p [] e = absurd (cc)
 first_has p (q ∷ qs) e = let same : q ≡ p = cc in rw same (ap (λ v. v || has_page p qs) (eq-eqb p p refl))
 
 -- the first of the queue, taken out
-times-drop : (p q : ℕ) (qs : List ℕ) → slice_get qs 0 ≡ Some p → times q qs ≡ cond (nat_eq p q) 1 0 + times q (drop 1 qs)
+pub times-drop : (p q : ℕ) (qs : List ℕ) → slice_get qs 0 ≡ Some p → times q qs ≡ cond (nat_eq p q) 1 0 + times q (drop 1 qs)
 times-drop p q [] e = absurd (cc)
 times-drop p q (x ∷ qs) e = let same : x ≡ p = cc in rw (times-cons q x qs, same)
 
 -- how often a page stands
-abbrev pub stand : History → ℕ → ℕ
-stand h p = times p (queue h) + flying p (flights h)
+abbrev pub stand : Shape → History → ℕ → ℕ
+stand shape h p = times p (queue shape h) + flying p (flights h)
 
 -- no page stands twice, and each that stands is live and not split
-pub record Sound (h : History) : Type 0 where
-  pub once : (p : ℕ) → stand h p ≤ 1
-  pub live : (p : ℕ) → 0 < stand h p → is_live h p ≡ true
-  pub whole_page : (p : ℕ) → 0 < stand h p → is_split h p ≡ false
+pub record Sound (shape : Shape) (h : History) : Type 0 where
+  pub once : (p : ℕ) → stand shape h p ≤ 1
+  pub live : (p : ℕ) → 0 < stand shape h p → is_live h p ≡ true
+  pub whole_page : (p : ℕ) → 0 < stand shape h p → is_split h p ≡ false
 
 -- a page of some flight
 pub any-pages : (p : ℕ) (fs : List (ℕ × ℕ)) → has_page p (pages fs) ≡ list_any (λ (f : ℕ × ℕ). nat_eq f.1 p) fs
@@ -150,12 +153,12 @@ any-pages p [] = refl
 any-pages p (f ∷ fs) = ap (λ b. nat_eq f.1 p || b) (any-pages p fs)
 
 -- a page that stands nowhere is counted nowhere
-pub stands_not : (h : History) (p : ℕ) → has_page p (queue h ++ pages (flights h)) ≡ false → stand h p ≡ 0
+pub stands_not : (shape : Shape) (h : History) (p : ℕ) → has_page p (queue shape h ++ pages (flights h)) ≡ false → stand shape h p ≡ 0
 unfolding times flying
-stands_not h p e =
-    let split : (has_page p (queue h) || has_page p (pages (flights h))) ≡ false = sym (list_any-append (λ q. nat_eq q p) (queue h) (pages (flights h))) ∙ e in
-    let apart : (has_page p (queue h) ≡ false) × (has_page p (pages (flights h)) ≡ false) = or_none _ _ split in
-    omega (arith, (count_any (λ q. nat_eq q p) (queue h)).0 apart.0, (count_any (λ (f : ℕ × ℕ). nat_eq f.1 p) (flights h)).0 (sym (any-pages p (flights h)) ∙ apart.1))
+stands_not shape h p e =
+    let split : (has_page p (queue shape h) || has_page p (pages (flights h))) ≡ false = sym (list_any-append (λ q. nat_eq q p) (queue shape h) (pages (flights h))) ∙ e in
+    let apart : (has_page p (queue shape h) ≡ false) × (has_page p (pages (flights h)) ≡ false) = or_none _ _ split in
+    omega (arith, (count_any (λ q. nat_eq q p) (queue shape h)).0 apart.0, (count_any (λ (f : ℕ × ℕ). nat_eq f.1 p) (flights h)).0 (sym (any-pages p (flights h)) ∙ apart.1))
 
 -- a page lives on through an event that doesn't free it
 pub live_push : (h : History) (e : Event) (p : ℕ) → is_live h p ≡ true → frees p e.what ≡ false → is_live (h ++ e ∷ []) p ≡ true
@@ -180,25 +183,25 @@ record Next (h : History) (q n : ℕ) (freed parted : Bool) : Type 0 where
   good : 0 < n → (is_live h q ≡ true) × (is_split h q ≡ false) × (freed ≡ false) × (parted ≡ false)
 
 -- a page that stands no more often than before
-less : (h : History) (q n : ℕ) (a b : Bool) → Sound h → n ≤ stand h q → a ≡ false → b ≡ false → Next h q n a b
-less h q n a b s le f g = record { few = omega (arith, s.once q); good = λ up. (s.live q (omega arith), s.whole_page q (omega arith), f, g) }
+less : (shape : Shape) (h : History) (q n : ℕ) (a b : Bool) → Sound shape h → n ≤ stand shape h q → a ≡ false → b ≡ false → Next h q n a b
+less shape h q n a b s le f g = record { few = omega (arith, s.once q); good = λ up. (s.live q (omega arith), s.whole_page q (omega arith), f, g) }
 
 -- a page that stands nowhere any more
 gone : (h : History) (q n : ℕ) (a b : Bool) → n ≡ 0 → Next h q n a b
 gone h q n a b e = record { few = omega arith; good = λ up. absurd (omega arith) }
 
 -- a page that joined, and stood nowhere
-entered : (h : History) (p q n : ℕ) (a b : Bool) → Sound h → is_live h p ≡ true → is_split h p ≡ false → stand h p ≡ 0 →
-    n ≡ stand h q + cond (nat_eq p q) 1 0 → a ≡ false → b ≡ false → Next h q n a b
-entered h p q n a b s l w none e f g =
+entered : (shape : Shape) (h : History) (p q n : ℕ) (a b : Bool) → Sound shape h → is_live h p ≡ true → is_split h p ≡ false → stand shape h p ≡ 0 →
+    n ≡ stand shape h q + cond (nat_eq p q) 1 0 → a ≡ false → b ≡ false → Next h q n a b
+entered shape h p q n a b s l w none e f g =
     elim (eqb_tells p q) [
       | inl y ↦
           let one : cond {A = ℕ} (nat_eq p q) 1 0 ≡ 1 = one_if (nat_eq p q) y.0 in
-          let here : stand h q ≡ 0 = ap (stand h) (sym y.1) ∙ none in
+          let here : stand shape h q ≡ 0 = ap (stand shape h) (sym y.1) ∙ none in
           record { few = omega arith; good = λ up. (ap (is_live h) (sym y.1) ∙ l, ap (is_split h) (sym y.1) ∙ w, f, g) }
       | inr y ↦
           let none : cond {A = ℕ} (nat_eq p q) 1 0 ≡ 0 = none_if (nat_eq p q) y.0 in
-          less h q n a b s (omega arith) f g
+          less shape h q n a b s (omega arith) f g
     ]
 
 -- either q is not p, or q is p
@@ -206,10 +209,10 @@ flip : (p q : ℕ) → nat_eq p q ≡ nat_eq q p
 flip p q = elim (eqb_tells p q) [ inl y ↦ y.0 ∙ sym (eq-eqb q p (sym y.1)) | inr y ↦ y.0 ∙ sym (ne_eqb q p (λ e. y.1 (sym e))) ]
 
 -- a page that is p, or isn't
-unless_same : (h : History) (p q n : ℕ) (a b : Bool) → Sound h → n ≤ stand h q → (q ≡ p → n ≡ 0) →
+unless_same : (shape : Shape) (h : History) (p q n : ℕ) (a b : Bool) → Sound shape h → n ≤ stand shape h q → (q ≡ p → n ≡ 0) →
     (nat_eq q p ≡ false → (a ≡ false) × (b ≡ false)) → Next h q n a b
-unless_same h p q n a b s le f g =
-    elim (eqb_tells q p) [ inl y ↦ gone h q n a b (f y.1) | inr y ↦ less h q n a b s le (g y.0).0 (g y.0).1 ]
+unless_same shape h p q n a b s le f g =
+    elim (eqb_tells q p) [ inl y ↦ gone h q n a b (f y.1) | inr y ↦ less shape h q n a b s le (g y.0).0 (g y.0).1 ]
 
 -- what holds at p
 at : (q p : ℕ) (f : ℕ → ℕ) → f p ≡ 0 → q ≡ p → f q ≡ 0
@@ -217,25 +220,25 @@ at q p f e y = ap f y ∙ e
 
 -- a page is queued only where it isn't split, stands nowhere, the node is open and some subpage is in use
 pub outcome_queued : (shape : Shape) (h k : History) (p : ℕ) → Queued ≡ outcome shape h k p →
-    (is_split h p ≡ false) × (stands h p ≡ false) × (is_closed h ≡ false) × (some_below (subpages shape) (λ i. nat_lt 0 (total k p i)) ≡ true)
+    (is_split h p ≡ false) × (stands shape h p ≡ false) × (is_closed h ≡ false) × (some_below (subpages shape) (λ i. nat_lt 0 (total k p i)) ≡ true)
 outcome_queued shape h k p e =
     queued_is (not (some_below (subpages shape) (λ i. nat_lt 0 (total k p i))) && nat_eq (pins k p) 0) (is_split h p)
-    (some_below (subpages shape) (λ i. nat_lt 0 (total h p i) && nat_eq (total k p i) 0)) (some_below (subpages shape) (λ i. nat_lt 0 (total k p i))) (is_closed h) (stands h p) e
+    (some_below (subpages shape) (λ i. nat_lt 0 (total h p i) && nat_eq (total k p i) 0)) (some_below (subpages shape) (λ i. nat_lt 0 (total k p i))) (is_closed h) (stands shape h p) e
 
 -- an outcome of a live page keeps this
-by_outcome : (shape : Shape) (h k : History) (p q : ℕ) (o : Outcome) → Sound h → is_live h p ≡ true → o ≡ outcome shape h k p →
-    Next h q (times q (queue_by (queue h) p o) + flying q (flights_by (flights h) p o)) (nat_eq q p && is_freed o) false
-by_outcome shape h k p q Stays s l e = less h q _ _ _ s (omega arith) (and-false (nat_eq q p)) refl
+by_outcome : (shape : Shape) (h k : History) (p q : ℕ) (o : Outcome) → Sound shape h → is_live h p ≡ true → o ≡ outcome shape h k p →
+    Next h q (times q (queue_by (queue shape h) p o) + flying q (flights_by (flights h) p o)) (nat_eq q p && is_freed o) false
+by_outcome shape h k p q Stays s l e = less shape h q _ _ _ s (omega arith) (and-false (nat_eq q p)) refl
 by_outcome shape h k p q Queued s l e =
-    let why : (is_split h p ≡ false) × (stands h p ≡ false) × (is_closed h ≡ false) × (some_below (subpages shape) (λ i. nat_lt 0 (total k p i)) ≡ true) = outcome_queued shape h k p e in
-    entered h p q _ _ _ s l why.0 (stands_not h p why.1) (omega (arith, times_push q p (queue h))) (and-false (nat_eq q p)) refl
+    let why : (is_split h p ≡ false) × (stands shape h p ≡ false) × (is_closed h ≡ false) × (some_below (subpages shape) (λ i. nat_lt 0 (total k p i)) ≡ true) = outcome_queued shape h k p e in
+    entered shape h p q _ _ _ s l why.0 (stands_not shape h p why.1) (omega (arith, times_push q p (queue shape h))) (and-false (nat_eq q p)) refl
 by_outcome shape h k p q Freed s l e =
-    unless_same h p q _ _ _ s (omega (arith, times-filter (λ x. not (nat_eq x p)) q (queue h), flying-filter (λ (f : ℕ × ℕ). not (nat_eq f.1 p)) q (flights h)))
-    (λ y. at q p (λ x. times x (without p (queue h)) + flying x (filter (λ (f : ℕ × ℕ). not (nat_eq f.1 p)) (flights h))) (omega (arith, times-without p (queue h), flying-without p (flights h))) y)
+    unless_same shape h p q _ _ _ s (omega (arith, times-filter (λ x. not (nat_eq x p)) q (queue shape h), flying-filter (λ (f : ℕ × ℕ). not (nat_eq f.1 p)) q (flights h)))
+    (λ y. at q p (λ x. times x (without p (queue shape h)) + flying x (filter (λ (f : ℕ × ℕ). not (nat_eq f.1 p)) (flights h))) (omega (arith, times-without p (queue shape h), flying-without p (flights h))) y)
     (λ y. (ap (λ b. b && true) y, refl))
 
 -- a page that leaves the flight of c makes room for one entry
-moves : (p q c : ℕ) (fs : List (ℕ × ℕ)) → has_page p (pages (filter (λ (f : ℕ × ℕ). nat_eq f.0 c) fs)) ≡ true →
+pub moves : (p q c : ℕ) (fs : List (ℕ × ℕ)) → has_page p (pages (filter (λ (f : ℕ × ℕ). nat_eq f.0 c) fs)) ≡ true →
     cond (nat_eq p q) 1 0 + flying q (leaves c p fs) ≤ flying q fs
 moves p q c fs h =
     elim (eqb_tells p q) [
@@ -250,43 +253,148 @@ moves p q c fs h =
     ]
 
 -- an event that fits keeps this
-step : (shape : Shape) (h k : History) (c : ℕ) (w : What) (q : ℕ) → Sound h → FitsBy shape h k c w →
-    Next h q (times q (queue_after (queue h) w) + flying q (flights_after (flights h) c w)) (frees q w) (splits q w)
-step shape h k c (UnmapWhole p o r) q s f = by_outcome shape h k p q o s (allowed_unmap_whole shape h p f.0).0 f.1.outcome_is
-step shape h k c (UnmapSub p a m o r) q s f = by_outcome shape h k p q o s (allowed_unmap_sub shape h p a m f.0).0 f.1.outcome_is
-step shape h k c (Unpin p o r) q s f = by_outcome shape h k p q o s (allowed_unpin shape h p f.0).0 f.1.outcome_is
-step shape h k c (Taken p) q s f =
-    less h q _ _ _ s (omega (arith, times-drop p q (queue h) f.oldest, flying_push q p c (flights h))) refl refl
-step shape h k c (Split p r) q s f =
-    unless_same h p q _ _ _ s (omega (arith, flying-filter (λ (x : ℕ × ℕ). not (nat_eq x.0 c && nat_eq x.1 p)) q (flights h)))
-    (λ y. at q p (λ x. times x (queue h) + flying x (leaves c p (flights h))) (omega (arith, flying-leaves p c (flights h) f.in_flight, s.once p)) y)
+step : (shape : Shape) (h k : History) (c : ℕ) (w : What) (q : ℕ) → is_alloc w ≡ false → Sound shape h → FitsBy shape h k c w →
+    Next h q (times q (queue_after shape (queue shape h) w) + flying q (flights_after (flights h) c w)) (frees q w) (splits q w)
+step shape h k c (Alloc p b) q un s f = absurd (cc)
+step shape h k c (UnmapWhole o p r) q un s f = by_outcome shape h k p q o s (allowed_unmap_whole shape h p f.0).0 f.1.outcome_is
+step shape h k c (UnmapSub o p a m r) q un s f = by_outcome shape h k p q o s (allowed_unmap_sub shape h p a m f.0).0 f.1.outcome_is
+step shape h k c (Unpin o p r) q un s f = by_outcome shape h k p q o s (allowed_unpin shape h p f.0).0 f.1.outcome_is
+step shape h k c (Taken p) q un s f =
+    less shape h q _ _ _ s (omega (arith, times-drop p q (queue shape h) f.oldest, flying_push q p c (flights h))) refl refl
+step shape h k c (Split p r) q un s f =
+    unless_same shape h p q _ _ _ s (omega (arith, flying-filter (λ (x : ℕ × ℕ). not (nat_eq x.0 c && nat_eq x.1 p)) q (flights h)))
+    (λ y. at q p (λ x. times x (queue shape h) + flying x (leaves c p (flights h))) (omega (arith, flying-leaves p c (flights h) f.in_flight, s.once p)) y)
     (λ y. (refl, y))
-step shape h k c (Back p) q s f =
-    less h q _ _ _ s (omega (arith, times_push q p (queue h), moves p q c (flights h) (first_has p (flight h c) f.0))) refl refl
-step shape h k c (Dropped p) q s f =
-    less h q _ _ _ s (omega (arith, flying-filter (λ (x : ℕ × ℕ). not (nat_eq x.0 c && nat_eq x.1 p)) q (flights h))) refl refl
-step shape h k c w q s f = less h q _ _ _ s (omega arith) refl refl
+step shape h k c (Back p) q un s f =
+    less shape h q _ _ _ s (omega (arith, times_push q p (queue shape h), moves p q c (flights h) (first_has p (flight h c) f.0))) refl refl
+step shape h k c (Used p) q un s f =
+    less shape h q _ _ _ s (omega (arith, flying-filter (λ (x : ℕ × ℕ). not (nat_eq x.0 c && nat_eq x.1 p)) q (flights h))) refl refl
+step shape h k c (Dropped p) q un s f =
+    less shape h q _ _ _ s (omega (arith, flying-filter (λ (x : ℕ × ℕ). not (nat_eq x.0 c && nat_eq x.1 p)) q (flights h))) refl refl
+step shape h k c w q un s f = less shape h q _ _ _ s (omega arith) refl refl
 
--- one more event that fits
-pub sound_push : (shape : Shape) (h : History) (e : Event) → Sound h → Fits shape h e → Sound (h ++ e ∷ [])
-sound_push shape h e s f =
-    let stands_as : (q : ℕ) → stand (h ++ e ∷ []) q ≡ times q (queue_after (queue h) e.what) + flying q (flights_after (flights h) e.caller e.what) =
-    λ q. ap (λ ps. times q ps + flying q (flights (h ++ e ∷ []))) (queue_push h e) ∙ ap (λ fs. times q (queue_after (queue h) e.what) + flying q fs) (flights_push h e) in
-    let next = λ (q : ℕ). step shape h (h ++ e ∷ []) e.caller e.what q s f in
+-- an event that fits isn't about a page that is still to be allocated after it
+about_step : (shape : Shape) (h : History) (c : ℕ) (w : What) (q : ℕ) → Sound shape h → Numbered h → FitsBy shape h (h ++ by c w ∷ []) c w →
+    allocations (h ++ by c w ∷ []) ≤ q → is_about q w ≡ false
+about_step shape h c (Alloc p b) q s t f g =
+    let more : allocations (h ++ by c (Alloc p b) ∷ []) ≡ allocations h + 1 = count_more is_alloc h _ refl in
+    ne_eqb q p (λ z. omega (arith, z, f.number))
+about_step shape h c (MapWhole p) q s t f g = beyond h p q _ t (allowed_map_whole shape h p f).0 (count_same is_alloc h (by c (MapWhole p)) refl) g
+about_step shape h c (UnmapWhole o p r) q s t f g = beyond h p q _ t (allowed_unmap_whole shape h p f.0).0 (count_same is_alloc h (by c (UnmapWhole o p r)) refl) g
+about_step shape h c (MapSub p a d) q s t f g = beyond h p q _ t (allowed_map_sub shape h p a d f).0 (count_same is_alloc h (by c (MapSub p a d)) refl) g
+about_step shape h c (UnmapSub o p a d r) q s t f g = beyond h p q _ t (allowed_unmap_sub shape h p a d f.0).0 (count_same is_alloc h (by c (UnmapSub o p a d r)) refl) g
+about_step shape h c (SplitPmd p) q s t f g = beyond h p q _ t (allowed_split_pmd shape h p f).0 (count_same is_alloc h (by c (SplitPmd p)) refl) g
+about_step shape h c (Pin p) q s t f g = beyond h p q _ t (allowed_pin shape h p f).0 (count_same is_alloc h (by c (Pin p)) refl) g
+about_step shape h c (Unpin o p r) q s t f g = beyond h p q _ t (allowed_unpin shape h p f.0).0 (count_same is_alloc h (by c (Unpin o p r)) refl) g
+about_step shape h c (Split p r) q s t f g =
+    let up : 0 < stand shape h p = omega (arith, flying-leaves p c (flights h) f.in_flight) in
+    beyond h p q _ t (s.live p up) (count_same is_alloc h (by c (Split p r)) refl) g
+about_step shape h c (Write p a d) q s t f g = beyond h p q _ t (allowed_write shape h p a d f).0 (count_same is_alloc h (by c (Write p a d)) refl) g
+about_step shape h c (Zero p a d) q s t f g = beyond h p q _ t (allowed_zero shape h p a d f).0 (count_same is_alloc h (by c (Zero p a d)) refl) g
+about_step shape h c (Taken p) q s t f g = refl
+about_step shape h c (Pinned p) q s t f g = refl
+about_step shape h c (Used p) q s t f g = refl
+about_step shape h c (Back p) q s t f g = refl
+about_step shape h c (Dropped p) q s t f g = refl
+about_step shape h c Close q s t f g = refl
+
+-- a page that joins where a test holds
+new_stands : (b : Bool) (q p : ℕ) (ps : List ℕ) → times q (cond b (ps ++ p ∷ []) ps) ≡ times q ps + cond (b && nat_eq p q) 1 0
+new_stands true q p ps = times_push q p ps
+new_stands false q p ps = omega arith
+
+-- a new page stands in the queue where the switch is on, and nowhere else
+sound_alloc : (shape : Shape) (h : History) (c p b : ℕ) → Sound shape h → Numbered h → p ≡ allocations h → Sound shape (h ++ by c (Alloc p b) ∷ [])
+sound_alloc shape h c p b s t is =
+    let e : Event = by c (Alloc p b) in
+    let k : History = h ++ e ∷ [] in
+    let on : Bool = shrinks_underused shape in
+    let fresh : Fresh h p = t.fresh p (omega (arith, is)) in
+    let more : (q : ℕ) → stand shape k q ≡ stand shape h q + cond (on && nat_eq p q) 1 0 =
+    λ q. ap (λ ps. times q ps + flying q (flights k)) (queue_push shape h e) ∙ ap (λ fs. times q (queue_after shape (queue shape h) (Alloc p b)) + flying q fs) (flights_push h e)
+    ∙ omega (arith, new_stands on q p (queue shape h)) in
+    let none : stand shape h p ≡ 0 = nothing (stand shape h p) (λ up. let l : p < allocations h = live_below h p t (s.live p up) in omega (arith, is)) in
+    let was : (q : ℕ) → nat_eq p q ≡ false → 0 < stand shape k q → 0 < stand shape h q = λ q y up. up_or (on && nat_eq p q) _ _ (more q) up (and_none on _ y) in
+    record {
+      once = λ q. elim (eqb_tells p q) [
+        | inl y ↦ at_most (on && nat_eq p q) _ _ (more q) (ap (stand shape h) (sym y.1) ∙ none)
+        | inr y ↦ omega (arith, more q, s.once q, none_if (on && nat_eq p q) (and_none on _ y.0))
+      ];
+      live = λ q up. elim (eqb_tells p q) [
+        | inl y ↦ let P : ℕ → Type 0 = λ x. is_live k x ≡ true in subst P y.1 (live_new _ _ _ _ (some_event_push (allocates p) h e) (eq-eqb p p refl) (some_same (frees p) h e refl ∙ fresh.not_freed))
+        | inr y ↦ live_push h e q (s.live q (was q y.0 up)) refl
+      ];
+      whole_page = λ q up. elim (eqb_tells p q) [
+        | inl y ↦ let P : ℕ → Type 0 = λ x. is_split k x ≡ false in subst P y.1 (split_push h e p fresh.not_split refl)
+        | inr y ↦ split_push h e q (s.whole_page q (was q y.0 up)) refl
+      ];
+    } where
+      nothing : (m : ℕ) → (0 < m → ⊥) → m ≡ 0
+      nothing zero f = refl
+      nothing (suc m) f = absurd (f (omega arith))
+
+      and_none : (a b : Bool) → b ≡ false → (a && b) ≡ false
+      and_none true b e = e
+      and_none false b e = refl
+
+      at_most : (b : Bool) (m n : ℕ) → n ≡ m + cond b 1 0 → m ≡ 0 → n ≤ 1
+      at_most true m n e f = omega arith
+      at_most false m n e f = omega arith
+
+      up_or : (b : Bool) (m n : ℕ) → n ≡ m + cond b 1 0 → 0 < n → b ≡ false → 0 < m
+      up_or true m n e u f = absurd (cc)
+      up_or false m n e u f = omega arith
+
+      live_new : (a a' f b : Bool) → a' ≡ (a || b) → b ≡ true → f ≡ false → (a' && not f) ≡ true
+      live_new a true true b e g h = absurd (cc)
+      live_new a true false b e g h = refl
+      live_new true false f b e g h = absurd (cc)
+      live_new false false f b e g h = absurd (cc)
+
+-- an event that is no allocation
+sound_other : (shape : Shape) (h : History) (e : Event) → is_alloc e.what ≡ false → Sound shape h → Fits shape h e → Sound shape (h ++ e ∷ [])
+sound_other shape h e un s f =
+    let stands_as : (q : ℕ) → stand shape (h ++ e ∷ []) q ≡ times q (queue_after shape (queue shape h) e.what) + flying q (flights_after (flights h) e.caller e.what) =
+    λ q. ap (λ ps. times q ps + flying q (flights (h ++ e ∷ []))) (queue_push shape h e) ∙ ap (λ fs. times q (queue_after shape (queue shape h) e.what) + flying q fs) (flights_push h e) in
+    let next = λ (q : ℕ). step shape h (h ++ e ∷ []) e.caller e.what q un s f in
     record {
       once = λ q. rw (stands_as q) (next q).few;
       live = λ q up. let g = (next q).good (rw (stands_as q) at up) in live_push h e q g.0 g.2;
       whole_page = λ q up. let g = (next q).good (rw (stands_as q) at up) in split_push h e q g.1 g.3;
     }
 
+-- what a caller does
+sound_by : (shape : Shape) (h : History) (c : ℕ) (w : What) → Sound shape h → Numbered h → FitsBy shape h (h ++ by c w ∷ []) c w → Sound shape (h ++ by c w ∷ [])
+sound_by shape h c (Alloc p b) s t f = sound_alloc shape h c p b s t f.number
+sound_by shape h c w s t f = sound_other shape h (by c w) refl s f
+
+-- one more event that fits
+pub sound_push : (shape : Shape) (h : History) (e : Event) → Sound shape h → Numbered h → Fits shape h e → Sound shape (h ++ e ∷ [])
+sound_push shape h e s t f = sound_by shape h e.caller e.what s t f
+
+-- one more event that fits keeps the numbers
+pub numbered_push : (shape : Shape) (h : History) (e : Event) → Sound shape h → Numbered h → Fits shape h e → Numbered (h ++ e ∷ [])
+numbered_push shape h e s t f = record {
+  fresh = λ q above.
+      fresh_push h e q (untouched q e.what (about_step shape h e.caller e.what q s t f above))
+      (t.fresh q (omega (arith, count_of_push is_alloc h e)));
+}
+
 -- the empty history
-pub sound_none : Sound []
+pub sound_none : (shape : Shape) → Sound shape []
 unfolding times flying queue flights
-sound_none = record { once = λ p. omega arith; live = λ p up. absurd (omega arith); whole_page = λ p up. absurd (omega arith) }
+sound_none shape = record { once = λ p. omega arith; live = λ p up. absurd (omega arith); whole_page = λ p up. absurd (omega arith) }
+
+-- what holds of each legal history on the way
+record SoundSoFar (shape : Shape) (h : History) : Type 0 where
+  sound : Sound shape h
+  numbered : Numbered h
 
 -- so it holds of every legal history
-pub legal_sound : (shape : Shape) (h : History) → IsLegal shape h → Sound h
-legal_sound shape h l = legal_all shape Sound sound_none (sound_push shape) h l
+pub legal_sound : (shape : Shape) (h : History) → IsLegal shape h → Sound shape h
+legal_sound shape h l =
+    (legal_all shape (SoundSoFar shape) (record { sound = sound_none shape; numbered = numbered_none })
+    (λ k e a f. record { sound = sound_push shape k e a.sound a.numbered f; numbered = numbered_push shape k e a.sound a.numbered f }) h l).sound
 
 -- the pages of the flights, counted as a list
 flying_as : (p : ℕ) (fs : List (ℕ × ℕ)) → times p (pages fs) ≡ flying p fs
@@ -295,7 +403,7 @@ flying_as p [] = refl
 flying_as p (f ∷ fs) = times-cons p f.1 (pages fs) ∙ ap (λ n. cond (nat_eq f.1 p) 1 0 + n) (flying_as p fs) ∙ sym (flying-cons p f.0 f.1 fs)
 
 -- in a legal history no page stands twice
-pub once_of_legal : (shape : Shape) (h : History) → IsLegal shape h → (p : ℕ) → count_by (λ q. nat_eq q p) (standing h) ≤ 1
+pub once_of_legal : (shape : Shape) (h : History) → IsLegal shape h → (p : ℕ) → count_by (λ q. nat_eq q p) (standing shape h) ≤ 1
 unfolding times
 once_of_legal shape h l p =
-    omega (arith, (legal_sound shape h l).once p, flying_as p (flights h), sum_by-append (λ q. cond (nat_eq q p) 1 0) (queue h) (pages (flights h)))
+    omega (arith, (legal_sound shape h l).once p, flying_as p (flights h), sum_by-append (λ q. cond (nat_eq q p) 1 0) (queue shape h) (pages (flights h)))

@@ -1,17 +1,24 @@
 -- A page's state along a history: after each event it is what the history says of the page.
-use Rattle.std.proofs.Common.{◌≡◌, ℕ, ◌+◌, ◌-◌, ◌^◌, ◌<◌, Bool, true, false, cond, ◌&&◌, ◌||◌, List, [], ◌∷◌, ◌++◌, refl, ap, sym, ◌∙◌, arith, nat_eq, eq-eqb}
+use Rattle.std.proofs.Common.{◌≡◌, ℕ, ◌+◌, ◌-◌, ◌^◌, ◌<◌, ◌≤◌, Bool, true, false, cond, not, ◌&&◌, ◌||◌, List, [], ◌∷◌, ◌++◌, refl, ap, sym, ◌∙◌, arith, nat_eq, nat_lt, eq-eqb, lt-ltb}
+use Rattle.std.proofs.Math.Pow.{pow_mono}
+use Rattle.std.proofs.lemmas.Bool.Decides.{nat_tests}
+use Rattle.std.specs.Prelude.{slice_index_or}
 use Rattle.thp_model.specs.declared.events.Event.{Event}
 use Rattle.thp_model.specs.declared.events.Outcome.{Outcome}
-use Rattle.thp_model.specs.declared.events.What.TheVariants.{Alloc, MapWhole, UnmapWhole, MapSub, UnmapSub, SplitPmd, Pin, Unpin, Split}
+use Rattle.thp_model.specs.declared.events.What.{What}
+use Rattle.thp_model.specs.declared.events.What.TheVariants.{Alloc, MapWhole, UnmapWhole, MapSub, UnmapSub, SplitPmd, Pin, Unpin, Write, Zero, Split}
 use Rattle.thp_model.specs.declared.shape.Shape.{Shape}
-use Rattle.thp_model.specs.Sets.{covers}
+use Rattle.thp_model.specs.Sets.{covers, has, some_below, count_below, set_size}
 use Rattle.thp_model.specs.Shapes.{subpages}
 use Rattle.thp_model.specs.History.{History, count_of, by}
-use Rattle.thp_model.specs.Counts.{maps, unmaps, maps_whole, unmaps_whole, pins_page, unpins_page, is_split, splits, total, whole, own, pins}
-use Rattle.thp_model.specs.Pages.{PageState, size, own_at, total_at, WholeMapped, RangeMapped, PmdSplit, Pinned, PageSplit, IsFresh, Tallies}
-use Rattle.thp_model.proofs.Bools.{by_bool}
+use Rattle.thp_model.specs.Counts.{maps, unmaps, maps_whole, unmaps_whole, pins_page, unpins_page, is_split, splits, total, whole, own, pins, is_mapped, loses_use}
+use Rattle.thp_model.specs.Underused.{shrinks_underused, zeroes, writes, unmaps_some, is_zero_filled, is_partly_mapped, is_worth_split, is_above, zero_filled}
+use Rattle.thp_model.specs.Pages.{PageState, size, own_at, total_at, zero_at, zero_count, zero_set, has_use, drops_use, partly_after, is_worth, KeepsZero, KeepsCounts, WholeMapped, WholeUnmapped, RangeMapped, RangeUnmapped, PmdSplit, Pinned, PageSplit, RangeWritten, RangeZeroed, IsFresh, Tallies}
+use Rattle.thp_model.proofs.Below.{some_below-ext}
+use Rattle.thp_model.proofs.Bools.{by_bool, or_first, and_no, none_if}
 use Rattle.thp_model.proofs.Numbers.{Fresh}
-use Rattle.thp_model.proofs.Pushes.{count_of_push, count_same, count_more, some_same, some_event_push}
+use Rattle.thp_model.proofs.Pushes.{count_of_push, count_same, count_more, some_same, some_event_push, zero_stays, partly_stays, is_zero_filled_push, is_partly_mapped_push}
+use Rattle.thp_model.proofs.SumsBelow.{sum_below-ext, sum_below-stop, set_size-set_of}
 use Rattle.thp_model.proofs.Untouched.{Untouched}
 
 -- a page has as many subpages as each page of its node
@@ -40,6 +47,44 @@ own_is shape h p i t m below = go _ _ _ _ (total_is shape h p i t m below) (whol
   go : (a b w o : ℕ) → a ≡ w + o → b ≡ w → a - b ≡ o
   go a b w o e f = omega arith
 
+-- pages of one order
+pub same_size : (a b : PageState) → a.order ≡ b.order → size a ≡ size b
+unfolding size
+same_size a b e = ap (λ n. 2 ^ n) e
+
+-- what a call about mappings or pins leaves of what is zero-filled
+zero_kept : (shape : Shape) (h : History) (e : Event) (p : ℕ) (old new : PageState) → Tallies shape h p old → KeepsZero old new →
+    ((i : ℕ) → zeroes p i e.what ≡ false) → ((i : ℕ) → writes p i e.what ≡ false) → (i : ℕ) → i < subpages shape → zero_at new i ≡ is_zero_filled (h ++ e ∷ []) p i
+zero_kept shape h e p old new m k z w i below = ap (λ s. has s i) k.zero ∙ m.zero i below ∙ sym (zero_stays h e p i (z i) (w i))
+
+-- the same of what its split gave back
+gave_kept : (shape : Shape) (h : History) (p : ℕ) (old new : PageState) → Tallies shape h p old → KeepsZero old new → new.split ≡ old.split →
+    new.split ≡ true → new.gave_zero ≡ shrinks_underused shape
+gave_kept shape h p old new m k s g = k.gave_zero ∙ m.gave_zero (sym s ∙ g)
+
+-- an event that unmaps nothing leaves whether the page is partly mapped
+partly_kept : (shape : Shape) (h : History) (e : Event) (p : ℕ) (old new : PageState) → Tallies shape h p old → new.partly ≡ old.partly → unmaps_some p e.what ≡ false →
+    new.partly ≡ is_partly_mapped shape (h ++ e ∷ []) p
+partly_kept shape h e p old new m same f = same ∙ m.partly ∙ sym (partly_stays shape h e p f)
+
+-- an unmap leaves the page partly mapped where a subpage went out of use and another is in use
+partly_unmapped : (shape : Shape) (h : History) (e : Event) (p : ℕ) (old new : PageState) → Tallies shape h p old → new.order ≡ old.order →
+    ((i : ℕ) → i < subpages shape → count_of (maps p i) (h ++ e ∷ []) ≡ count_of (unmaps p i) (h ++ e ∷ []) + total_at new i) →
+    new.partly ≡ partly_after old new → unmaps_some p e.what ≡ true → new.partly ≡ is_partly_mapped shape (h ++ e ∷ []) p
+partly_unmapped shape h e p old new m o totals is f =
+    let k : History = h ++ e ∷ [] in
+    let now : (i : ℕ) → i < subpages shape → total k p i ≡ total_at new i = λ i below. omega (arith, totals i below) in
+    let loses : loses_use shape h k p ≡ drops_use old new =
+    some_below-ext (subpages shape) _ _ (λ i below. pair _ _ _ _ (total_is shape h p i old m below) (now i below)) ∙ ap (λ n. some_below n (λ i. nat_lt 0 (total_at old i) && nat_eq (total_at new i) 0)) (sym (size_is shape h p old m)) in
+    let mapped : is_mapped shape k p ≡ has_use new =
+    some_below-ext (subpages shape) _ _ (λ i below. ap (λ n. nat_lt 0 n) (now i below)) ∙ ap (λ n. some_below n (λ i. nat_lt 0 (total_at new i))) (sym (same_size new old o ∙ size_is shape h p old m)) in
+    is ∙ sym (is_partly_mapped_push shape h e p ∙ parts _ _ _ _ _ _ _ (sym m.partly) f loses mapped) where
+      pair : (x x' y y' : ℕ) → x ≡ x' → y ≡ y' → (nat_lt 0 x && nat_eq y 0) ≡ (nat_lt 0 x' && nat_eq y' 0)
+      pair x x' y y' e f = cc
+
+      parts : (a a' u x x' y y' : Bool) → a ≡ a' → u ≡ true → x ≡ x' → y ≡ y' → (a || (u && (x && y))) ≡ (a' || (x' && y'))
+      parts a a' u x x' y y' e f g h = rw (e, f, g, h) refl
+
 -- an event that isn't about the page
 pub tallies_stay : (shape : Shape) (h : History) (e : Event) (p : ℕ) (t : PageState) → Untouched p e.what → Tallies shape h p t → Tallies shape (h ++ e ∷ []) p t
 tallies_stay shape h e p t u m = record {
@@ -49,20 +94,34 @@ tallies_stay shape h e p t u m = record {
   no_whole = λ f. m.no_whole (sym (some_same (splits p) h e u.no_split) ∙ f);
   pins_of = omega (arith, count_same (pins_page p) h e u.no_pin, m.pins_of, count_same (unpins_page p) h e u.no_unpin);
   split = m.split ∙ sym (some_same (splits p) h e u.no_split);
+  zero = λ i below. m.zero i below ∙ sym (zero_stays h e p i (u.no_zeroes i) (u.no_writes i));
+  partly = m.partly ∙ sym (partly_stays shape h e p u.no_unmap);
+  gave_zero = m.gave_zero;
 }
 
 -- a subpage of the node's pages is one of the page
 in_size : (shape : Shape) (h : History) (p : ℕ) (t : PageState) → Tallies shape h p t → (i : ℕ) → i < subpages shape → i < size t
 in_size shape h p t m i below = omega (arith, size_is shape h p t m)
 
--- pages of one order
-pub same_size : (a b : PageState) → a.order ≡ b.order → size a ≡ size b
-unfolding size
-same_size a b e = ap (λ n. 2 ^ n) e
+-- the event changes no count of page p
+record IsFilling (p : ℕ) (w : What) : Type 0 where
+  no_maps : (i : ℕ) → maps p i w ≡ false
+  no_unmaps : (i : ℕ) → unmaps p i w ≡ false
+  no_maps_whole : maps_whole p w ≡ false
+  no_unmaps_whole : unmaps_whole p w ≡ false
+  no_pin : pins_page p w ≡ false
+  no_unpin : unpins_page p w ≡ false
+  no_split : splits p w ≡ false
+  no_unmap : unmaps_some p w ≡ false
 
 -- an event of page p covers what its range covers
 covered : (p first count i : ℕ) → (nat_eq p p && covers first count i) ≡ covers first count i
 covered p first count i = ap (λ b. b && covers first count i) (eq-eqb p p refl)
+
+-- a new page has as many subpages as each page of its node
+fresh_size : (shape : Shape) (t : PageState) → IsFresh shape.order t → size t ≡ subpages shape
+unfolding size subpages
+fresh_size shape t m = ap (λ n. 2 ^ n) m.order_is
 
 -- a new page
 pub tallies_alloc : (shape : Shape) (h : History) (c p b : ℕ) (new : PageState) → Fresh h p → IsFresh shape.order new → Tallies shape (h ++ by c (Alloc p b) ∷ []) p new
@@ -75,6 +134,9 @@ tallies_alloc shape h c p b new f m =
       no_whole = λ g. absurd (let z : true ≡ false = sym g ∙ some_same (splits p) h e refl ∙ f.not_split in cc);
       pins_of = omega (arith, count_same (pins_page p) h e refl, count_same (unpins_page p) h e refl, f.no_pins, f.no_unpins, m.pins);
       split = m.split ∙ sym (some_same (splits p) h e refl ∙ f.not_split);
+      zero = λ i below. m.zero i (omega (arith, below, fresh_size shape new m)) ∙ sym (is_zero_filled_push p i h e ∙ or_first (nat_eq p p) _ (eq-eqb p p refl));
+      partly = m.partly ∙ sym (partly_stays shape h e p refl ∙ f.not_partly shape);
+      gave_zero = λ g. absurd (let z : true ≡ false = sym g ∙ m.split in cc);
     }
 
 -- one more mapping of the whole page
@@ -89,20 +151,28 @@ tallies_map_whole shape h c p old new t s w =
       no_whole = λ g. absurd (let z : true ≡ false = sym g ∙ some_same (splits p) h e refl ∙ sym t.split ∙ s in cc);
       pins_of = omega (arith, count_same (pins_page p) h e refl, count_same (unpins_page p) h e refl, t.pins_of, w.pins);
       split = w.split ∙ t.split ∙ sym (some_same (splits p) h e refl);
+      zero = zero_kept shape h e p old new t w.kept (λ i. refl) (λ i. refl);
+      partly = partly_kept shape h e p old new t w.partly refl;
+      gave_zero = gave_kept shape h p old new t w.kept w.split;
     }
 
 -- one mapping of the whole page less
-pub tallies_unmap_whole : (shape : Shape) (h : History) (c p : ℕ) (o : Outcome) (r : List Bool) (old new : PageState) → Tallies shape h p old → WholeMapped new old →
-    Tallies shape (h ++ by c (UnmapWhole p o r) ∷ []) p new
+pub tallies_unmap_whole : (shape : Shape) (h : History) (c p : ℕ) (o : Outcome) (r : List Bool) (old new : PageState) → Tallies shape h p old → WholeUnmapped old new →
+    Tallies shape (h ++ by c (UnmapWhole o p r) ∷ []) p new
 tallies_unmap_whole shape h c p o r old new t w =
-    let e : Event = by c (UnmapWhole p o r) in
+    let e : Event = by c (UnmapWhole o p r) in
+    let totals : (i : ℕ) → i < subpages shape → count_of (maps p i) (h ++ e ∷ []) ≡ count_of (unmaps p i) (h ++ e ∷ []) + total_at new i =
+    λ i below. omega (arith, count_same (maps p i) h e refl, count_more (unmaps p i) h e (eq-eqb p p refl), t.totals i below, w.whole, w.own i (in_size shape h p old t i below)) in
     record {
-      order = sym w.order ∙ t.order;
-      totals = λ i below. omega (arith, count_same (maps p i) h e refl, count_more (unmaps p i) h e (eq-eqb p p refl), t.totals i below, w.whole, w.own i (omega (arith, in_size shape h p old t i below, same_size old new w.order)));
+      order = w.order ∙ t.order;
+      totals = totals;
       whole_of = λ g. omega (arith, count_same (maps_whole p) h e refl, count_more (unmaps_whole p) h e (eq-eqb p p refl), t.whole_of (sym (some_same (splits p) h e refl) ∙ g), w.whole);
       no_whole = λ g. omega (arith, t.no_whole (sym (some_same (splits p) h e refl) ∙ g), w.whole);
       pins_of = omega (arith, count_same (pins_page p) h e refl, count_same (unpins_page p) h e refl, t.pins_of, w.pins);
-      split = sym w.split ∙ t.split ∙ sym (some_same (splits p) h e refl);
+      split = w.split ∙ t.split ∙ sym (some_same (splits p) h e refl);
+      zero = zero_kept shape h e p old new t w.kept (λ i. refl) (λ i. refl);
+      partly = partly_unmapped shape h e p old new t w.order totals w.partly (eq-eqb p p refl);
+      gave_zero = gave_kept shape h p old new t w.kept w.split;
     }
 
 -- one more mapping of each subpage of a range
@@ -118,21 +188,29 @@ tallies_map_sub shape h c p first count old new t u =
       no_whole = λ g. u.whole ∙ t.no_whole (sym (some_same (splits p) h e refl) ∙ g);
       pins_of = omega (arith, count_same (pins_page p) h e refl, count_same (unpins_page p) h e refl, t.pins_of, u.pins);
       split = u.split ∙ t.split ∙ sym (some_same (splits p) h e refl);
+      zero = zero_kept shape h e p old new t u.kept (λ i. refl) (λ i. refl);
+      partly = partly_kept shape h e p old new t u.partly refl;
+      gave_zero = gave_kept shape h p old new t u.kept u.split;
     }
 
 -- one mapping of each subpage of a range less
-pub tallies_unmap_sub : (shape : Shape) (h : History) (c p first count : ℕ) (o : Outcome) (r : List Bool) (old new : PageState) → Tallies shape h p old → RangeMapped first count new old →
-    Tallies shape (h ++ by c (UnmapSub p first count o r) ∷ []) p new
+pub tallies_unmap_sub : (shape : Shape) (h : History) (c p first count : ℕ) (o : Outcome) (r : List Bool) (old new : PageState) → Tallies shape h p old → RangeUnmapped first count old new →
+    Tallies shape (h ++ by c (UnmapSub o p first count r) ∷ []) p new
 tallies_unmap_sub shape h c p first count o r old new t u =
-    let e : Event = by c (UnmapSub p first count o r) in
+    let e : Event = by c (UnmapSub o p first count r) in
+    let totals : (i : ℕ) → i < subpages shape → count_of (maps p i) (h ++ e ∷ []) ≡ count_of (unmaps p i) (h ++ e ∷ []) + total_at new i =
+    λ i below.
+    omega (arith, count_same (maps p i) h e refl, count_of_push (unmaps p i) h e ∙ ap (λ b. count_of (unmaps p i) h + cond b 1 0) (covered p first count i), t.totals i below, u.whole, u.own i (in_size shape h p old t i below)) in
     record {
-      order = sym u.order ∙ t.order;
-      totals = λ i below.
-          omega (arith, count_same (maps p i) h e refl, count_of_push (unmaps p i) h e ∙ ap (λ b. count_of (unmaps p i) h + cond b 1 0) (covered p first count i), t.totals i below, u.whole, u.own i (omega (arith, in_size shape h p old t i below, same_size old new u.order)));
+      order = u.order ∙ t.order;
+      totals = totals;
       whole_of = λ g. omega (arith, count_same (maps_whole p) h e refl, count_same (unmaps_whole p) h e refl, t.whole_of (sym (some_same (splits p) h e refl) ∙ g), u.whole);
-      no_whole = λ g. sym u.whole ∙ t.no_whole (sym (some_same (splits p) h e refl) ∙ g);
+      no_whole = λ g. u.whole ∙ t.no_whole (sym (some_same (splits p) h e refl) ∙ g);
       pins_of = omega (arith, count_same (pins_page p) h e refl, count_same (unpins_page p) h e refl, t.pins_of, u.pins);
-      split = sym u.split ∙ t.split ∙ sym (some_same (splits p) h e refl);
+      split = u.split ∙ t.split ∙ sym (some_same (splits p) h e refl);
+      zero = zero_kept shape h e p old new t u.kept (λ i. refl) (λ i. refl);
+      partly = partly_unmapped shape h e p old new t u.order totals u.partly (eq-eqb p p refl);
+      gave_zero = gave_kept shape h p old new t u.kept u.split;
     }
 
 -- a mapping of the whole page made into one of each subpage
@@ -147,6 +225,9 @@ tallies_split_pmd shape h c p old new t w =
       no_whole = λ g. omega (arith, t.no_whole (sym (some_same (splits p) h e refl) ∙ g), w.whole);
       pins_of = omega (arith, count_same (pins_page p) h e refl, count_same (unpins_page p) h e refl, t.pins_of, w.pins);
       split = w.split ∙ t.split ∙ sym (some_same (splits p) h e refl);
+      zero = zero_kept shape h e p old new t w.kept (λ i. refl) (λ i. refl);
+      partly = partly_kept shape h e p old new t w.partly refl;
+      gave_zero = gave_kept shape h p old new t w.kept w.split;
     }
 
 -- one more pin
@@ -160,13 +241,17 @@ tallies_pin shape h c p old new t w =
       no_whole = λ g. w.whole ∙ t.no_whole (sym (some_same (splits p) h e refl) ∙ g);
       pins_of = omega (arith, count_more (pins_page p) h e (eq-eqb p p refl), count_same (unpins_page p) h e refl, t.pins_of, w.pins);
       split = w.split ∙ t.split ∙ sym (some_same (splits p) h e refl);
+      zero = zero_kept shape h e p old new t w.kept (λ i. refl) (λ i. refl);
+      partly = partly_kept shape h e p old new t w.partly refl;
+      gave_zero = gave_kept shape h p old new t w.kept w.split;
     }
 
 -- one pin less
 pub tallies_unpin : (shape : Shape) (h : History) (c p : ℕ) (o : Outcome) (r : List Bool) (old new : PageState) → Tallies shape h p old → Pinned new old →
-    Tallies shape (h ++ by c (Unpin p o r) ∷ []) p new
+    Tallies shape (h ++ by c (Unpin o p r) ∷ []) p new
 tallies_unpin shape h c p o r old new t w =
-    let e : Event = by c (Unpin p o r) in
+    let e : Event = by c (Unpin o p r) in
+    let back : KeepsZero old new = record { zero = sym w.kept.zero; gave_zero = sym w.kept.gave_zero } in
     record {
       order = sym w.order ∙ t.order;
       totals = λ i below. omega (arith, count_same (maps p i) h e refl, count_same (unmaps p i) h e refl, t.totals i below, w.whole, w.own i (omega (arith, in_size shape h p old t i below, same_size old new w.order)));
@@ -174,10 +259,13 @@ tallies_unpin shape h c p o r old new t w =
       no_whole = λ g. sym w.whole ∙ t.no_whole (sym (some_same (splits p) h e refl) ∙ g);
       pins_of = omega (arith, count_same (pins_page p) h e refl, count_more (unpins_page p) h e (eq-eqb p p refl), t.pins_of, w.pins);
       split = sym w.split ∙ t.split ∙ sym (some_same (splits p) h e refl);
+      zero = zero_kept shape h e p old new t back (λ i. refl) (λ i. refl);
+      partly = partly_kept shape h e p old new t (sym w.partly) refl;
+      gave_zero = gave_kept shape h p old new t back (sym w.split);
     }
 
 -- the page split into base pages
-pub tallies_split : (shape : Shape) (h : History) (c p : ℕ) (r : List Bool) (old new : PageState) → Tallies shape h p old → PageSplit old new →
+pub tallies_split : (shape : Shape) (h : History) (c p : ℕ) (r : List Bool) (old new : PageState) → Tallies shape h p old → PageSplit (shrinks_underused shape) old new →
     Tallies shape (h ++ by c (Split p r) ∷ []) p new
 tallies_split shape h c p r old new t w =
     let e : Event = by c (Split p r) in
@@ -189,10 +277,80 @@ tallies_split shape h c p r old new t w =
       no_whole = λ g. w.whole;
       pins_of = omega (arith, count_same (pins_page p) h e refl, count_same (unpins_page p) h e refl, t.pins_of, w.pins);
       split = w.split ∙ sym now;
+      zero = λ i below. ap (λ s. has s i) w.zero ∙ t.zero i below ∙ sym (zero_stays h e p i refl refl);
+      partly = partly_kept shape h e p old new t w.partly refl;
+      gave_zero = λ g. w.gave_zero;
     } where
       go : (a b : Bool) → b ≡ true → (a || b) ≡ true
       go true b e = refl
       go false b e = e
+
+-- a write leaves the counts of the page
+counts_kept : (shape : Shape) (h : History) (e : Event) (p : ℕ) (old new : PageState) → Tallies shape h p old → KeepsCounts old new → IsFilling p e.what →
+    ((i : ℕ) → i < subpages shape → zero_at new i ≡ is_zero_filled (h ++ e ∷ []) p i) → Tallies shape (h ++ e ∷ []) p new
+counts_kept shape h e p old new t k u zero = record {
+  order = k.order ∙ t.order;
+  totals = λ i below. omega (arith, count_same (maps p i) h e (u.no_maps i), count_same (unmaps p i) h e (u.no_unmaps i), t.totals i below, k.whole, ap (λ o. slice_index_or o i 0) k.own);
+  whole_of = λ g. omega (arith, count_same (maps_whole p) h e u.no_maps_whole, count_same (unmaps_whole p) h e u.no_unmaps_whole, t.whole_of (sym (some_same (splits p) h e u.no_split) ∙ g), k.whole);
+  no_whole = λ g. k.whole ∙ t.no_whole (sym (some_same (splits p) h e u.no_split) ∙ g);
+  pins_of = omega (arith, count_same (pins_page p) h e u.no_pin, count_same (unpins_page p) h e u.no_unpin, t.pins_of, k.pins);
+  split = k.split ∙ t.split ∙ sym (some_same (splits p) h e u.no_split);
+  zero = zero;
+  partly = partly_kept shape h e p old new t k.partly u.no_unmap;
+  gave_zero = λ g. k.gave_zero ∙ t.gave_zero (sym k.split ∙ g);
+}
+
+-- data written to a range
+pub tallies_write : (shape : Shape) (h : History) (c p first count : ℕ) (old new : PageState) → Tallies shape h p old → RangeWritten first count old new →
+    Tallies shape (h ++ by c (Write p first count) ∷ []) p new
+tallies_write shape h c p first count old new t w =
+    let e : Event = by c (Write p first count) in
+    counts_kept shape h e p old new t w.kept
+    (record { no_maps = λ i. refl; no_unmaps = λ i. refl; no_maps_whole = refl; no_unmaps_whole = refl; no_pin = refl; no_unpin = refl; no_split = refl; no_unmap = refl })
+    (λ i below.
+    w.zero i (in_size shape h p old t i below) ∙ ap (λ b. b && not (covers first count i)) (t.zero i below)
+    ∙ sym (is_zero_filled_push p i h e ∙ ap (λ b. is_zero_filled h p i && not b) (covered p first count i)))
+
+-- zeros written to a range
+pub tallies_zero : (shape : Shape) (h : History) (c p first count : ℕ) (old new : PageState) → Tallies shape h p old → RangeZeroed first count old new →
+    Tallies shape (h ++ by c (Zero p first count) ∷ []) p new
+tallies_zero shape h c p first count old new t w =
+    let e : Event = by c (Zero p first count) in
+    counts_kept shape h e p old new t w.kept
+    (record { no_maps = λ i. refl; no_unmaps = λ i. refl; no_maps_whole = refl; no_unmaps_whole = refl; no_pin = refl; no_unpin = refl; no_split = refl; no_unmap = refl })
+    (λ i below.
+    w.zero i (in_size shape h p old t i below) ∙ ap (λ b. b || covers first count i) (t.zero i below) ∙ turn (is_zero_filled h p i) (covers first count i)
+    ∙ sym (is_zero_filled_push p i h e ∙ ap (λ b. b || (is_zero_filled h p i && true)) (covered p first count i))) where
+      turn : (a b : Bool) → (a || b) ≡ (b || (a && true))
+      turn true true = refl
+      turn true false = refl
+      turn false true = refl
+      turn false false = refl
+
+-- how many subpages are zero-filled
+zero_count_is : (shape : Shape) (h : History) (p : ℕ) (t : PageState) → Tallies shape h p t → zero_filled shape h p ≡ zero_count t
+zero_count_is shape h p t m =
+    sum_below-ext (subpages shape) _ _ (λ i below. ap (λ b. cond b 1 0) (sym (m.zero i below))) ∙ ap (λ n. count_below n (zero_at t)) (sym (size_is shape h p t m))
+
+-- as many as the set of zero-filled subpages has
+pub zero_set_size : (t : PageState) → t.order ≤ 9 → set_size (zero_set t) ≡ zero_count t
+unfolding size
+zero_set_size t small =
+    set_size-set_of (λ i. nat_lt i (size t) && zero_at t i)
+    ∙ ap (λ m. count_below m (λ i. nat_lt i (size t) && zero_at t i)) (up (size t) (omega (arith, pow_mono {i = t.order} {j = 9} small)))
+    ∙ sum_below-stop (512 - size t) (size t) _ (λ i above. none_if _ (and_no (nat_lt i (size t)) _ (past i (size t) above)))
+    ∙ sum_below-ext (size t) _ _ (λ i below. ap (λ b. cond {A = ℕ} (b && zero_at t i) 1 0) (lt-ltb i (size t) below)) where
+      up : (n : ℕ) → n ≤ 512 → 512 ≡ 512 - n + n
+      up n h = omega arith
+
+      past : (i n : ℕ) → n ≤ i → nat_lt i n ≡ false
+      past i n h = grind (arith, nat_tests)
+
+-- whether a split of the page is worth its while
+pub worth_is : (shape : Shape) (h : History) (p : ℕ) (t : PageState) → Tallies shape h p t → is_worth_split shape h p ≡ is_worth shape.underused t
+worth_is shape h p t m = both _ _ _ _ (sym m.partly) (ap (λ n. is_above shape.underused n) (zero_count_is shape h p t m)) where
+  both : (a a' b b' : Bool) → a ≡ a' → b ≡ b' → (a || b) ≡ (a' || b')
+  both a a' b b' e f = cc
 
 -- a page's state after each event about it
 pub ruleset page_tallies = (
@@ -206,4 +364,6 @@ pub ruleset page_tallies = (
   tallies_pin,
   tallies_unpin,
   tallies_split,
+  tallies_write,
+  tallies_zero,
 )

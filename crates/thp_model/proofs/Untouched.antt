@@ -1,8 +1,9 @@
 -- Events that aren't about a page.
 use Rattle.std.proofs.Common.{◌≡◌, ◌≢◌, ℕ, Bool, false, refl, nat_eq, ne_eqb}
 use Rattle.thp_model.specs.declared.events.What.{What}
-use Rattle.thp_model.specs.declared.events.What.TheVariants.{Alloc, MapWhole, UnmapWhole, MapSub, UnmapSub, SplitPmd, Pin, Unpin, Taken, Split, Pinned, Back, Dropped, Close}
+use Rattle.thp_model.specs.declared.events.What.TheVariants.{Alloc, MapWhole, UnmapWhole, MapSub, UnmapSub, SplitPmd, Pin, Unpin, Write, Zero, Taken, Split, Pinned, Used, Back, Dropped, Close}
 use Rattle.thp_model.specs.Counts.{maps, unmaps, maps_whole, unmaps_whole, pins_page, unpins_page, allocates, frees, splits}
+use Rattle.thp_model.specs.Underused.{zeroes, writes, unmaps_some}
 use Rattle.thp_model.proofs.Bools.{and_no}
 
 -- the event leaves every count and every state of page p
@@ -16,36 +17,44 @@ pub record Untouched (p : ℕ) (w : What) : Type 0 where
   pub no_alloc : allocates p w ≡ false
   pub no_free : frees p w ≡ false
   pub no_split : splits p w ≡ false
+  pub no_zeroes : (i : ℕ) → zeroes p i w ≡ false
+  pub no_writes : (i : ℕ) → writes p i w ≡ false
+  pub no_unmap : unmaps_some p w ≡ false
 
 -- the page that an event names; the events of the node have none
 abbrev pub is_about : ℕ → What → Bool
 is_about p (Alloc q block) = nat_eq p q
 is_about p (MapWhole q) = nat_eq p q
-is_about p (UnmapWhole q outcome set) = nat_eq p q
+is_about p (UnmapWhole outcome q set) = nat_eq p q
 is_about p (MapSub q first count) = nat_eq p q
-is_about p (UnmapSub q first count outcome set) = nat_eq p q
+is_about p (UnmapSub outcome q first count set) = nat_eq p q
 is_about p (SplitPmd q) = nat_eq p q
 is_about p (Pin q) = nat_eq p q
-is_about p (Unpin q outcome set) = nat_eq p q
+is_about p (Unpin outcome q set) = nat_eq p q
+is_about p (Write q first count) = nat_eq p q
+is_about p (Zero q first count) = nat_eq p q
 is_about p (Taken q) = false
 is_about p (Split q set) = nat_eq p q
 is_about p (Pinned q) = false
+is_about p (Used q) = false
 is_about p (Back q) = false
 is_about p (Dropped q) = false
 is_about p Close = false
 
 -- an event that names another page, or is a move from one place to another, leaves page p
 pub untouched : (p : ℕ) (w : What) → is_about p w ≡ false → Untouched p w
-untouched p (Alloc q block) e = record { no_maps = λ i. e; no_unmaps = λ i. refl; no_maps_whole = e; no_unmaps_whole = refl; no_pin = refl; no_unpin = refl; no_alloc = e; no_free = refl; no_split = refl }
-untouched p (MapWhole q) e = record { no_maps = λ i. e; no_unmaps = λ i. refl; no_maps_whole = e; no_unmaps_whole = refl; no_pin = refl; no_unpin = refl; no_alloc = refl; no_free = refl; no_split = refl }
-untouched p (UnmapWhole q outcome set) e = record { no_maps = λ i. refl; no_unmaps = λ i. e; no_maps_whole = refl; no_unmaps_whole = e; no_pin = refl; no_unpin = refl; no_alloc = refl; no_free = and_no _ _ e; no_split = refl }
-untouched p (MapSub q first count) e = record { no_maps = λ i. and_no _ _ e; no_unmaps = λ i. refl; no_maps_whole = refl; no_unmaps_whole = refl; no_pin = refl; no_unpin = refl; no_alloc = refl; no_free = refl; no_split = refl }
-untouched p (UnmapSub q first count outcome set) e = record { no_maps = λ i. refl; no_unmaps = λ i. and_no _ _ e; no_maps_whole = refl; no_unmaps_whole = refl; no_pin = refl; no_unpin = refl; no_alloc = refl; no_free = and_no _ _ e; no_split = refl }
-untouched p (SplitPmd q) e = record { no_maps = λ i. refl; no_unmaps = λ i. refl; no_maps_whole = refl; no_unmaps_whole = e; no_pin = refl; no_unpin = refl; no_alloc = refl; no_free = refl; no_split = refl }
-untouched p (Pin q) e = record { no_maps = λ i. refl; no_unmaps = λ i. refl; no_maps_whole = refl; no_unmaps_whole = refl; no_pin = e; no_unpin = refl; no_alloc = refl; no_free = refl; no_split = refl }
-untouched p (Unpin q outcome set) e = record { no_maps = λ i. refl; no_unmaps = λ i. refl; no_maps_whole = refl; no_unmaps_whole = refl; no_pin = refl; no_unpin = e; no_alloc = refl; no_free = and_no _ _ e; no_split = refl }
-untouched p (Split q set) e = record { no_maps = λ i. refl; no_unmaps = λ i. refl; no_maps_whole = refl; no_unmaps_whole = refl; no_pin = refl; no_unpin = refl; no_alloc = refl; no_free = refl; no_split = e }
-untouched p w e = record { no_maps = λ i. refl; no_unmaps = λ i. refl; no_maps_whole = refl; no_unmaps_whole = refl; no_pin = refl; no_unpin = refl; no_alloc = refl; no_free = refl; no_split = refl }
+untouched p (Alloc q block) e = record { no_maps = λ i. e; no_unmaps = λ i. refl; no_maps_whole = e; no_unmaps_whole = refl; no_pin = refl; no_unpin = refl; no_alloc = e; no_free = refl; no_split = refl; no_zeroes = λ i. e; no_writes = λ i. refl; no_unmap = refl }
+untouched p (MapWhole q) e = record { no_maps = λ i. e; no_unmaps = λ i. refl; no_maps_whole = e; no_unmaps_whole = refl; no_pin = refl; no_unpin = refl; no_alloc = refl; no_free = refl; no_split = refl; no_zeroes = λ i. refl; no_writes = λ i. refl; no_unmap = refl }
+untouched p (UnmapWhole outcome q set) e = record { no_maps = λ i. refl; no_unmaps = λ i. e; no_maps_whole = refl; no_unmaps_whole = e; no_pin = refl; no_unpin = refl; no_alloc = refl; no_free = and_no _ _ e; no_split = refl; no_zeroes = λ i. refl; no_writes = λ i. refl; no_unmap = e }
+untouched p (MapSub q first count) e = record { no_maps = λ i. and_no _ _ e; no_unmaps = λ i. refl; no_maps_whole = refl; no_unmaps_whole = refl; no_pin = refl; no_unpin = refl; no_alloc = refl; no_free = refl; no_split = refl; no_zeroes = λ i. refl; no_writes = λ i. refl; no_unmap = refl }
+untouched p (UnmapSub outcome q first count set) e = record { no_maps = λ i. refl; no_unmaps = λ i. and_no _ _ e; no_maps_whole = refl; no_unmaps_whole = refl; no_pin = refl; no_unpin = refl; no_alloc = refl; no_free = and_no _ _ e; no_split = refl; no_zeroes = λ i. refl; no_writes = λ i. refl; no_unmap = e }
+untouched p (SplitPmd q) e = record { no_maps = λ i. refl; no_unmaps = λ i. refl; no_maps_whole = refl; no_unmaps_whole = e; no_pin = refl; no_unpin = refl; no_alloc = refl; no_free = refl; no_split = refl; no_zeroes = λ i. refl; no_writes = λ i. refl; no_unmap = refl }
+untouched p (Pin q) e = record { no_maps = λ i. refl; no_unmaps = λ i. refl; no_maps_whole = refl; no_unmaps_whole = refl; no_pin = e; no_unpin = refl; no_alloc = refl; no_free = refl; no_split = refl; no_zeroes = λ i. refl; no_writes = λ i. refl; no_unmap = refl }
+untouched p (Unpin outcome q set) e = record { no_maps = λ i. refl; no_unmaps = λ i. refl; no_maps_whole = refl; no_unmaps_whole = refl; no_pin = refl; no_unpin = e; no_alloc = refl; no_free = and_no _ _ e; no_split = refl; no_zeroes = λ i. refl; no_writes = λ i. refl; no_unmap = refl }
+untouched p (Split q set) e = record { no_maps = λ i. refl; no_unmaps = λ i. refl; no_maps_whole = refl; no_unmaps_whole = refl; no_pin = refl; no_unpin = refl; no_alloc = refl; no_free = refl; no_split = e; no_zeroes = λ i. refl; no_writes = λ i. refl; no_unmap = refl }
+untouched p (Write q first count) e = record { no_maps = λ i. refl; no_unmaps = λ i. refl; no_maps_whole = refl; no_unmaps_whole = refl; no_pin = refl; no_unpin = refl; no_alloc = refl; no_free = refl; no_split = refl; no_zeroes = λ i. refl; no_writes = λ i. and_no _ _ e; no_unmap = refl }
+untouched p (Zero q first count) e = record { no_maps = λ i. refl; no_unmaps = λ i. refl; no_maps_whole = refl; no_unmaps_whole = refl; no_pin = refl; no_unpin = refl; no_alloc = refl; no_free = refl; no_split = refl; no_zeroes = λ i. and_no _ _ e; no_writes = λ i. refl; no_unmap = refl }
+untouched p w e = record { no_maps = λ i. refl; no_unmaps = λ i. refl; no_maps_whole = refl; no_unmaps_whole = refl; no_pin = refl; no_unpin = refl; no_alloc = refl; no_free = refl; no_split = refl; no_zeroes = λ i. refl; no_writes = λ i. refl; no_unmap = refl }
 
 -- a page other than p
 pub apart : (q p : ℕ) → (q ≢ p) → nat_eq q p ≡ false

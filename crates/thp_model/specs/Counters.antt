@@ -1,12 +1,14 @@
 -- The node's statistics, by the names of /proc/vmstat.
 -- (admin-guide/mm/transhuge.rst, "Monitoring usage", for the names; when each rises is this project's profile)
-use Rattle.std.specs.Prelude.{ℕ, ◌+◌, Bool, true, false, [], ◌∷◌, ◌++◌}
+use Rattle.std.specs.Prelude.{ℕ, ◌+◌, Bool, true, false, if◌then◌else◌, [], ◌∷◌, ◌++◌}
 use Rattle.std.specs.List.{fold}
 use Rattle.thp_model.specs.declared.events.Event.{Event}
 use Rattle.thp_model.specs.declared.events.What.{What}
 use Rattle.thp_model.specs.declared.events.What.TheVariants.{UnmapWhole, UnmapSub, SplitPmd, Unpin, Split, Pinned}
+use Rattle.thp_model.specs.declared.shape.Shape.{Shape}
 use Rattle.thp_model.specs.History.{History, count_of}
 use Rattle.thp_model.specs.Counts.{whole, is_queued}
+use Rattle.thp_model.specs.Underused.{is_partly_mapped}
 
 abbrev pub is_page_split : What → Bool
 is_page_split (Split p set) = true
@@ -16,11 +18,11 @@ abbrev pub is_failed_try : What → Bool
 is_failed_try (Pinned p) = true
 is_failed_try _ = false
 
--- the event's outcome is that its page was queued; a put-back doesn't count
+-- the event's outcome is that its page was queued; neither a put-back nor an allocation counts
 abbrev pub queues : What → Bool
-queues (UnmapWhole p outcome set) = is_queued outcome
-queues (UnmapSub p first count outcome set) = is_queued outcome
-queues (Unpin p outcome set) = is_queued outcome
+queues (UnmapWhole outcome p set) = is_queued outcome
+queues (UnmapSub outcome p first count set) = is_queued outcome
+queues (Unpin outcome p set) = is_queued outcome
 queues _ = false
 
 -- how many pages were split
@@ -48,3 +50,16 @@ add_split_pmds sofar e = (sofar.0 ++ e ∷ [], sofar.1 + splits_pmds sofar.0 e.w
 -- how many PMD mappings were split
 unfoldable pub thp_split_pmd : History → ℕ
 thp_split_pmd h = (fold add_split_pmds ([], 0) h).1
+
+-- how many pages an event splits at h that weren't partly mapped: they were split as underused
+abbrev pub splits_underused : Shape → History → What → ℕ
+splits_underused s h (Split p set) = if is_partly_mapped s h p then 0 else 1
+splits_underused s h _ = 0
+
+-- the history so far and the underused pages split so far, after one more event
+abbrev pub add_split_underused : Shape → History × ℕ → Event → History × ℕ
+add_split_underused s sofar e = (sofar.0 ++ e ∷ [], sofar.1 + splits_underused s sofar.0 e.what)
+
+-- how many pages were split as underused
+unfoldable pub thp_underused_split_page : Shape → History → ℕ
+thp_underused_split_page s h = (fold (add_split_underused s) ([], 0) h).1

@@ -5,7 +5,9 @@ use Rattle.thp_model.specs.declared.events.Outcome.{Outcome}
 use Rattle.thp_model.specs.declared.events.Outcome.TheVariants.{Freed, Queued}
 use Rattle.thp_model.specs.declared.events.What.{What}
 use Rattle.thp_model.specs.declared.events.What.TheVariants.{Alloc, MapWhole, UnmapWhole, MapSub, UnmapSub, SplitPmd, Pin, Unpin, Split, Close}
-use Rattle.thp_model.specs.Sets.{covers}
+use Rattle.thp_model.specs.declared.shape.Shape.{Shape}
+use Rattle.thp_model.specs.Sets.{covers, some_below}
+use Rattle.thp_model.specs.Shapes.{subpages}
 use Rattle.thp_model.specs.History.{History, count_of, some_event}
 
 -- the event adds a mapping of subpage i of page p
@@ -17,8 +19,8 @@ maps p i _ = false
 
 -- the event takes a mapping of subpage i of page p away
 abbrev pub unmaps : ℕ → ℕ → What → Bool
-unmaps p i (UnmapWhole q outcome released) = nat_eq p q
-unmaps p i (UnmapSub q first count outcome released) = nat_eq p q && covers first count i
+unmaps p i (UnmapWhole outcome q released) = nat_eq p q
+unmaps p i (UnmapSub outcome q first count released) = nat_eq p q && covers first count i
 unmaps p i _ = false
 
 -- the event adds a mapping of the whole page p
@@ -29,7 +31,7 @@ maps_whole p _ = false
 
 -- the event takes a mapping of the whole page p away, or makes it one of each subpage
 abbrev pub unmaps_whole : ℕ → What → Bool
-unmaps_whole p (UnmapWhole q outcome released) = nat_eq p q
+unmaps_whole p (UnmapWhole outcome q released) = nat_eq p q
 unmaps_whole p (SplitPmd q) = nat_eq p q
 unmaps_whole p _ = false
 
@@ -40,7 +42,7 @@ pins_page p _ = false
 
 -- the event takes a pin of page p away
 abbrev pub unpins_page : ℕ → What → Bool
-unpins_page p (Unpin q outcome released) = nat_eq p q
+unpins_page p (Unpin outcome q released) = nat_eq p q
 unpins_page p _ = false
 
 -- the event allocates page p
@@ -63,9 +65,9 @@ is_queued _ = false
 
 -- the event frees page p
 abbrev pub frees : ℕ → What → Bool
-frees p (UnmapWhole q outcome released) = nat_eq p q && is_freed outcome
-frees p (UnmapSub q first count outcome released) = nat_eq p q && is_freed outcome
-frees p (Unpin q outcome released) = nat_eq p q && is_freed outcome
+frees p (UnmapWhole outcome q released) = nat_eq p q && is_freed outcome
+frees p (UnmapSub outcome q first count released) = nat_eq p q && is_freed outcome
+frees p (Unpin outcome q released) = nat_eq p q && is_freed outcome
 frees p _ = false
 
 -- the event splits page p
@@ -100,6 +102,14 @@ own h p i = total h p i - whole h p
 -- the extra pins of page p
 abbrev pub pins : History → ℕ → ℕ
 pins h p = count_of (pins_page p) h - count_of (unpins_page p) h
+
+-- some subpage of page p is mapped
+abbrev pub is_mapped : Shape → History → ℕ → Bool
+is_mapped s h p = some_below (subpages s) (λ i. nat_lt 0 (total h p i))
+
+-- some subpage of page p was mapped before and isn't after
+abbrev pub loses_use : Shape → History → History → ℕ → Bool
+loses_use s before after p = some_below (subpages s) (λ i. nat_lt 0 (total before p i) && nat_eq (total after p i) 0)
 
 -- page p was allocated and not freed
 abbrev pub is_live : History → ℕ → Bool

@@ -4,17 +4,18 @@ use Rattle.thp_model.specs.declared.events.What.{What}
 use Rattle.thp_model.specs.declared.events.What.TheVariants.{UnmapWhole, UnmapSub, Unpin, Split}
 use Rattle.thp_model.specs.declared.shape.Shape.{Shape}
 use Rattle.thp_model.specs.History.{History, count_of}
-use Rattle.thp_model.specs.Counts.{is_live, allocations}
+use Rattle.thp_model.specs.Counts.{is_live, is_split, allocations}
 use Rattle.thp_model.specs.Frames.{is_held, frames_held, frames_given}
 use Rattle.thp_model.specs.Legal.{IsLegal}
 use Rattle.thp_model.specs.Sets.{has, some_below}
 use Rattle.thp_model.specs.Shapes.{subpages, IsShape}
+use Rattle.thp_model.specs.Underused.{shrinks_underused}
 
 -- the event gave back the frame of subpage i of page p
 abbrev pub gives_frame : ℕ → ℕ → What → Bool
-gives_frame p i (UnmapWhole q outcome released) = nat_eq p q && has released i
-gives_frame p i (UnmapSub q first count outcome released) = nat_eq p q && has released i
-gives_frame p i (Unpin q outcome released) = nat_eq p q && has released i
+gives_frame p i (UnmapWhole outcome q released) = nat_eq p q && has released i
+gives_frame p i (UnmapSub outcome q first count released) = nat_eq p q && has released i
+gives_frame p i (Unpin outcome q released) = nat_eq p q && has released i
 gives_frame p i (Split q released) = nat_eq p q && has released i
 gives_frame p i _ = false
 
@@ -29,6 +30,9 @@ EachFrameOnce =
 abbrev pub FramesAreKept : Type 0
 FramesAreKept = (s : Shape) (h : History) → IsShape s → IsLegal s h → subpages s * allocations h ≡ frames_held s h + frames_given h
 
--- a page holds a frame exactly while it lives: so a block of no live page is one none of whose frames is held
+-- a page holds a frame exactly while it lives, but for a split page where the switch is on, whose mappings may all be of the
+-- shared zero page: so while the switch is off a block of no live page is one none of whose frames is held
 abbrev pub LivePagesHoldFrames : Type 0
-LivePagesHoldFrames = (s : Shape) (h : History) (p : ℕ) → IsLegal s h → some_below (subpages s) (is_held s h p) ≡ is_live h p
+LivePagesHoldFrames =
+    (s : Shape) (h : History) (p : ℕ) → IsLegal s h → (shrinks_underused s && is_split h p) ≡ false →
+    some_below (subpages s) (is_held s h p) ≡ is_live h p

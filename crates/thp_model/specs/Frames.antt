@@ -1,6 +1,6 @@
 -- Which frames a page holds, which an event gives back, and the outcome of an unmap or an unpin.
 -- (mm/transhuge.rst, "Partial unmap and deferred_split_huge_page()"; the record of frames is this project's profile)
-use Rattle.std.specs.Prelude.{ℕ, zero, suc, ◌+◌, Bool, false, not, ◌&&◌, ◌||◌, nat_eq, nat_lt, cond, if◌then◌else◌, List, IsTrue, Option, Some, None}
+use Rattle.std.specs.Prelude.{ℕ, Bool, false, not, ◌&&◌, ◌||◌, nat_eq, nat_lt, if◌then◌else◌, List, IsTrue, Option, Some, None}
 use Rattle.std.specs.List.{filter_map, sum_by}
 use Rattle.thp_model.specs.declared.events.Event.{Event}
 use Rattle.thp_model.specs.declared.events.Outcome.{Outcome}
@@ -8,15 +8,22 @@ use Rattle.thp_model.specs.declared.events.Outcome.TheVariants.{Freed, Queued, S
 use Rattle.thp_model.specs.declared.events.What.{What}
 use Rattle.thp_model.specs.declared.events.What.TheVariants.{Alloc, UnmapWhole, UnmapSub, Unpin, Split}
 use Rattle.thp_model.specs.declared.shape.Shape.{Shape}
-use Rattle.thp_model.specs.Sets.{set_of, set_size, some_below}
+use Rattle.thp_model.specs.Sets.{set_of, set_size, sum_below, count_below}
 use Rattle.thp_model.specs.Shapes.{subpages}
 use Rattle.thp_model.specs.History.{History, some_event}
-use Rattle.thp_model.specs.Counts.{total, pins, is_live, is_split, is_closed, is_used, allocations}
+use Rattle.thp_model.specs.Counts.{pins, is_live, is_split, is_closed, is_used, is_mapped, loses_use, allocations}
+use Rattle.thp_model.specs.Underused.{shrinks_underused, is_zero_filled}
 use Rattle.thp_model.specs.Places.{stands}
 
--- page p holds the frame of its subpage i: all frames until it is split, those of its subpages in use from then on
+-- a split of page p leaves subpage i its frame: the subpage is in use, and isn't zero-filled where the switch is on (then
+-- its mappings become ones of the shared zero page)
+abbrev pub keeps_frame : Shape → History → ℕ → ℕ → Bool
+keeps_frame s h p i = is_used h p i && not (shrinks_underused s && is_zero_filled h p i)
+
+-- page p holds the frame of its subpage i: all frames until it is split, those that the split left from then on, each
+-- while its subpage is in use
 abbrev pub is_held : Shape → History → ℕ → ℕ → Bool
-is_held s h p i = nat_lt i (subpages s) && (is_live h p && (not (is_split h p) || is_used h p i))
+is_held s h p i = nat_lt i (subpages s) && (is_live h p && (not (is_split h p) || keeps_frame s h p i))
 
 abbrev pub IsHeld : Shape → History → ℕ → ℕ → Type 0
 IsHeld s h p i = IsTrue (is_held s h p i)
@@ -24,14 +31,6 @@ IsHeld s h p i = IsTrue (is_held s h p i)
 -- the frames of page p that are held before and not after
 abbrev pub released : Shape → History → History → ℕ → List Bool
 released s before after p = set_of (λ i. is_held s before p i && not (is_held s after p i))
-
--- some subpage of page p is mapped
-abbrev pub is_mapped : Shape → History → ℕ → Bool
-is_mapped s h p = some_below (subpages s) (λ i. nat_lt 0 (total h p i))
-
--- some subpage of page p was mapped before and isn't after
-abbrev pub loses_use : Shape → History → History → ℕ → Bool
-loses_use s before after p = some_below (subpages s) (λ i. nat_lt 0 (total before p i) && nat_eq (total after p i) 0)
 
 -- the outcome for page p of an unmap or an unpin: freed where no mapping and no pin is left; queued where a subpage of
 -- a page that isn't split went out of use, another is in use, the node is open and the page stands nowhere yet
@@ -42,7 +41,7 @@ outcome s before after p =
     else
     if not (is_split before p)
     && (loses_use s before after p
-    && (is_mapped s after p && (not (is_closed before) && not (stands before p))))
+    && (is_mapped s after p && (not (is_closed before) && not (stands s before p))))
     then Queued
     else Stays
 
@@ -64,9 +63,9 @@ block_in_use h b = some_event (places_live h b) h
 abbrev pub gives_back : Event → Option (ℕ × List Bool)
 gives_back e = by_kind e.what where
   by_kind : What → Option (ℕ × List Bool)
-  by_kind (UnmapWhole p outcome set) = Some (p, set)
-  by_kind (UnmapSub p first count outcome set) = Some (p, set)
-  by_kind (Unpin p outcome set) = Some (p, set)
+  by_kind (UnmapWhole outcome p set) = Some (p, set)
+  by_kind (UnmapSub outcome p first count set) = Some (p, set)
+  by_kind (Unpin outcome p set) = Some (p, set)
   by_kind (Split p set) = Some (p, set)
   by_kind _ = None
 
@@ -77,15 +76,6 @@ given h = filter_map gives_back h
 -- how many frames were given back
 abbrev pub frames_given : History → ℕ
 frames_given h = sum_by (λ (g : ℕ × List Bool). set_size g.1) (given h)
-
--- the sum of f below n
-unfoldable pub sum_below : ℕ → (ℕ → ℕ) → ℕ
-sum_below zero f = 0
-sum_below (suc n) f = sum_below n f + f n
-
--- how many numbers below n pass a test
-abbrev pub count_below : ℕ → (ℕ → Bool) → ℕ
-count_below n test = sum_below n (λ i. cond (test i) 1 0)
 
 -- how many frames are held: the pairs of a page and a subpage
 abbrev pub frames_held : Shape → History → ℕ

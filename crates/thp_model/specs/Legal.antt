@@ -1,15 +1,16 @@
 -- Which events fit a history, and which histories are legal.
-use Rattle.std.specs.Prelude.{◌≡◌, ℕ, Bool, true, false, ◌||◌, ◌<◌, List, [], ◌∷◌, ◌++◌, Some, None, slice_get, take}
+use Rattle.std.specs.Prelude.{◌≡◌, ℕ, Bool, true, false, not, ◌||◌, ◌<◌, List, [], ◌∷◌, ◌++◌, Some, None, slice_get, take}
 use Rattle.thp_model.specs.declared.events.Event.{Event}
 use Rattle.thp_model.specs.declared.events.Outcome.{Outcome}
 use Rattle.thp_model.specs.declared.events.What.{What}
-use Rattle.thp_model.specs.declared.events.What.TheVariants.{Alloc, MapWhole, UnmapWhole, MapSub, UnmapSub, SplitPmd, Pin, Unpin, Taken, Split, Pinned, Back, Dropped, Close}
+use Rattle.thp_model.specs.declared.events.What.TheVariants.{Alloc, MapWhole, UnmapWhole, MapSub, UnmapSub, SplitPmd, Pin, Unpin, Write, Zero, Taken, Split, Pinned, Used, Back, Dropped, Close}
 use Rattle.thp_model.specs.declared.shape.Shape.{Shape}
 use Rattle.thp_model.specs.History.{History}
 use Rattle.thp_model.specs.Counts.{pins, is_closed, allocations}
 use Rattle.thp_model.specs.Places.{queue, flight, has_page, no_pages, is_taking}
 use Rattle.thp_model.specs.Frames.{released, outcome, block_in_use}
 use Rattle.thp_model.specs.Refusals.{refusal}
+use Rattle.thp_model.specs.Underused.{is_partly_mapped, is_worth_split}
 use Rattle.thp_model.specs.Refusals as call
 
 -- the call of an event of page p isn't refused at h, and the event tells its outcome and the set that it gives back;
@@ -26,31 +27,39 @@ pub record FitsAlloc (s : Shape) (h : History) (p b : ℕ) : Type 0 where
   pub free : block_in_use h b ≡ false
 
 -- a take is of the oldest page, by a caller with no page in flight or one that goes on taking
-pub record FitsTaken (h : History) (c p : ℕ) : Type 0 where
-  pub oldest : slice_get (queue h) 0 ≡ Some p
+pub record FitsTaken (s : Shape) (h : History) (c p : ℕ) : Type 0 where
+  pub oldest : slice_get (queue s h) 0 ≡ Some p
   pub may_take : (no_pages (flight h c) || is_taking h c) ≡ true
 
--- a split is of a page without pins in the caller's flight
+-- a split is of a page in the caller's flight that is worth it and has no pins
 pub record FitsSplit (s : Shape) (h k : History) (c p : ℕ) (set : List Bool) : Type 0 where
   pub in_flight : has_page p (flight h c) ≡ true
+  pub worth : is_worth_split s h p ≡ true
   pub unpinned : pins h p ≡ 0
   pub set_is : set ≡ released s h k p
+
+-- a page that leaves its batch joins the queue's tail where it was partly unmapped and the node is open; else it is dropped
+abbrev pub is_dropped : Shape → History → ℕ → Bool
+is_dropped s h p = is_closed h || not (is_partly_mapped s h p)
 
 -- what c does fits the history h, and makes of it the history k
 abbrev pub FitsBy : Shape → History → History → ℕ → What → Type 0
 FitsBy s h k c (Alloc p b) = FitsAlloc s h p b
 FitsBy s h k c (MapWhole p) = refusal s h (call.map_whole p) ≡ None
-FitsBy s h k c (UnmapWhole p o set) = (refusal s h (call.unmap_whole p) ≡ None) × Gives s h k p o set
+FitsBy s h k c (UnmapWhole o p set) = (refusal s h (call.unmap_whole p) ≡ None) × Gives s h k p o set
 FitsBy s h k c (MapSub p first count) = refusal s h (call.map_sub p first count) ≡ None
-FitsBy s h k c (UnmapSub p first count o set) = (refusal s h (call.unmap_sub p first count) ≡ None) × Gives s h k p o set
+FitsBy s h k c (UnmapSub o p first count set) = (refusal s h (call.unmap_sub p first count) ≡ None) × Gives s h k p o set
 FitsBy s h k c (SplitPmd p) = refusal s h (call.split_pmd p) ≡ None
 FitsBy s h k c (Pin p) = refusal s h (call.pin p) ≡ None
-FitsBy s h k c (Unpin p o set) = (refusal s h (call.unpin p) ≡ None) × Gives s h k p o set
-FitsBy s h k c (Taken p) = FitsTaken h c p
+FitsBy s h k c (Unpin o p set) = (refusal s h (call.unpin p) ≡ None) × Gives s h k p o set
+FitsBy s h k c (Write p first count) = refusal s h (call.write p first count) ≡ None
+FitsBy s h k c (Zero p first count) = refusal s h (call.zero_fill p first count) ≡ None
+FitsBy s h k c (Taken p) = FitsTaken s h c p
 FitsBy s h k c (Split p set) = FitsSplit s h k c p set
-FitsBy s h k c (Pinned p) = (has_page p (flight h c) ≡ true) × (0 < pins h p)
-FitsBy s h k c (Back p) = (slice_get (flight h c) 0 ≡ Some p) × (is_closed h ≡ false)
-FitsBy s h k c (Dropped p) = (slice_get (flight h c) 0 ≡ Some p) × (is_closed h ≡ true)
+FitsBy s h k c (Pinned p) = (has_page p (flight h c) ≡ true) × (0 < pins h p) × (is_worth_split s h p ≡ true)
+FitsBy s h k c (Used p) = (has_page p (flight h c) ≡ true) × (is_worth_split s h p ≡ false)
+FitsBy s h k c (Back p) = (slice_get (flight h c) 0 ≡ Some p) × (is_closed h ≡ false) × (is_partly_mapped s h p ≡ true)
+FitsBy s h k c (Dropped p) = (slice_get (flight h c) 0 ≡ Some p) × (is_dropped s h p ≡ true)
 FitsBy s h k c Close = refusal s h call.close ≡ None
 
 -- the event may follow the history

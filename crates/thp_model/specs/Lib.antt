@@ -3,6 +3,7 @@ pub mod Words
 pub mod Shapes
 pub mod History
 pub mod Counts
+pub mod Underused
 pub mod Places
 pub mod Frames
 pub mod Refusals
@@ -17,3 +18,4 @@ pub mod PlaceLaws
 pub mod FrameLaws
 pub mod BlockLaws
 pub mod RequestLaws
+pub mod UnderusedLaws

@@ -3,19 +3,24 @@ use Rattle.std.specs.Prelude.{◌≡◌, ◌<◌, ◌≤◌, ℕ, ◌+◌, ◌^�
 use Rattle.thp_model.specs.declared.refusal.Refusal.{Refusal}
 use Rattle.thp_model.specs.declared.refusal.Refusal.TheVariants as reason
 use Rattle.thp_model.specs.declared.shape.Shape.{Shape}
-use Rattle.thp_model.specs.Sets.{set_of, covers, some_below}
+use Rattle.thp_model.specs.Sets.{set_of, has, covers, some_below, count_below}
 use Rattle.thp_model.specs.Shapes.{subpages}
 use Rattle.thp_model.specs.History.{History, count_of}
 use Rattle.thp_model.specs.Counts.{maps, unmaps, maps_whole, unmaps_whole, pins_page, unpins_page, is_split}
-use Rattle.thp_model.specs.Refusals.{Call, map_whole, unmap_whole, map_sub, unmap_sub, split_pmd, pin, unpin, first_of, most}
+use Rattle.thp_model.specs.Underused.{shrinks_underused, is_zero_filled, is_partly_mapped, is_above}
+use Rattle.thp_model.specs.Refusals.{Call, map_whole, unmap_whole, map_sub, unmap_sub, split_pmd, pin, unpin, write, zero_fill, first_of, most}
 
--- a page's order, its entire map count, the own map counts of its subpages, its pins, and whether it is split
+-- a page's order, its entire map count, the own map counts of its subpages, its pins, and whether it is split; which of its
+-- subpages are zero-filled, whether it is partly mapped, and whether its split gave back the frames of the zero-filled ones
 pub record PageState : Type 0 where
   pub order : ℕ
   pub whole : ℕ
   pub own : List ℕ
   pub pins : ℕ
   pub split : Bool
+  pub zero : List Bool
+  pub partly : Bool
+  pub gave_zero : Bool
 
 -- how many subpages the page has
 unfoldable pub size : PageState → ℕ
@@ -36,9 +41,24 @@ has_use t = some_below (size t) (λ i. nat_lt 0 (total_at t i))
 abbrev pub used_set : PageState → List Bool
 used_set t = set_of (λ i. nat_lt i (size t) && nat_lt 0 (total_at t i))
 
--- the page, while it lives, holds the frame of subpage i
+-- subpage i is zero-filled
+abbrev pub zero_at : PageState → ℕ → Bool
+zero_at t i = has t.zero i
+
+-- the zero-filled subpages, and how many they are
+abbrev pub zero_set : PageState → List Bool
+zero_set t = set_of (λ i. nat_lt i (size t) && zero_at t i)
+
+abbrev pub zero_count : PageState → ℕ
+zero_count t = count_below (size t) (zero_at t)
+
+-- a split of the page is worth its while, where a page is underused above this threshold
+abbrev pub is_worth : Option ℕ → PageState → Bool
+is_worth threshold t = t.partly || is_above threshold (zero_count t)
+
+-- the page, while it lives, holds the frame of subpage i: each before its split, and after it those that the split left
 abbrev pub holds : PageState → ℕ → Bool
-holds t i = nat_lt i (size t) && (not t.split || nat_lt 0 (total_at t i))
+holds t i = nat_lt i (size t) && (not t.split || (nat_lt 0 (total_at t i) && not (t.gave_zero && zero_at t i)))
 
 -- some subpage in use before isn't after
 abbrev pub drops_use : PageState → PageState → Bool
@@ -67,6 +87,12 @@ is_bad_range t first count = (nat_eq count 0 || nat_lt (size t) (first + count),
 abbrev pub some_in_range : PageState → ℕ → ℕ → (ℕ → Bool) → Bool
 some_in_range t first count test = some_below (size t) (λ i. covers first count i && test i)
 
+-- what a write can be refused for, of data or of zeros
+abbrev pub page_write_reasons : PageState → ℕ → ℕ → List (Bool × Refusal)
+page_write_reasons t first count =
+    is_bad_range t first count ∷ is_split_page t ∷ (some_in_range t first count (λ i. nat_eq (total_at t i) 0), reason.NotMapped) ∷ []
+
+-- the first reason that holds
 unfoldable pub page_refusal : PageState → Call → Option Refusal
 page_refusal t (map_whole p) = first_of (is_split_page t ∷ (some_below (size t) (λ i. nat_eq (total_at t i) most), reason.TooMany) ∷ [])
 page_refusal t (unmap_whole p) = first_of (is_split_page t ∷ (nat_eq t.whole 0, reason.NotMapped) ∷ [])
@@ -81,23 +107,58 @@ page_refusal t (unmap_sub p first count) =
 page_refusal t (split_pmd p) = first_of (is_split_page t ∷ (nat_eq t.whole 0, reason.NotMapped) ∷ [])
 page_refusal t (pin p) = first_of (is_split_page t ∷ (nat_eq t.pins most, reason.TooMany) ∷ [])
 page_refusal t (unpin p) = first_of (is_split_page t ∷ (nat_eq t.pins 0, reason.NotPinned) ∷ [])
+page_refusal t (write p first count) = first_of (page_write_reasons t first count)
+page_refusal t (zero_fill p first count) = first_of (page_write_reasons t first count)
 page_refusal t _ = None
 
--- one more mapping of the whole page; the other way round one less
+-- what a call leaves that is about mappings or pins alone: the zero-filled subpages, and what was given back
+pub record KeepsZero (old new : PageState) : Type 0 where
+  pub zero : new.zero ≡ old.zero
+  pub gave_zero : new.gave_zero ≡ old.gave_zero
+
+-- one more mapping of the whole page
 pub record WholeMapped (old new : PageState) : Type 0 where
   pub order : new.order ≡ old.order
   pub whole : new.whole ≡ old.whole + 1
   pub own : (i : ℕ) → i < size old → own_at new i ≡ own_at old i
   pub pins : new.pins ≡ old.pins
   pub split : new.split ≡ old.split
+  pub partly : new.partly ≡ old.partly
+  pub kept : KeepsZero old new
 
--- one more mapping of each subpage of a range; the other way round one less
+-- the page is partly mapped after an unmap: it was before, or a subpage went out of use and another is in use
+abbrev pub partly_after : PageState → PageState → Bool
+partly_after old new = old.partly || (drops_use old new && has_use new)
+
+-- one mapping of the whole page less
+pub record WholeUnmapped (old new : PageState) : Type 0 where
+  pub order : new.order ≡ old.order
+  pub whole : old.whole ≡ new.whole + 1
+  pub own : (i : ℕ) → i < size old → own_at new i ≡ own_at old i
+  pub pins : new.pins ≡ old.pins
+  pub split : new.split ≡ old.split
+  pub partly : new.partly ≡ partly_after old new
+  pub kept : KeepsZero old new
+
+-- one more mapping of each subpage of a range
 pub record RangeMapped (first count : ℕ) (old new : PageState) : Type 0 where
   pub order : new.order ≡ old.order
   pub whole : new.whole ≡ old.whole
   pub own : (i : ℕ) → i < size old → own_at new i ≡ own_at old i + cond (covers first count i) 1 0
   pub pins : new.pins ≡ old.pins
   pub split : new.split ≡ old.split
+  pub partly : new.partly ≡ old.partly
+  pub kept : KeepsZero old new
+
+-- one mapping of each subpage of a range less
+pub record RangeUnmapped (first count : ℕ) (old new : PageState) : Type 0 where
+  pub order : new.order ≡ old.order
+  pub whole : new.whole ≡ old.whole
+  pub own : (i : ℕ) → i < size old → own_at old i ≡ own_at new i + cond (covers first count i) 1 0
+  pub pins : new.pins ≡ old.pins
+  pub split : new.split ≡ old.split
+  pub partly : new.partly ≡ partly_after old new
+  pub kept : KeepsZero old new
 
 -- one mapping of the whole page made into one of each subpage
 pub record PmdSplit (old new : PageState) : Type 0 where
@@ -106,6 +167,8 @@ pub record PmdSplit (old new : PageState) : Type 0 where
   pub own : (i : ℕ) → i < size old → own_at new i ≡ own_at old i + 1
   pub pins : new.pins ≡ old.pins
   pub split : new.split ≡ old.split
+  pub partly : new.partly ≡ old.partly
+  pub kept : KeepsZero old new
 
 -- one more pin; the other way round one less
 pub record Pinned (old new : PageState) : Type 0 where
@@ -114,22 +177,50 @@ pub record Pinned (old new : PageState) : Type 0 where
   pub own : (i : ℕ) → i < size old → own_at new i ≡ own_at old i
   pub pins : new.pins ≡ old.pins + 1
   pub split : new.split ≡ old.split
+  pub partly : new.partly ≡ old.partly
+  pub kept : KeepsZero old new
 
--- the page split into base pages: each subpage keeps its mappings as its own
-pub record PageSplit (old new : PageState) : Type 0 where
+-- what a call leaves that writes subpages: all but which of them are zero-filled
+pub record KeepsCounts (old new : PageState) : Type 0 where
+  pub order : new.order ≡ old.order
+  pub whole : new.whole ≡ old.whole
+  pub own : new.own ≡ old.own
+  pub pins : new.pins ≡ old.pins
+  pub split : new.split ≡ old.split
+  pub partly : new.partly ≡ old.partly
+  pub gave_zero : new.gave_zero ≡ old.gave_zero
+
+-- data written to each subpage of a range: none of them is zero-filled
+pub record RangeWritten (first count : ℕ) (old new : PageState) : Type 0 where
+  pub kept : KeepsCounts old new
+  pub zero : (i : ℕ) → i < size old → zero_at new i ≡ (zero_at old i && not (covers first count i))
+
+-- zeros written to each subpage of a range: each of them is zero-filled
+pub record RangeZeroed (first count : ℕ) (old new : PageState) : Type 0 where
+  pub kept : KeepsCounts old new
+  pub zero : (i : ℕ) → i < size old → zero_at new i ≡ (zero_at old i || covers first count i)
+
+-- the page split into base pages: each subpage keeps its mappings as its own; zero-filled ones keep their frames or don't
+pub record PageSplit (give_zero : Bool) (old new : PageState) : Type 0 where
   pub order : new.order ≡ old.order
   pub whole : new.whole ≡ 0
   pub own : (i : ℕ) → i < size old → own_at new i ≡ total_at old i
   pub pins : new.pins ≡ old.pins
   pub split : new.split ≡ true
+  pub zero : new.zero ≡ old.zero
+  pub partly : new.partly ≡ old.partly
+  pub gave_zero : new.gave_zero ≡ give_zero
 
--- a page just allocated: mapped whole once
+-- a page just allocated: mapped whole once, and all zero-filled
 pub record IsFresh (order : ℕ) (t : PageState) : Type 0 where
   pub order_is : t.order ≡ order
   pub whole : t.whole ≡ 1
   pub own : (i : ℕ) → own_at t i ≡ 0
   pub pins : t.pins ≡ 0
   pub split : t.split ≡ false
+  pub zero : (i : ℕ) → i < size t → zero_at t i ≡ true
+  pub partly : t.partly ≡ false
+  pub gave_zero : t.gave_zero ≡ false
 
 -- the page's state is what the history says of page p
 pub record Tallies (s : Shape) (h : History) (p : ℕ) (t : PageState) : Type 0 where
@@ -139,3 +230,6 @@ pub record Tallies (s : Shape) (h : History) (p : ℕ) (t : PageState) : Type 0 
   pub no_whole : is_split h p ≡ true → t.whole ≡ 0
   pub pins_of : count_of (pins_page p) h ≡ count_of (unpins_page p) h + t.pins
   pub split : t.split ≡ is_split h p
+  pub zero : (i : ℕ) → i < subpages s → zero_at t i ≡ is_zero_filled h p i
+  pub partly : t.partly ≡ is_partly_mapped s h p
+  pub gave_zero : t.split ≡ true → t.gave_zero ≡ shrinks_underused s

@@ -3,7 +3,7 @@ use Rattle.std.specs.Prelude.{◌≡◌, ℕ, ◌≤◌, Bool, true, false, not,
 use Rattle.std.specs.List.{filter, list_all}
 use Rattle.thp_model.specs.declared.events.Event.{Event}
 use Rattle.thp_model.specs.declared.events.What.{What}
-use Rattle.thp_model.specs.declared.events.What.TheVariants.{Alloc, MapWhole, UnmapWhole, MapSub, UnmapSub, SplitPmd, Pin, Unpin, Taken, Split, Pinned, Back, Dropped}
+use Rattle.thp_model.specs.declared.events.What.TheVariants.{Alloc, MapWhole, UnmapWhole, MapSub, UnmapSub, SplitPmd, Pin, Unpin, Write, Zero, Taken, Split, Pinned, Used, Back, Dropped}
 use Rattle.thp_model.specs.declared.shape.Shape.{Shape}
 use Rattle.thp_model.specs.History.{History, by, some_event}
 use Rattle.thp_model.specs.Counts.{allocates, is_live, is_split, is_closed, is_queued}
@@ -14,12 +14,12 @@ use Rattle.thp_model.specs.Runs.{still_flying}
 
 -- the queue and all flights joined repeat no page
 abbrev pub NoPageTwice : Type 0
-NoPageTwice = (s : Shape) (h : History) → IsLegal s h → (p : ℕ) → count_by (λ q. nat_eq q p) (standing h) ≤ 1
+NoPageTwice = (s : Shape) (h : History) → IsLegal s h → (p : ℕ) → count_by (λ q. nat_eq q p) (standing s h) ≤ 1
 
 -- each page there is live and not split
 abbrev pub StandingPagesAreWhole : Type 0
 StandingPagesAreWhole =
-    (s : Shape) (h : History) → IsLegal s h → (p : ℕ) → stands h p ≡ true → (is_live h p ≡ true) × (is_split h p ≡ false)
+    (s : Shape) (h : History) → IsLegal s h → (p : ℕ) → stands s h p ≡ true → (is_live h p ≡ true) × (is_split h p ≡ false)
 
 -- takes of these pages by caller c, one after another
 abbrev pub takes_of : ℕ → List ℕ → History
@@ -28,20 +28,23 @@ takes_of c ps = map (λ p. by c (Taken p)) ps
 -- a run of takes by one caller takes the first pages of the queue, in order
 abbrev pub OldestAreTaken : Type 0
 OldestAreTaken =
-    (s : Shape) (h : History) (c : ℕ) (ps : List ℕ) → IsLegal s (h ++ takes_of c ps) → ps ≡ take (length ps) (queue h)
+    (s : Shape) (h : History) (c : ℕ) (ps : List ℕ) → IsLegal s (h ++ takes_of c ps) → ps ≡ take (length ps) (queue s h)
 
 -- the event is about page p, and not its allocation
 abbrev pub acts_on : ℕ → What → Bool
 acts_on p (MapWhole q) = nat_eq p q
-acts_on p (UnmapWhole q outcome released) = nat_eq p q
+acts_on p (UnmapWhole outcome q released) = nat_eq p q
 acts_on p (MapSub q first count) = nat_eq p q
-acts_on p (UnmapSub q first count outcome released) = nat_eq p q
+acts_on p (UnmapSub outcome q first count released) = nat_eq p q
 acts_on p (SplitPmd q) = nat_eq p q
 acts_on p (Pin q) = nat_eq p q
-acts_on p (Unpin q outcome released) = nat_eq p q
+acts_on p (Unpin outcome q released) = nat_eq p q
+acts_on p (Write q first count) = nat_eq p q
+acts_on p (Zero q first count) = nat_eq p q
 acts_on p (Taken q) = nat_eq p q
 acts_on p (Split q released) = nat_eq p q
 acts_on p (Pinned q) = nat_eq p q
+acts_on p (Used q) = nat_eq p q
 acts_on p (Back q) = nat_eq p q
 acts_on p (Dropped q) = nat_eq p q
 acts_on p _ = false
@@ -61,9 +64,9 @@ PagesAreNewOnce =
 -- the event puts a page into the queue, or makes a page
 abbrev pub enters : What → Bool
 enters (Alloc p block) = true
-enters (UnmapWhole p outcome released) = is_queued outcome
-enters (UnmapSub p first count outcome released) = is_queued outcome
-enters (Unpin p outcome released) = is_queued outcome
+enters (UnmapWhole outcome p released) = is_queued outcome
+enters (UnmapSub outcome p first count released) = is_queued outcome
+enters (Unpin outcome p released) = is_queued outcome
 enters (Back p) = true
 enters _ = false
 
@@ -100,5 +103,5 @@ pub record FlightsGoByEvents : Type 0 where
 
 -- and so does the queue
 pub record QueueGoesByEvents : Type 0 where
-  pub starts : queue [] ≡ []
-  pub goes_on : (h : History) (e : Event) → queue (h ++ e ∷ []) ≡ queue_after (queue h) e.what
+  pub starts : (s : Shape) → queue s [] ≡ []
+  pub goes_on : (s : Shape) (h : History) (e : Event) → queue s (h ++ e ∷ []) ≡ queue_after s (queue s h) e.what

@@ -20,6 +20,8 @@ pub data Call : Type 0 where
   split_pmd : (page : ℕ) → Call
   pin : (page : ℕ) → Call
   unpin : (page : ℕ) → Call
+  write : (page first count : ℕ) → Call
+  zero_fill : (page first count : ℕ) → Call
   close : Call
   take : (caller : ℕ) → Call
   scan : (caller : ℕ) → Call
@@ -46,6 +48,15 @@ split_page h p = (is_split h p, reason.IsSplit)
 abbrev pub some_of : Shape → ℕ → ℕ → (ℕ → Bool) → Bool
 some_of s first count test = some_below (subpages s) (λ i. covers first count i && test i)
 
+-- what a write can be refused for, of data or of zeros
+abbrev pub write_reasons : Shape → History → ℕ → ℕ → ℕ → List (Bool × Refusal)
+write_reasons s h p first count =
+    no_page h p
+    ∷ bad_range s first count
+    ∷ split_page h p
+    ∷ (some_of s first count (λ i. nat_eq (total h p i) 0), reason.NotMapped)
+    ∷ []
+
 -- what each call can be refused for at a history, in the order of the tests
 unfoldable pub refusal : Shape → History → Call → Option Refusal
 refusal s h alloc_page = first_of ((is_closed h, reason.Closed) ∷ (each_below s.blocks (block_in_use h), reason.NoBlock) ∷ [])
@@ -68,6 +79,8 @@ refusal s h (unmap_sub p first count) =
 refusal s h (split_pmd p) = first_of (no_page h p ∷ split_page h p ∷ (nat_eq (whole h p) 0, reason.NotMapped) ∷ [])
 refusal s h (pin p) = first_of (no_page h p ∷ split_page h p ∷ (nat_eq (pins h p) most, reason.TooMany) ∷ [])
 refusal s h (unpin p) = first_of (no_page h p ∷ split_page h p ∷ (nat_eq (pins h p) 0, reason.NotPinned) ∷ [])
+refusal s h (write p first count) = first_of (write_reasons s h p first count)
+refusal s h (zero_fill p first count) = first_of (write_reasons s h p first count)
 refusal s h close = first_of ((is_closed h, reason.Closed) ∷ [])
 refusal s h (take c) = first_of ((not (no_pages (flight h c)), reason.HasBatch) ∷ [])
 refusal s h (scan c) = first_of ((not (no_pages (flight h c)), reason.HasBatch) ∷ [])

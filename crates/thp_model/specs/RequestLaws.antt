@@ -3,7 +3,7 @@ use Rattle.std.specs.Prelude.{◌≡◌, ℕ, [], ◌∷◌, ◌++◌, map}
 use Rattle.thp_model.specs.declared.events.Event.{Event}
 use Rattle.thp_model.specs.declared.events.Outcome.TheVariants.{Stays}
 use Rattle.thp_model.specs.declared.events.What.{What}
-use Rattle.thp_model.specs.declared.events.What.TheVariants.{Alloc, UnmapWhole, UnmapSub, Unpin, Taken, Split, Pinned, Back, Dropped}
+use Rattle.thp_model.specs.declared.events.What.TheVariants.{Alloc, UnmapWhole, UnmapSub, Unpin, Taken, Split, Pinned, Used, Back, Dropped}
 use Rattle.thp_model.specs.declared.shape.Shape.{Shape}
 use Rattle.thp_model.specs.History.{History, by}
 use Rattle.thp_model.specs.Legal.{IsLegal, FitsBy}
@@ -13,11 +13,12 @@ use Rattle.thp_model.specs.BlockLaws.{SameButBlocks, with_block}
 -- than its page
 abbrev pub asked : What → What
 asked (Alloc p block) = Alloc 0 0
-asked (UnmapWhole p outcome released) = UnmapWhole p Stays []
-asked (UnmapSub p first count outcome released) = UnmapSub p first count Stays []
-asked (Unpin p outcome released) = Unpin p Stays []
+asked (UnmapWhole outcome p released) = UnmapWhole Stays p []
+asked (UnmapSub outcome p first count released) = UnmapSub Stays p first count []
+asked (Unpin outcome p released) = Unpin Stays p []
 asked (Taken p) = Taken 0
 asked (Split p released) = Pinned p
+asked (Used p) = Pinned p
 asked (Back p) = Back 0
 asked (Dropped p) = Back 0
 asked w = w

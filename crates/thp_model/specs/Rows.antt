@@ -1,21 +1,25 @@
 -- Worked histories, event by event, with what they come to.
-use Rattle.std.specs.Prelude.{◌≡◌, ℕ, ◌++◌, Bool, false, List, [], ◌∷◌, length}
-use Rattle.thp_model.specs.declared.events.Outcome.TheVariants.{Queued, Stays}
-use Rattle.thp_model.specs.declared.events.What.TheVariants.{Alloc, UnmapSub, SplitPmd, Pin, Unpin, Taken, Split, Pinned, Back}
+use Rattle.std.specs.Prelude.{◌≡◌, ℕ, Some, None, ◌++◌, Bool, false, ◌||◌, nat_eq, List, [], ◌∷◌, length}
+use Rattle.thp_model.specs.declared.events.Outcome.TheVariants.{Queued, Stays, Freed}
+use Rattle.thp_model.specs.declared.events.What.TheVariants.{Alloc, UnmapSub, SplitPmd, Pin, Unpin, Write, Taken, Split, Pinned, Used, Back, Dropped}
 use Rattle.thp_model.specs.declared.shape.Shape.{Shape}
 use Rattle.thp_model.specs.Sets.{set_of, covers}
 use Rattle.thp_model.specs.History.{History, by}
 use Rattle.thp_model.specs.Counts.{allocations}
 use Rattle.thp_model.specs.Places.{queue}
 use Rattle.thp_model.specs.Frames.{frames_held, frames_given}
-use Rattle.thp_model.specs.Counters.{thp_split_page, thp_split_page_failed, thp_deferred_split_page, thp_split_pmd}
+use Rattle.thp_model.specs.Counters.{thp_split_page, thp_split_page_failed, thp_deferred_split_page, thp_split_pmd, thp_underused_split_page}
 
 -- a node of 16 blocks whose pages have 512 subpages, and one whose pages have 4
 abbrev pub large_pages : Shape
-large_pages = record { blocks = 16; order = 9 }
+large_pages = record { blocks = 16; order = 9; underused = None }
 
 abbrev pub small_pages : Shape
-small_pages = record { blocks = 16; order = 2 }
+small_pages = record { blocks = 16; order = 2; underused = None }
+
+-- one of 4 blocks whose pages have 4 subpages and are underused where more than one of them is zero-filled
+abbrev pub few_used : Shape
+few_used = record { blocks = 4; order = 2; underused = Some 1 }
 
 -- the `count` subpages from `first` on, and none
 abbrev pub subpages_of : ℕ → ℕ → List Bool
@@ -26,18 +30,19 @@ nothing = set_of (λ i. false)
 
 -- page p is allocated in block p, its PMD mapping is split, and its first subpages are unmapped, which queues it
 abbrev pub queue_page : ℕ → ℕ → History
-queue_page p count = by 0 (Alloc p p) ∷ by 0 (SplitPmd p) ∷ by 0 (UnmapSub p 0 count Queued nothing) ∷ []
+queue_page p count = by 0 (Alloc p p) ∷ by 0 (SplitPmd p) ∷ by 0 (UnmapSub Queued p 0 count nothing) ∷ []
 
 -- what a history comes to
-pub record HasTotals (s : Shape) (h : History) (pages queued held given split failed deferred pmds : ℕ) : Type 0 where
+pub record HasTotals (s : Shape) (h : History) (pages queued held given split failed deferred pmds underused : ℕ) : Type 0 where
   pub pages_are : allocations h ≡ pages
-  pub queue_is : length (queue h) ≡ queued
+  pub queue_is : length (queue s h) ≡ queued
   pub held_are : frames_held s h ≡ held
   pub given_are : frames_given h ≡ given
   pub split_are : thp_split_page h ≡ split
   pub failed_are : thp_split_page_failed h ≡ failed
   pub deferred_are : thp_deferred_split_page h ≡ deferred
   pub pmds_are : thp_split_pmd h ≡ pmds
+  pub underused_are : thp_underused_split_page s h ≡ underused
 
 -- half of a page is unmapped, and a scan splits the page
 abbrev pub first_run : History
@@ -49,9 +54,24 @@ pinned_goes_to_the_tail =
     queue_page 0 1 ++ queue_page 1 1 ++ queue_page 2 1 ++ by 0 (Pin 1)
     ∷ by 0 (Taken 0) ∷ by 0 (Taken 1) ∷ by 0 (Taken 2)
     ∷ by 0 (Split 0 (subpages_of 0 1)) ∷ by 0 (Pinned 1) ∷ by 0 (Split 2 (subpages_of 0 1)) ∷ by 0 (Back 1)
-    ∷ by 0 (Unpin 1 Stays nothing)
+    ∷ by 0 (Unpin Stays 1 nothing)
     ∷ by 0 (Taken 1) ∷ by 0 (Split 1 (subpages_of 0 1)) ∷ []
 
 -- three of the four subpages of a small page are unmapped, and a scan splits the page
 abbrev pub small_page_split : History
 small_page_split = queue_page 0 3 ++ by 0 (Taken 0) ∷ by 0 (Split 0 (subpages_of 0 3)) ∷ []
+
+-- a scan finds a page with one zero-filled subpage in use; partly unmapped, the page is split, and its zero-filled subpage gives
+-- its frame back too: the later unmap of that subpage gives nothing back, and the last unmap the two frames that are left
+abbrev pub underused_scan : History
+underused_scan =
+    by 0 (Alloc 0 0) ∷ by 0 (Write 0 0 3) ∷ by 0 (Taken 0) ∷ by 0 (Used 0)
+    ∷ by 0 (SplitPmd 0) ∷ by 0 (UnmapSub Queued 0 0 1 nothing)
+    ∷ by 0 (Taken 0) ∷ by 0 (Split 0 (set_of (λ i. nat_eq i 0 || nat_eq i 3)))
+    ∷ by 0 (UnmapSub Stays 0 3 1 nothing) ∷ by 0 (UnmapSub Freed 0 1 2 (subpages_of 1 2)) ∷ []
+
+-- of two underused pages the second is pinned: a scan splits the first, and drops the second, which isn't partly mapped
+abbrev pub underused_pinned : History
+underused_pinned =
+    by 0 (Alloc 0 0) ∷ by 0 (Alloc 1 1) ∷ by 0 (Write 0 0 2) ∷ by 0 (Pin 1)
+    ∷ by 0 (Taken 0) ∷ by 0 (Taken 1) ∷ by 0 (Split 0 (subpages_of 2 2)) ∷ by 0 (Pinned 1) ∷ by 0 (Dropped 1) ∷ []

@@ -3,25 +3,30 @@
 use Rattle.std.specs.Prelude.{ℕ, not, ◌&&◌, nat_eq, nat_lt, if◌then◌else◌, Bool, List, [], ◌∷◌, ◌++◌, map, take, Option, Some, None}
 use Rattle.std.specs.List.{filter, find, after_first}
 use Rattle.thp_model.specs.declared.events.Event.{Event}
-use Rattle.thp_model.specs.declared.events.What.TheVariants.{Taken, Split, Pinned, Back, Dropped}
+use Rattle.thp_model.specs.declared.events.What.TheVariants.{Taken, Split, Pinned, Used, Back, Dropped}
 use Rattle.thp_model.specs.declared.shape.Shape.{Shape}
 use Rattle.thp_model.specs.Sets.{set_of}
 use Rattle.thp_model.specs.Shapes.{subpages}
 use Rattle.thp_model.specs.History.{History, by}
-use Rattle.thp_model.specs.Counts.{pins, is_closed, is_used}
+use Rattle.thp_model.specs.Counts.{pins}
+use Rattle.thp_model.specs.Frames.{keeps_frame}
+use Rattle.thp_model.specs.Legal.{is_dropped}
 use Rattle.thp_model.specs.Places.{queue, flight, has_page}
+use Rattle.thp_model.specs.Underused.{is_worth_split}
 
 -- a take of n by caller c: the n oldest queued pages in order, or all where there are fewer
-abbrev pub take_events : History → ℕ → ℕ → List Event
-take_events h c n = map (λ p. by c (Taken p)) (take n (queue h))
+abbrev pub take_events : Shape → History → ℕ → ℕ → List Event
+take_events s h c n = map (λ p. by c (Taken p)) (take n (queue s h))
 
--- the subpages of page p that no entry maps: what its split gives back
+-- the subpages of page p that its split leaves no frame: those that no entry maps, and, where the switch is on, the
+-- zero-filled ones
 abbrev pub unused : Shape → History → ℕ → List Bool
-unused s h p = set_of (λ i. nat_lt i (subpages s) && not (is_used h p i))
+unused s h p = set_of (λ i. nat_lt i (subpages s) && not (keeps_frame s h p i))
 
--- a try of page p: it is split, or found pinned
+-- a try of page p: it is found in use where it isn't worth a split, else split, or found pinned
 abbrev pub try_event : Shape → History → ℕ → ℕ → Event
-try_event s h c p = by c (if nat_eq (pins h p) 0 then Split p (unused s h p) else Pinned p)
+try_event s h c p =
+    by c (if is_worth_split s h p then if nat_eq (pins h p) 0 then Split p (unused s h p) else Pinned p else Used p)
 
 -- the pages of a batch that are still in the flight of its caller
 abbrev pub still_flying : History → ℕ → List ℕ → List ℕ
@@ -43,18 +48,23 @@ tries_of s h c (Some p) = try_event s h c p ∷ []
 abbrev pub split_next_events : Shape → History → ℕ → List ℕ → List Event
 split_next_events s h c rest = tries_of s h c (next_page h c rest)
 
--- page p leaves its batch: back to the tail of the queue, or nowhere where the node is closed
-abbrev pub return_event : History → ℕ → ℕ → Event
-return_event h c p = by c (if is_closed h then Dropped p else Back p)
+-- page p goes back to the queue when it leaves its batch
+abbrev pub goes_back : Shape → History → ℕ → Bool
+goes_back s h p = not (is_dropped s h p)
+
+-- page p leaves its batch: back to the tail of the queue, or nowhere
+abbrev pub return_event : Shape → History → ℕ → ℕ → Event
+return_event s h c p = by c (if is_dropped s h p then Dropped p else Back p)
 
 -- a put-back of a batch: each page of it that is still in flight, in the batch's order
-abbrev pub put_back_events : History → ℕ → List ℕ → List Event
-put_back_events h c ps = map (return_event h c) (still_flying h c ps)
+abbrev pub put_back_events : Shape → History → ℕ → List ℕ → List Event
+put_back_events s h c ps = map (return_event s h c) (still_flying h c ps)
 
-abbrev pub is_pinned : History → ℕ → Bool
-is_pinned h p = nat_lt 0 (pins h p)
+-- a try of page p finds it pinned
+abbrev pub is_pinned : Shape → History → ℕ → Bool
+is_pinned s h p = is_worth_split s h p && nat_lt 0 (pins h p)
 
 -- a scan of n by caller c: the take, a try of each page taken, and the return of those that were pinned
 abbrev pub scan_events : Shape → History → ℕ → ℕ → List Event
 scan_events s h c n =
-    take_events h c n ++ map (try_event s h c) (take n (queue h)) ++ map (return_event h c) (filter (is_pinned h) (take n (queue h)))
+    take_events s h c n ++ map (try_event s h c) (take n (queue s h)) ++ map (return_event s h c) (filter (is_pinned s h) (take n (queue s h)))

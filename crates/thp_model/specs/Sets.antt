@@ -1,5 +1,5 @@
 -- Sets of subpages, as lists of 512 truth values: subpage i is in the set where the i-th is true.
-use Rattle.std.specs.Prelude.{ℕ, Bool, false, ◌&&◌, ◌+◌, nat_le, nat_lt, List, map, slice_index_or}
+use Rattle.std.specs.Prelude.{ℕ, zero, suc, Bool, false, ◌&&◌, ◌+◌, nat_le, nat_lt, cond, List, map, slice_index_or}
 use Rattle.std.specs.List.{range_with_len, count_by, list_any, list_all}
 use Rattle.std.specs.Cmp.{IsEquivalence, IsPartialEquivalence, bool_eq_equiv, partial_equiv_from_equiv}
 use Rattle.std.specs.Cmp.Lexicographic.{pointwise}
@@ -29,6 +29,15 @@ some_below n test = list_any test (range_with_len 0 n)
 -- each number below n passes the test
 unfoldable pub each_below : ℕ → (ℕ → Bool) → Bool
 each_below n test = list_all test (range_with_len 0 n)
+
+-- the sum of f below n
+unfoldable pub sum_below : ℕ → (ℕ → ℕ) → ℕ
+sum_below zero f = 0
+sum_below (suc n) f = sum_below n f + f n
+
+-- how many numbers below n pass a test
+abbrev pub count_below : ℕ → (ℕ → Bool) → ℕ
+count_below n test = sum_below n (λ i. cond (test i) 1 0)
 
 -- two sets have the same numbers, truth for truth
 abbrev pub same_set : List Bool → List Bool → Bool

@@ -1,14 +1,16 @@
 -- The size of a node.
-use Rattle.std.specs.Prelude.{ℕ, ◌^◌, ◌≤◌}
+use Rattle.std.specs.Prelude.{◌≡◌, ℕ, ◌^◌, ◌≤◌, ◌<◌, Some}
 use Rattle.thp_model.specs.declared.shape.Shape.{Shape}
 
 -- how many subpages a page of the node has, and how many frames a block
 unfoldable pub subpages : Shape → ℕ
 subpages s = 2 ^ s.order
 
--- a node can have this shape (this project's profile: 1 to 4,096 blocks, orders 2 to 9)
+-- a node can have this shape (this project's profile: 1 to 4,096 blocks, orders 2 to 9, a threshold below the number of
+-- subpages)
 pub record IsShape (s : Shape) : Type 0 where
   pub some_blocks : 1 ≤ s.blocks
   pub few_blocks : s.blocks ≤ 4096
   pub least_order : 2 ≤ s.order
   pub most_order : s.order ≤ 9
+  pub low_threshold : (t : ℕ) → s.underused ≡ Some t → t < subpages s

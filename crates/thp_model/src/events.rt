@@ -29,7 +29,8 @@ pub enum Outcome {
 
 /// What happened to a page, or to the node.
 ///
-/// `first` and `count` name a range of subpages; `released` is the set of subpages whose frames the event gave back.
+/// `first` and `count` name a range of subpages; `released` is the set of subpages whose frames the event gave back. The
+/// outcome stands first, where it lies beside the tag: so an event takes a word less.
 #[derive(Clone, Copy, PartialEq, Eq, Debug)]
 pub enum What {
     /// A new page, mapped whole once, in a block of frames.
@@ -43,8 +44,8 @@ pub enum What {
     },
     /// One mapping of the whole page less.
     UnmapWhole {
-        page: PageId,
         outcome: Outcome,
+        page: PageId,
         released: SubSet,
     },
     /// One more mapping of each subpage of a range, by PTE entries.
@@ -55,10 +56,10 @@ pub enum What {
     },
     /// One mapping of each subpage of a range less.
     UnmapSub {
+        outcome: Outcome,
         page: PageId,
         first: u32,
         count: u32,
-        outcome: Outcome,
         released: SubSet,
     },
     /// A mapping of the whole page became one of each subpage.
@@ -71,9 +72,21 @@ pub enum What {
     },
     /// One pin less.
     Unpin {
-        page: PageId,
         outcome: Outcome,
+        page: PageId,
         released: SubSet,
+    },
+    /// Data was written to each subpage of a range.
+    Write {
+        page: PageId,
+        first: u32,
+        count: u32,
+    },
+    /// Zeros were written to each subpage of a range.
+    Zero {
+        page: PageId,
+        first: u32,
+        count: u32,
     },
     /// The shrinker took the page from the queue into the caller's batch.
     Taken {
@@ -88,11 +101,15 @@ pub enum What {
     Pinned {
         page: PageId,
     },
+    /// The page wasn't worth a split, being neither partly mapped nor underused, and left its batch.
+    Used {
+        page: PageId,
+    },
     /// The page went from its batch back to the queue's tail.
     Back {
         page: PageId,
     },
-    /// The page left its batch and stands nowhere, since the node is closed.
+    /// The page left its batch and stands nowhere, since the node is closed or the page isn't partly mapped.
     Dropped {
         page: PageId,
     },

@@ -3,6 +3,7 @@ ghost use Rattle.thp_model.specs.BlockLaws.{LivePagesAreApart, LeastBlocksChange
 ghost use Rattle.thp_model.specs.FrameLaws.{EachFrameOnce, FramesAreKept, LivePagesHoldFrames};
 ghost use Rattle.thp_model.specs.PlaceLaws.{NoPageTwice, StandingPagesAreWhole, OldestAreTaken, FreedPagesAreLeftAlone, PagesAreNewOnce, NothingEntersAfterClose, OthersOnlyFree, FrontsStayInFront, BatchStaysInFront, FlightsGoByEvents, QueueGoesByEvents};
 ghost use Rattle.thp_model.specs.RequestLaws.{AnswersAreOne, RequestsDecide};
+ghost use Rattle.thp_model.specs.UnderusedLaws.{StandingPagesArePartlyMapped, NoPageIsFoundUsed, NoPageIsSplitAsUnderused};
 
 /// The queue and all flights joined repeat no page, and each page there is live and not split.
 pub fn no_page_stands_twice()
@@ -28,7 +29,8 @@ pub fn nothing_enters_after_close()
 {}
 
 /// Each frame of each allocated page is held and was never given back, or isn't held and was given back once; in sum,
-/// the frames of the pages allocated are those held and those given back. A live page holds a frame, another none.
+/// the frames of the pages allocated are those held and those given back. A live page holds a frame, but where the switch
+/// is on a split page may hold none; a page that isn't live holds none.
 pub fn each_frame_once()
     ensures each { EachFrameOnce }
     ensures sum { FramesAreKept }
@@ -67,4 +69,12 @@ pub fn least_blocks_are_legal()
 pub fn requests_decide()
     ensures answer { AnswersAreOne }
     ensures history { RequestsDecide }
+{}
+
+/// While the switch is off each page of the queue and of a flight is partly mapped: no page is found in use, and none is
+/// split as underused.
+pub fn none_is_underused_while_off()
+    ensures partly { StandingPagesArePartlyMapped }
+    ensures used { NoPageIsFoundUsed }
+    ensures split { NoPageIsSplitAsUnderused }
 {}

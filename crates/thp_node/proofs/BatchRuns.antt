@@ -1,5 +1,5 @@
 -- Takes and tries of a batch, over plain lists and histories.
-use Rattle.std.proofs.Common.{◌≡◌, ◌≢◌, ℕ, min, suc, ◌+◌, ◌<◌, ◌≤◌, Bool, true, false, cond, not, List, [], ◌∷◌, ◌++◌, Option, Some, None, length, take, drop, refl, ap, ap₂, sym, ◌∙◌, subst, arith, nat_eq, eq-eqb, ne_eqb}
+use Rattle.std.proofs.Common.{◌≡◌, ◌≢◌, ℕ, min, suc, ◌+◌, ◌<◌, ◌≤◌, Bool, true, false, cond, not, List, [], ◌∷◌, ◌++◌, Option, Some, None, length, take, drop, refl, ap, ap₂, sym, ◌∙◌, subst, arith, nat_eq, eq-eqb, ne_eqb, if◌then◌else◌}
 use Rattle.std.proofs.lemmas.List.{length-map, length-take, length-drop}
 use Rattle.std.specs.Prelude.{slice_get}
 use Rattle.std.specs.List.{position_or_len}
@@ -9,67 +9,67 @@ use Rattle.thp_model.specs.declared.refusal.Refusal.TheVariants as reason
 use Rattle.thp_model.specs.declared.shape.Shape.{Shape}
 use Rattle.thp_model.specs.History.{History, by}
 use Rattle.thp_model.specs.Legal.{IsLegal, Fits}
-use Rattle.thp_model.specs.Counts.{is_live, pins, whole}
-use Rattle.thp_model.specs.Pages.{PageState, PageSplit, gives_frames}
+use Rattle.thp_model.specs.Counts.{pins, whole}
+use Rattle.thp_model.specs.Pages.{PageState, PageSplit, gives_frames, is_worth}
+use Rattle.thp_model.specs.Underused.{is_worth_split, is_partly_mapped, shrinks_underused}
 use Rattle.thp_model.specs.Places.{queue, flight, no_pages, is_taking, has_page}
 use Rattle.thp_model.specs.Refusals.{refusal}
 use Rattle.thp_model.specs.Refusals as call
 use Rattle.thp_model.specs.Runs.{take_events, next_page, rest_after, tries_of, try_event}
-use Rattle.thp_model.proofs.Bools.{by_bool, or_first, or_second}
-use Rattle.thp_model.proofs.OnePlace.{flies_live}
-use Rattle.thp_model.proofs.Tallying.{pins_is, whole_is}
+use Rattle.thp_model.proofs.Bools.{or_first, or_second}
+use Rattle.thp_model.proofs.Tallying.{pins_is, whole_is, worth_is}
 use Rattle.thp_model.proofs.Pushes.{queue_push, is_taking_push}
 use Rattle.thp_model.proofs.TakeRuns.{more_taken, take_events_more}
 use Rattle.thp_node.specs.declared.answers.Tried.{Tried}
 use Rattle.thp_node.specs.declared.answers.Tried.TheVariants as answer
 use Rattle.thp_node.specs.Batches.{tried}
-use Rattle.thp_node.specs.BlocksState.{BlocksState, AtSlot, Edits}
+use Rattle.thp_places.specs.PlacesState.{PlacesState, AtSlot, Edits}
 use Rattle.thp_node.specs.Calls.{Did}
-use Rattle.thp_node.specs.Flying.{IsFlyingAt, IsUnpinnedAt}
-use Rattle.thp_node.specs.Holding.{IsNode, IsSlot}
-use Rattle.thp_node.specs.Homes.{block_of}
+use Rattle.thp_places.specs.Flying.{IsFlyingAt, IsUnpinnedAt}
+use Rattle.thp_places.specs.Holding.{IsNode, IsSlot}
+use Rattle.thp_places.specs.Homes.{block_of}
 use Rattle.thp_node.specs.NodeState.{NodeState}
 use Rattle.thp_node.specs.Takings.{Took}
 use Rattle.thp_page.specs.declared.standing.Standing.{Standing}
 use Rattle.thp_page.specs.declared.standing.Standing.TheVariants.{Nowhere, Queued, Batch}
-use Rattle.thp_page.specs.Slots.{slot_at, IsHeld}
+use Rattle.thp_page.specs.Slots.{slot_at}
 use Rattle.thp_page.specs.Table.{Slot, Table}
 use Rattle.thp_node.proofs.CallLemmas.{did_none, did_then}
-use Rattle.thp_node.proofs.Admitting.{Found, not_live}
-use Rattle.thp_node.proofs.Homing.{Homed, legal_homed}
-use Rattle.thp_node.proofs.ListEvents.{flying_whole, split_fits, split_node, pinned_fits, pinned_node}
-use Rattle.thp_node.proofs.PageEvents.{slot_is}
-use Rattle.thp_node.proofs.Standings.{standing_flying, batch_has}
+use Rattle.thp_places.proofs.Admitting.{Found}
+use Rattle.thp_places.proofs.Homing.{Homed, legal_homed}
+use Rattle.thp_places.proofs.ListEvents.{flying_whole, split_fits, split_node, pinned_fits, pinned_node, used_fits, used_node}
+use Rattle.thp_places.proofs.PageEvents.{slot_is}
+use Rattle.thp_places.proofs.Standings.{batch_has}
 
 -- the node once its journal has recorded an event
-pub node_recorded : (s t : Shape) (k h : History) (e : Event) (b : BlocksState) → s ≡ t → k ≡ h ++ e ∷ [] → IsNode t (h ++ e ∷ []) b.table b.queue → IsNode s k b.table b.queue
+pub node_recorded : (s t : Shape) (k h : History) (e : Event) (b : PlacesState) → s ≡ t → k ≡ h ++ e ∷ [] → IsNode t (h ++ e ∷ []) b.table b.queue → IsNode s k b.table b.queue
 node_recorded s t k h e b same is m =
     subst (λ x. IsNode s x b.table b.queue) (sym is) (subst (λ x. IsNode x (h ++ e ∷ []) b.table b.queue) (sym same) m)
 
 -- as many pages stand in the queue as blocks
-pub queue_length : (s : Shape) (h : History) (t : Table) (q : List ℕ) → IsNode s h t q → length (queue h) ≡ length q
+pub queue_length : (s : Shape) (h : History) (t : Table) (q : List ℕ) → IsNode s h t q → length (queue s h) ≡ length q
 queue_length s h t q m =
-    sym (length-map (queue h) (block_of h)) ∙ ap length m.queue_is ∙ length-map q (λ n. let o : Option ℕ = Some n in o)
+    sym (length-map (queue s h) (block_of h)) ∙ ap length m.queue_is ∙ length-map q (λ n. let o : Option ℕ = Some n in o)
 
 -- nothing was taken yet
 pub took_none : (old now : NodeState) (c : ℕ) → now ≡ old → IsLegal old.shape old.journal → no_pages (flight old.journal c) ≡ true → Took old now c 0
 took_none old now c same legal free = record {
   did = did_none old now c (ap (λ (n : NodeState). n.shape) same) (ap (λ (n : NodeState). n.journal) same) (subst (λ (n : NodeState). IsLegal n.shape n.journal) (sym same) legal)
       (omega (arith, ap (λ (n : NodeState). n.room) same)) (ap (λ (n : NodeState). n.table.accesses) same);
-  left = ap (λ (n : NodeState). queue n.journal) same;
+  left = ap (λ (n : NodeState). queue old.shape n.journal) same;
   may = or_first _ _ (ap (λ (n : NodeState). no_pages (flight n.journal c)) same ∙ free);
 }
 
 -- one page more
-pub took_more : (old mid new : NodeState) (c i p : ℕ) → Took old mid c i → slice_get (queue mid.journal) 0 ≡ Some p → Did mid new c (by c (what.Taken p) ∷ []) → Took old new c (i + 1)
+pub took_more : (old mid new : NodeState) (c i p : ℕ) → Took old mid c i → slice_get (queue mid.shape mid.journal) 0 ≡ Some p → Did mid new c (by c (what.Taken p) ∷ []) → Took old new c (i + 1)
 took_more old mid new c i p t first d =
-    let qs : List ℕ = queue old.journal in
-    let here : slice_get (drop i qs) 0 ≡ Some p = ap (λ xs. slice_get xs 0) (sym t.left) ∙ first in
+    let qs : List ℕ = queue old.shape old.journal in
+    let here : slice_get (drop i qs) 0 ≡ Some p = ap (λ xs. slice_get xs 0) (sym t.left) ∙ ap (λ z. slice_get (queue z mid.journal) 0) (sym t.did.shape) ∙ first in
     let e : Event = by c (what.Taken p) in
     let P : List Event → Type 0 = λ es. Did old new c es in
     record {
-      did = subst P (sym (take_events_more old.journal c i p here)) (did_then old mid new c (take_events old.journal c i) (e ∷ []) t.did d);
-      left = ap queue d.journal ∙ queue_push mid.journal e ∙ ap (drop 1) t.left ∙ sym (more_taken i qs p here).1;
+      did = subst P (sym (take_events_more old.shape old.journal c i p here)) (did_then old mid new c (take_events old.shape old.journal c i) (e ∷ []) t.did d);
+      left = ap (queue old.shape) d.journal ∙ queue_push old.shape mid.journal e ∙ ap (drop 1) t.left ∙ sym (more_taken i qs p here).1;
       may = or_second _ _ (ap (λ h. is_taking h c) d.journal ∙ is_taking_push mid.journal c e ∙ eq-eqb c c refl);
     }
 
@@ -98,28 +98,23 @@ no_both x e f = cc
 -- whether a page is in a caller's flight is told by where the page of its block stands
 pub flies_there : (s : Shape) (h : History) (t : Table) (q : List ℕ) (c p b : ℕ) → IsNode s h t q → (w : Found s h t p b) → w.slot.standing ≡ Batch c → has_page p (flight h c) ≡ true
 flies_there s h t q c p b m w e =
-    ap (λ r. has_page r (flight h c)) (sym w.id_is) ∙ (batch_has h w.slot.id c (sym w.is.stands ∙ e)).0
-
-pub flies_not_there : (s : Shape) (h : History) (t : Table) (q : List ℕ) (c p b : ℕ) → IsNode s h t q → (w : Found s h t p b) → (w.slot.standing ≡ Batch c → ⊥) → has_page p (flight h c) ≡ false
-flies_not_there s h t q c p b m w f =
-    by_bool (has_page p (flight h c)) _
-    (λ y. absurd (f (w.is.stands ∙ standing_flying h w.slot.id c (legal_homed s h m.legal).grown.sound (ap (λ r. has_page r (flight h c)) w.id_is ∙ y))))
-    (λ y. y)
-
--- a page that lies nowhere is in no flight
-pub flies_nowhere : (s : Shape) (h : History) (t : Table) (q : List ℕ) (c p : ℕ) → IsNode s h t q → ((b : ℕ) → IsHeld (slot_at t b) p → ⊥) → has_page p (flight h c) ≡ false
-flies_nowhere s h t q c p m none =
-    by_bool (has_page p (flight h c)) _ (λ y. absurd (no_both (is_live h p) (not_live s h t q p m none) (flies_live s h c p m.legal y).0)) (λ y. y)
+    ap (λ r. has_page r (flight h c)) (sym w.id_is) ∙ (batch_has s h w.slot.id c (sym w.is.stands ∙ e)).0
 
 -- what a try answers
-pub tried_split : (h : History) (p : ℕ) → pins h p ≡ 0 → answer.Split p ≡ tried h (Some p)
-tried_split h p e = sym (ap (λ n. cond (nat_eq n 0) (answer.Split p) (answer.Pinned p)) e)
+abbrev tried_as : ℕ → Bool → Bool → Tried
+tried_as p worth free = if worth then if free then answer.Split p else answer.Pinned p else answer.Used p
 
-pub tried_pinned : (h : History) (p : ℕ) → 0 < pins h p → answer.Pinned p ≡ tried h (Some p)
-tried_pinned h p l = sym (ap (λ b. cond b (answer.Split p) (answer.Pinned p)) (ne_eqb (pins h p) 0 (λ e. omega (arith, e, l))))
+pub tried_split : (s : Shape) (h : History) (p : ℕ) → is_worth_split s h p ≡ true → pins h p ≡ 0 → answer.Split p ≡ tried s h (Some p)
+tried_split s h p w e = sym (ap₂ (tried_as p) w (ap (λ n. nat_eq n 0) e))
+
+pub tried_pinned : (s : Shape) (h : History) (p : ℕ) → is_worth_split s h p ≡ true → 0 < pins h p → answer.Pinned p ≡ tried s h (Some p)
+tried_pinned s h p w l = sym (ap₂ (tried_as p) w (ne_eqb (pins h p) 0 (λ e. omega (arith, e, l))))
+
+pub tried_used : (s : Shape) (h : History) (p : ℕ) → is_worth_split s h p ≡ false → answer.Used p ≡ tried s h (Some p)
+tried_used s h p w = sym (ap (λ b. tried_as p b (nat_eq (pins h p) 0)) w)
 
 -- a page was split off its batch
-pub record SplitOff (s : Shape) (h : History) (c p : ℕ) (set : List Bool) (old new : BlocksState) : Type 0 where
+pub record SplitOff (s : Shape) (h : History) (c p : ℕ) (set : List Bool) (old new : PlacesState) : Type 0 where
   pub is : by c (what.Split p set) ≡ try_event s h c p
   pub fits : Fits s h (by c (what.Split p set))
   pub node : IsNode s (h ++ by c (what.Split p set) ∷ []) new.table new.queue
@@ -131,6 +126,13 @@ pub record FoundPinned (s : Shape) (h : History) (c p : ℕ) (t : Table) (q : Li
   pub fits : Fits s h (by c (what.Pinned p))
   pub node : IsNode s (h ++ by c (what.Pinned p) ∷ []) t q
 
+-- a page was found in use
+pub record FoundUsed (s : Shape) (h : History) (c p : ℕ) (old new : PlacesState) : Type 0 where
+  pub is : by c (what.Used p) ≡ try_event s h c p
+  pub fits : Fits s h (by c (what.Used p))
+  pub node : IsNode s (h ++ by c (what.Used p) ∷ []) new.table new.queue
+  pub work : new.table.accesses ≤ old.table.accesses + 0
+
 same_slot : (x y : Slot) → Some x ≡ Some y → x ≡ y
 same_slot x y e = cc
 
@@ -138,7 +140,7 @@ not_queued : (z : Standing) (c : ℕ) → z ≡ Batch c → z ≢ Queued
 not_queued z c e f = cc
 
 -- the page of a block that is in a caller's flight
-module _ (s : Shape) (h : History) (c p b : ℕ) (old : BlocksState) (m : IsNode s h old.table old.queue) (w : IsFlyingAt old.table c p b) where
+module _ (s : Shape) (h : History) (c p b : ℕ) (old : PlacesState) (m : IsNode s h old.table old.queue) (w : IsFlyingAt old.table c p b) where
   homed : Homed s h
   homed = legal_homed s h m.legal
 
@@ -156,24 +158,37 @@ module _ (s : Shape) (h : History) (c p b : ℕ) (old : BlocksState) (m : IsNode
       let P : Slot → Type 0 = λ y. (y.page.split ≡ false) × (y.page.pins ≡ 0) × (y.standing ≢ Queued) in
       subst P (same_slot w.slot x (sym w.at ∙ at)) (flying_whole s h c b w.slot old old homed m w.at w.stands, none, not_queued w.slot.standing c w.stands)
 
-  pub split_off : (new : BlocksState) (set : List Bool) →
-      AtSlot old.table b (λ x. (q : PageState) × PageSplit x.page q × (set ≡ gives_frames x.page q) × Edits old new b (Some (record x { page = q; standing = Nowhere })) old.queue 0) →
-      w.slot.page.pins ≡ 0 → SplitOff s h c p set old new
-  split_off new set did none =
-      let d = did w.slot w.at in
-      let f = split_fits s h c b w.slot old new homed m w.at w.stands d.0 set d.1 none d.2 in
-      let P : ℕ → Type 0 = λ r. SplitOff s h c r set old new in
-      subst P w.id_is (record { is = f.0; fits = f.1; node = split_node s h c b w.slot old new homed m w.at w.stands d.0 set d.1 f.1 d.3; work = d.3.work })
+  pub worth_there : is_worth_split s h p ≡ is_worth s.underused w.slot.page
+  worth_there = ap (is_worth_split s h) (sym w.id_is) ∙ worth_is s h w.slot.id w.slot.page is_slot.tallies
 
-  pub found_pinned : 0 < w.slot.page.pins → FoundPinned s h c p old.table old.queue
-  found_pinned some =
-      let f = pinned_fits s h c b w.slot old old homed m w.at w.stands w.slot.page.pins refl some in
+  pub partly_there : is_partly_mapped s h p ≡ w.slot.page.partly
+  partly_there = ap (is_partly_mapped s h) (sym w.id_is) ∙ sym is_slot.tallies.partly
+
+  pub split_off : (new : PlacesState) (set : List Bool) (give : Bool) → give ≡ shrinks_underused s →
+      AtSlot old.table b (λ x. (q : PageState) × PageSplit give x.page q × (set ≡ gives_frames x.page q) × Edits old new b (Some (record x { page = q; standing = Nowhere })) old.queue 0) →
+      is_worth s.underused w.slot.page ≡ true → w.slot.page.pins ≡ 0 → SplitOff s h c p set old new
+  split_off new set give switch did worth none =
+      let d = did w.slot w.at in
+      let how : PageSplit (shrinks_underused s) w.slot.page d.0 = subst (λ g. PageSplit g w.slot.page d.0) switch d.1 in
+      let f = split_fits s h c b w.slot old new homed m w.at w.stands d.0 set how worth none d.2 in
+      let P : ℕ → Type 0 = λ r. SplitOff s h c r set old new in
+      subst P w.id_is (record { is = f.0; fits = f.1; node = split_node s h c b w.slot old new homed m w.at w.stands d.0 set how f.1 d.3; work = d.3.work })
+
+  pub found_pinned : is_worth s.underused w.slot.page ≡ true → 0 < w.slot.page.pins → FoundPinned s h c p old.table old.queue
+  found_pinned worth some =
+      let f = pinned_fits s h c b w.slot old old homed m w.at w.stands w.slot.page.pins worth refl some in
       let P : ℕ → Type 0 = λ r. FoundPinned s h c r old.table old.queue in
       subst P w.id_is (record { is = f.0; fits = f.1; node = pinned_node s h c w.slot.id old.table old.queue m f.1 })
 
+  pub found_used : (new : PlacesState) → AtSlot old.table b (λ x. Edits old new b (Some (record x { standing = Nowhere })) old.queue 0) → is_worth s.underused w.slot.page ≡ false → FoundUsed s h c p old new
+  found_used new did none =
+      let f = used_fits s h c b w.slot old new homed m w.at w.stands none in
+      let P : ℕ → Type 0 = λ r. FoundUsed s h c r old new in
+      subst P w.id_is (record { is = f.0; fits = f.1; node = used_node s h c b w.slot old new homed m w.at w.stands f.1 (did w.slot w.at); work = (did w.slot w.at).work })
+
 -- a take's events are as many as its pages
-pub take_length : (h : History) (c n : ℕ) → length (take_events h c n) ≡ min n (length (queue h))
-take_length h c n = length-map (take n (queue h)) (λ p. by c (what.Taken p)) ∙ length-take n (queue h)
+pub take_length : (s : Shape) (h : History) (c n : ℕ) → length (take_events s h c n) ≡ min n (length (queue s h))
+take_length s h c n = length-map (take n (queue s h)) (λ p. by c (what.Taken p)) ∙ length-take n (queue s h)
 
 -- where a page in flight lies, told of a node's parts
 pub flies_inside : (inside now : NodeState) (c p b : ℕ) → inside ≡ now → IsFlyingAt now.table c p b → IsFlyingAt inside.table c p b
@@ -181,6 +196,10 @@ flies_inside inside now c p b is w = record { slot = w.slot; at = ap (λ (n : No
 
 pub unpinned_inside : (inside now : NodeState) (b : ℕ) → inside ≡ now → IsUnpinnedAt now.table b → (x : Slot) → slot_at inside.table b ≡ Some x → x.page.pins ≡ 0
 unpinned_inside inside now b is w x at = w.pins_of x (ap (λ (n : NodeState). slot_at n.table b) (sym is) ∙ at)
+
+-- what is asked of the page of a block, of a node's parts
+pub slot_inside : (inside now : NodeState) (b : ℕ) (P : Shape → Slot → Type 0) → inside ≡ now → AtSlot now.table b (P now.shape) → AtSlot inside.table b (P inside.shape)
+slot_inside inside now b P is a = subst (λ (n : NodeState). AtSlot n.table b (P n.shape)) (sym is) a
 
 -- where no page of a batch flies, none is left to be tried
 pub none_left : (h : History) (c : ℕ) (ps : List ℕ) → next_page h c ps ≡ None → rest_after h c ps ≡ []
@@ -194,8 +213,8 @@ none_left h c (p ∷ ps) e = go (has_page p (flight h c)) e (none_left h c ps) w
   go false e f = ap (λ k. drop k (p ∷ ps)) (let m : 1 + n + 1 ≡ suc (n + 1) = omega arith in m) ∙ f e
 
 -- what a try answers and does once there is room for it
-pub tried_after : (k h : History) (o : Option ℕ) (p q : ℕ) (r : Tried) → r ≡ tried k (Some p) → q ≡ p → k ≡ h → o ≡ Some q → r ≡ tried h o
-tried_after k h o p q r e is same next = e ∙ ap₂ (λ x n. tried x (Some n)) same (sym is) ∙ ap (tried h) (sym next)
+pub tried_after : (s t : Shape) (k h : History) (o : Option ℕ) (p q : ℕ) (r : Tried) → r ≡ tried s k (Some p) → q ≡ p → s ≡ t → k ≡ h → o ≡ Some q → r ≡ tried t h o
+tried_after s t k h o p q r e is shape same next = e ∙ ap (λ z. tried z k (Some p)) shape ∙ ap₂ (λ x n. tried t x (Some n)) same (sym is) ∙ ap (tried t h) (sym next)
 
 pub did_after : (old mid new : NodeState) (c d p q : ℕ) (o : Option ℕ) → Did mid new c (try_event mid.shape mid.journal c p ∷ []) → q ≡ p → c ≡ d → o ≡ Some q → mid.shape ≡ old.shape →
     mid.journal ≡ old.journal → old.room ≤ mid.room → mid.table ≡ old.table → Did old new d (tries_of old.shape old.journal d o)

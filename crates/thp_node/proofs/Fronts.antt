@@ -1,31 +1,33 @@
 -- Batches stay in front of their flights, whatever is done but a take by their caller.
-use Rattle.std.proofs.Common.{◌≡◌, ◌≢◌, ℕ, suc, Bool, true, false, cond, not, ◌&&◌, ◌||◌, List, [], ◌∷◌, ◌++◌, map, refl, ap, sym, ◌∙◌, subst, nat_eq, eqb-true, append_assoc, arith, Option, Some, None, ap₂}
+use Rattle.std.proofs.Common.{◌≡◌, ◌≢◌, ℕ, suc, Bool, true, false, cond, not, ◌&&◌, ◌||◌, List, [], ◌∷◌, ◌++◌, map, refl, ap, sym, ◌∙◌, subst, nat_eq, eqb-true, eq-eqb, append_assoc, arith, Option, Some, None, ap₂}
 use Rattle.std.specs.List.{filter, list_all, All}
 use Rattle.std.proofs.lemmas.List.Elements.{filter-append}
 use Rattle.thp_model.specs.declared.events.Event.{Event}
 use Rattle.thp_model.specs.declared.events.Outcome.{Outcome}
 use Rattle.thp_model.specs.declared.events.Outcome.TheVariants.{Freed}
 use Rattle.thp_model.specs.declared.events.What.{What}
-use Rattle.thp_model.specs.declared.events.What.TheVariants.{UnmapWhole, UnmapSub, Unpin, Taken, Split, Pinned, Back, Dropped}
+use Rattle.thp_model.specs.declared.events.What.TheVariants.{UnmapWhole, UnmapSub, Unpin, Taken, Split, Pinned, Used, Back, Dropped}
 use Rattle.thp_model.specs.declared.shape.Shape.{Shape}
 use Rattle.thp_model.specs.History.{History, by}
-use Rattle.thp_model.specs.Counts.{is_closed}
+use Rattle.thp_model.specs.Counts.{pins}
+use Rattle.thp_model.specs.Legal.{is_dropped}
+use Rattle.thp_model.specs.Underused.{is_worth_split}
 use Rattle.thp_model.specs.FlightSteps.{flight_after, flight_by}
 use Rattle.thp_model.specs.Places.{flight, has_page, takes_by, without}
-use Rattle.thp_model.specs.Runs.{still_flying, next_page, split_next_events, tries_of, put_back_events}
+use Rattle.thp_model.specs.Runs.{still_flying, next_page, split_next_events, tries_of, put_back_events, return_event, unused}
 use Rattle.thp_model.proofs.Blocks.{filter-filter}
 use Rattle.thp_model.proofs.Bools.{by_bool, and_both, and_yes, not_true}
 use Rattle.thp_model.proofs.Flights.{flight_push}
 use Rattle.thp_model.proofs.ListPlaces.{append_none}
 use Rattle.thp_model.proofs.OnePlace.{filter_in}
-use Rattle.thp_node.specs.declared.page_call.Gain.{Gain}
-use Rattle.thp_node.specs.declared.page_call.Gain.TheVariants as gain
-use Rattle.thp_node.specs.declared.page_call.Loss.{Loss}
-use Rattle.thp_node.specs.declared.page_call.Loss.TheVariants as loss
-use Rattle.thp_node.specs.Batches.{BatchState, IsInFront, FrontsStay, OtherFrontsStay}
+use Rattle.thp_places.specs.declared.page_call.Gain.{Gain}
+use Rattle.thp_places.specs.declared.page_call.Gain.TheVariants as gain
+use Rattle.thp_places.specs.declared.page_call.Loss.{Loss}
+use Rattle.thp_places.specs.declared.page_call.Loss.TheVariants as loss
+use Rattle.thp_node.specs.Batches.{BatchState, IsInFront, FrontsStay, OtherFrontsStay, OlderAreInFront}
 use Rattle.thp_node.specs.Calls.{Did}
 use Rattle.thp_node.specs.NodeState.{NodeState}
-use Rattle.thp_node.specs.PageCalls.{gain_what, loss_what}
+use Rattle.thp_places.specs.PageCalls.{gain_what, loss_what}
 
 filter_all : (ps : List ℕ) → filter (λ p. true) ps ≡ ps
 filter_all [] = refl
@@ -62,11 +64,12 @@ keeps_if true p = record { test = λ q. not (nat_eq q p); is = λ ps. refl }
 keeps_if false p = keeps_all
 
 keeps : (c d : ℕ) (w : What) → takes_by c d w ≡ false → Keeps (λ ps. flight_after c ps d w)
-keeps c d (UnmapWhole p o set) e = keeps_by p o
-keeps c d (UnmapSub p first count o set) e = keeps_by p o
-keeps c d (Unpin p o set) e = keeps_by p o
+keeps c d (UnmapWhole o p set) e = keeps_by p o
+keeps c d (UnmapSub o p first count set) e = keeps_by p o
+keeps c d (Unpin o p set) e = keeps_by p o
 keeps c d (Taken p) e = record { test = λ q. true; is = λ ps. ap (λ b. cond b (ps ++ p ∷ []) ps) e ∙ sym (filter_all ps) }
 keeps c d (Split p set) e = keeps_if (nat_eq d c) p
+keeps c d (Used p) e = keeps_if (nat_eq d c) p
 keeps c d (Back p) e = keeps_if (nat_eq d c) p
 keeps c d (Dropped p) e = keeps_if (nat_eq d c) p
 keeps c d w e = keeps_all
@@ -129,6 +132,8 @@ gain_takes_none d c p gain.MapWhole = refl
 gain_takes_none d c p (gain.MapSub first count) = refl
 gain_takes_none d c p gain.SplitPmd = refl
 gain_takes_none d c p gain.Pin = refl
+gain_takes_none d c p (gain.Write first count) = refl
+gain_takes_none d c p (gain.Zero first count) = refl
 
 pub loss_takes_none : (d c p : ℕ) (l : Loss) (o : Outcome) (set : List Bool) → takes_none d (by c (loss_what l p o set) ∷ []) ≡ true
 loss_takes_none d c p loss.UnmapWhole o set = refl
@@ -137,20 +142,24 @@ loss_takes_none d c p loss.Unpin o set = refl
 
 pub try_takes_none : (d : ℕ) (s : Shape) (h : History) (c : ℕ) (rest : List ℕ) → takes_none d (split_next_events s h c rest) ≡ true
 try_takes_none d s h c rest = go (next_page h c rest) where
-  one : (b : Bool) (p : ℕ) (set : List Bool) → takes_none d (by c (cond b (Split p set) (Pinned p)) ∷ []) ≡ true
-  one true p set = refl
-  one false p set = refl
+  one : (a b : Bool) (p : ℕ) (set : List Bool) → takes_none d (by c (cond a (cond b (Split p set) (Pinned p)) (Used p)) ∷ []) ≡ true
+  one true true p set = refl
+  one true false p set = refl
+  one false b p set = refl
 
   go : (o : Option ℕ) → takes_none d (tries_of s h c o) ≡ true
   go None = refl
-  go (Some p) = one _ p _
+  go (Some p) = one (is_worth_split s h p) (nat_eq (pins h p) 0) p (unused s h p)
 
-pub return_takes_none : (d : ℕ) (h : History) (c : ℕ) (ps : List ℕ) → takes_none d (put_back_events h c ps) ≡ true
-return_takes_none d h c ps = go (is_closed h) (still_flying h c ps) where
-  go : (z : Bool) (qs : List ℕ) → takes_none d (map (λ p. by c (cond z (Dropped p) (Back p))) qs) ≡ true
-  go z [] = refl
-  go true (q ∷ qs) = go true qs
-  go false (q ∷ qs) = go false qs
+pub return_takes_none : (d : ℕ) (s : Shape) (h : History) (c : ℕ) (ps : List ℕ) → takes_none d (put_back_events s h c ps) ≡ true
+return_takes_none d s h c ps = go (still_flying h c ps) where
+  one : (z : Bool) (q : ℕ) (b : Bool) → b ≡ true → (not (takes_by d c (cond z (Dropped q) (Back q))) && b) ≡ true
+  one true q b e = e
+  one false q b e = e
+
+  go : (qs : List ℕ) → takes_none d (map (return_event s h c) qs) ≡ true
+  go [] = refl
+  go (q ∷ qs) = one (is_dropped s h q) q (takes_none d (map (return_event s h c) qs)) (go qs)
 
 -- a batch that is the whole flight of its caller is in front of it
 pub front_whole : (h : History) (b : BatchState) → flight h b.caller ≡ b.pages → IsInFront h b
@@ -170,3 +179,27 @@ front_advanced h k a b c p stays f =
       others = g.others;
       front = ap (flight k) c ∙ g.front ∙ sym (ap₂ (λ x y. still_flying k x y ++ g.others) c p);
     }
+
+-- a batch none of whose pages is in flight is in front, and so is every batch of a caller that has no flight
+front_spent : (h : History) (b : BatchState) → still_flying h b.caller b.pages ≡ [] → IsInFront h b
+front_spent h b e = record { others = flight h b.caller; front = ap (λ xs. xs ++ flight h b.caller) (sym e) }
+
+filter_none : (t : ℕ → Bool) (ps : List ℕ) → All (λ p. t p ≡ false) ps → filter t ps ≡ []
+filter_none t [] a = refl
+filter_none t (p ∷ ps) a =
+    ap (λ b. cond b (p ∷ filter t ps) (filter t ps)) (a 0 p (omega arith)) ∙ filter_none t ps (λ k d l. a (suc k) d (omega arith))
+
+-- older batches of a caller whose flight is that of one take
+pub older_in_front : (h : History) (c : ℕ) (ps : List ℕ) → flight h c ≡ ps → OlderAreInFront c ps h
+older_in_front h c ps e b who none =
+    front_spent h b
+    (ap (λ (d : ℕ). filter (λ p. has_page p (flight h d)) b.pages) who ∙ ap (λ xs. filter (λ p. has_page p xs) b.pages) e ∙ filter_none (λ p. has_page p ps) b.pages none)
+
+-- batches stay in front over the events of a caller that leave it no flight
+pub fronts_emptied : (old new : NodeState) (c : ℕ) (es : List Event) → Did old new c es → flight new.journal c ≡ [] → FrontsStay old.journal new.journal
+fronts_emptied old new c es did none b f =
+    by_bool (nat_eq b.caller c) _
+    (λ y. older_in_front new.journal c [] none b (eqb-true b.caller c y) (λ k d l. refl))
+    (λ y. fronts_did old new c es did b (λ e. not_both (nat_eq b.caller c) y (eq-eqb b.caller c e)) f) where
+      not_both : (x : Bool) → x ≡ false → x ≡ true → ⊥
+      not_both x e g = cc

@@ -12,24 +12,25 @@ use Rattle.thp_model.proofs.FlightLaws.{stands_whole, oldest, left_alone, new_on
 use Rattle.thp_model.proofs.Flights.{flight_push}
 use Rattle.thp_model.proofs.Kept.{frames_kept}
 use Rattle.thp_model.proofs.LegalSteps.{legal_front}
+use Rattle.thp_model.proofs.PartlyStands.{partly_stands, none_used, none_underused}
 use Rattle.thp_model.proofs.Pushes.{queue_push}
 use Rattle.thp_model.proofs.Standing.{once_of_legal}
-use Rattle.thp_node.specs.JournalLaws.{StandsOnce, StandsWhole, TakesOldest, LeavesFreedAlone, AllocatesOnce, NothingEnters, HasFramesOnce, KeepsFrames, HoldsWhileLive, LivesApart, OthersFree, FlightsGoOn, QueueGoesOn}
+use Rattle.thp_node.specs.JournalLaws.{StandsOnce, StandsWhole, TakesOldest, LeavesFreedAlone, AllocatesOnce, NothingEnters, HasFramesOnce, KeepsFrames, HoldsWhileLive, LivesApart, OthersFree, FlightsGoOn, QueueGoesOn, NoneIsUnderused}
 
 -- the first part of a legal history is legal
 legal_before : (s : Shape) (h before after : History) → IsLegal s h → h ≡ before ++ after → IsLegal s before
 legal_before s h before after l e = let P : History → Type 0 = λ k. IsLegal s k in legal_front s before after (subst P e l)
 
 module _ (s : Shape) (h : History) (legal : IsLegal s h) where
-  pub stands_once : StandsOnce h
+  pub stands_once : StandsOnce s h
   unfolding StandsOnce
   stands_once = once_of_legal s h legal
 
-  pub all_stand_whole : StandsWhole h
+  pub all_stand_whole : StandsWhole s h
   unfolding StandsWhole
   all_stand_whole = stands_whole s h legal
 
-  pub takes_oldest : TakesOldest h
+  pub takes_oldest : TakesOldest s h
   unfolding TakesOldest
   takes_oldest = λ before after c ps e. oldest s before c ps (legal_before s h (before ++ takes_of c ps) after legal e)
 
@@ -55,7 +56,7 @@ module _ (s : Shape) (h : History) (legal : IsLegal s h) where
 
   pub holds_while_live : HoldsWhileLive s h
   unfolding HoldsWhileLive
-  holds_while_live = λ p. live_holds s h p legal
+  holds_while_live = λ p off. live_holds s h p legal off
 
   pub lives_apart : LivesApart h
   unfolding LivesApart
@@ -71,6 +72,10 @@ module _ (s : Shape) (h : History) (legal : IsLegal s h) where
   unfolding FlightsGoOn
   flights_go_on = λ before after e c is. flight_push before c e.caller e.what
 
-  pub queue_goes_on : QueueGoesOn h
+  pub queue_goes_on : QueueGoesOn s h
   unfolding QueueGoesOn
-  queue_goes_on = λ before after e is. queue_push before e
+  queue_goes_on = λ before after e is. queue_push s before e
+
+  pub none_is_underused : NoneIsUnderused s h
+  unfolding NoneIsUnderused
+  none_is_underused = λ off. (partly_stands s h off legal, none_used s h off legal, none_underused s h off legal)

@@ -1,35 +1,29 @@
 -- How large the numbers that a history gives can be, and how a caller's flight grows and shrinks.
-use Rattle.std.proofs.Common.{◌≡◌, ℕ, ◌+◌, ◌*◌, ◌<◌, ◌≤◌, Bool, true, false, cond, not, ◌&&◌, List, [], ◌∷◌, ◌++◌, length, Some, None, refl, ap, ap₂, sym, ◌∙◌, arith, nat_eq, eqb-true, eq-eqb}
+use Rattle.std.proofs.Common.{◌≡◌, ℕ, ◌+◌, ◌*◌, ◌<◌, ◌≤◌, Bool, true, false, cond, not, List, [], ◌∷◌, ◌++◌, length, Some, None, refl, ap, ap₂, sym, ◌∙◌, arith, nat_eq, eqb-true, eq-eqb}
 use Rattle.std.proofs.Math.Nat.{mul-le-mul}
-use Rattle.std.specs.List.{filter, fold}
-use Rattle.std.proofs.lemmas.List.{length_push, length-map}
-use Rattle.std.proofs.lemmas.List.Sums.{length-filter, count_by-le-length}
-use Rattle.thp_model.specs.declared.events.Event.{Event}
+use Rattle.std.specs.List.{filter}
+use Rattle.std.proofs.lemmas.List.{length_push}
 use Rattle.thp_model.specs.declared.events.Outcome.{Outcome}
 use Rattle.thp_model.specs.declared.events.Outcome.TheVariants.{Freed, Queued, Stays}
 use Rattle.thp_model.specs.declared.events.What.{What}
-use Rattle.thp_model.specs.declared.events.What.TheVariants.{UnmapWhole, UnmapSub, Unpin, Taken, Split, Back, Dropped}
+use Rattle.thp_model.specs.declared.events.What.TheVariants.{UnmapWhole, UnmapSub, Unpin, Taken, Split, Used, Back, Dropped}
 use Rattle.thp_model.specs.declared.shape.Shape.{Shape}
 use Rattle.thp_model.specs.Shapes.{IsShape, subpages}
-use Rattle.thp_model.specs.History.{History, by, count_of}
+use Rattle.thp_model.specs.History.{History, by}
 use Rattle.thp_model.specs.Counts.{is_alloc, allocations}
 use Rattle.thp_model.specs.Frames.{frames_given, frames_held}
 use Rattle.thp_model.specs.FlightSteps.{flight_after, flight_by}
 use Rattle.thp_model.specs.Legal.{IsLegal, FitsBy}
-use Rattle.thp_model.specs.Places.{flights, flight, flights_after, flights_by, leaves, without, has_page}
+use Rattle.thp_model.specs.Places.{flights, flight, without, has_page}
 use Rattle.thp_model.proofs.Bools.{one_if, none_if}
 use Rattle.thp_model.proofs.Flights.{flight_push}
 use Rattle.thp_model.proofs.Kept.{frames_kept}
 use Rattle.thp_model.proofs.OnePlace.{times_flight, has_times, once_flies}
 use Rattle.thp_model.proofs.Sizes.{few_subpages}
 use Rattle.thp_model.proofs.Standing.{times, flying, pages, times-cons, flying-cons, first_has, legal_sound}
-use Rattle.thp_node.specs.Homes.{flier}
+use Rattle.thp_places.specs.Homes.{flier}
+use Rattle.thp_places.proofs.Starting.{few_events}
 use Rattle.thp_node.specs.Journals.{leaves_of, left_by, joins_of, one_for}
-
--- no more events pass a test than there are
-pub few_events : (test : What → Bool) (h : History) → count_of test h ≤ length h
-unfolding count_of
-few_events test h = count_by-le-length (λ (e : Event). test e.what) h
 
 -- each page had 512 frames at most to give back
 pub few_frames_given : (shape : Shape) (h : History) → shape.order ≤ 9 → IsLegal shape h → frames_given h ≤ 512 * length h
@@ -41,42 +35,6 @@ pub all_frames : (shape : Shape) (h : History) (n m g : ℕ) → IsShape shape �
     n ≡ subpages shape → m ≡ allocations h → g ≡ frames_given h → n * m ≡ frames_held shape h + g
 all_frames shape h n m g s l e f i =
     ap₂ (λ x y. x * y) e f ∙ frames_kept shape h s.most_order l ∙ ap (λ x. frames_held shape h + x) (sym i)
-
-length-fold : {A X : Type 0} (f : List A → X → List A) → ((ys : List A) (x : X) → length (f ys x) ≤ length ys + 1) →
-    (ys : List A) (xs : List X) → length (fold f ys xs) ≤ length ys + length xs
-length-fold f step ys [] = omega arith
-length-fold f step ys (x ∷ xs) = omega (arith, length-fold f step (f ys x) xs, step ys x)
-
-length-kept : {A : Type 0} (p : A → Bool) (xs : List A) → length (filter p xs) ≤ length xs
-length-kept p xs = omega (arith, length-filter p xs, count_by-le-length p xs)
-
-outcome_step : (fs : List (ℕ × ℕ)) (p : ℕ) (o : Outcome) → length (flights_by fs p o) ≤ length fs + 1
-outcome_step fs p Freed = omega (arith, length-kept (λ (f : ℕ × ℕ). not (nat_eq f.1 p)) fs)
-outcome_step fs p Queued = omega arith
-outcome_step fs p Stays = omega arith
-
-leaves_step : (fs : List (ℕ × ℕ)) (c p : ℕ) → length (leaves c p fs) ≤ length fs + 1
-leaves_step fs c p = omega (arith, length-kept (λ (f : ℕ × ℕ). not (nat_eq f.0 c && nat_eq f.1 p)) fs)
-
-flights_step : (fs : List (ℕ × ℕ)) (c : ℕ) (w : What) → length (flights_after fs c w) ≤ length fs + 1
-flights_step fs c (UnmapWhole p o r) = outcome_step fs p o
-flights_step fs c (UnmapSub p a n o r) = outcome_step fs p o
-flights_step fs c (Unpin p o r) = outcome_step fs p o
-flights_step fs c (Taken p) = omega (arith, length_push fs (c, p))
-flights_step fs c (Split p r) = leaves_step fs c p
-flights_step fs c (Back p) = leaves_step fs c p
-flights_step fs c (Dropped p) = leaves_step fs c p
-flights_step fs c w = omega arith
-
-few_flights : (h : History) → length (flights h) ≤ length h
-unfolding flights
-few_flights h = omega (arith, length-fold (λ fs (e : Event). flights_after fs e.caller e.what) (λ fs e. flights_step fs e.caller e.what) [] h)
-
--- no more pages are in flight than there are events
-pub few_in_flight : (h : History) (c : ℕ) → length (flight h c) ≤ length h
-few_in_flight h c =
-    let cs : List (ℕ × ℕ) = filter (λ (f : ℕ × ℕ). nat_eq f.0 c) (flights h) in
-    omega (arith, few_flights h, length-kept (λ (f : ℕ × ℕ). nat_eq f.0 c) (flights h), length-map cs (λ (f : ℕ × ℕ). f.1))
 
 -- the pages that c has among those in flight
 abbrev of : ℕ → List (ℕ × ℕ) → List ℕ
@@ -132,14 +90,15 @@ by_outcome shape h c d p Stays l = refl
 
 moves : (shape : Shape) (h k : History) (c d : ℕ) (w : What) → IsLegal shape h → FitsBy shape h k c w →
     length (flight_after d (flight h d) c w) + one_for (leaves_of h c w) d ≡ length (flight h d) + one_for (joins_of c w) d
-moves shape h k c d (UnmapWhole p o r) l f = by_outcome shape h c d p o l
-moves shape h k c d (UnmapSub p a n o r) l f = by_outcome shape h c d p o l
-moves shape h k c d (Unpin p o r) l f = by_outcome shape h c d p o l
+moves shape h k c d (UnmapWhole o p r) l f = by_outcome shape h c d p o l
+moves shape h k c d (UnmapSub o p a n r) l f = by_outcome shape h c d p o l
+moves shape h k c d (Unpin o p r) l f = by_outcome shape h c d p o l
 moves shape h k c d (Taken p) l f = go (nat_eq c d) where
   go : (b : Bool) → length (cond b (flight h d ++ p ∷ []) (flight h d)) + 0 ≡ length (flight h d) + cond b 1 0
   go true = omega (arith, length_push (flight h d) p)
   go false = refl
 moves shape h k c d (Split p r) l f = leaving h c d p (one_flying shape h c p l f.in_flight)
+moves shape h k c d (Used p) l f = leaving h c d p (one_flying shape h c p l f.0)
 moves shape h k c d (Back p) l f = leaving h c d p (one_flying shape h c p l (first_has p (flight h c) f.0))
 moves shape h k c d (Dropped p) l f = leaving h c d p (one_flying shape h c p l (first_has p (flight h c) f.0))
 moves shape h k c d w l f = refl
@@ -149,6 +108,11 @@ pub flight_moves : (shape : Shape) (h : History) (c d : ℕ) (w : What) → IsLe
     length (flight (h ++ by c w ∷ []) d) + one_for (leaves_of h c w) d ≡ length (flight h d) + one_for (joins_of c w) d
 flight_moves shape h c d w l f =
     ap (λ ps. length ps + one_for (leaves_of h c w) d) (flight_push h d c w) ∙ moves shape h (h ++ by c w ∷ []) c d w l f
+
+-- a page that is taken joins the taker's flight
+pub flight_grows : (h : History) (c p : ℕ) → length (flight (h ++ by c (Taken p) ∷ []) c) ≡ length (flight h c) + 1
+flight_grows h c p =
+    ap length (flight_push h c c (Taken p)) ∙ (ap (λ b. length (cond b (flight h c ++ p ∷ []) (flight h c))) (eq-eqb c c refl) ∙ length_push (flight h c) p)
 
 apart : (h : History) (c d : ℕ) (w : What) → Some d ≡ leaves_of h c w → joins_of c w ≡ None
 apart h c d (Taken p) e = absurd (cc)

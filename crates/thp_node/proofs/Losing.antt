@@ -1,45 +1,85 @@
 -- What a call that takes mappings or a pin from a page records, once it is admitted.
-use Rattle.std.proofs.Common.{◌≡◌, ℕ, ◌+◌, ◌≤◌, Bool, [], ◌∷◌, ◌++◌, Option, Some, None, ap, ◌∙◌, subst}
+use Rattle.std.proofs.Common.{◌≡◌, ℕ, ◌+◌, ◌≤◌, Bool, List, [], ◌∷◌, ◌++◌, Option, Some, None, length, map, get_or, refl, ap, sym, ◌∙◌, subst, arith, if◌then◌else◌}
 use Rattle.thp_model.specs.declared.shape.Shape.{Shape}
+use Rattle.thp_model.specs.declared.events.Outcome.{Outcome}
+use Rattle.thp_model.specs.declared.events.Outcome.TheVariants.{Freed, Queued, Stays}
 use Rattle.thp_model.specs.History.{History, by}
-use Rattle.thp_model.specs.Counts.{is_closed}
+use Rattle.thp_model.specs.Counts.{is_closed, is_freed}
+use Rattle.thp_model.specs.Places.{flights}
 use Rattle.thp_model.specs.Legal.{Fits, Gives}
 use Rattle.thp_model.specs.Refusals.{refusal}
 use Rattle.thp_page.specs.Table.{Slot}
 use Rattle.thp_page.specs.Slots.{slot_at}
-use Rattle.thp_node.specs.declared.answers.Done.{Done}
-use Rattle.thp_node.specs.declared.page_call.Loss.{Loss}
-use Rattle.thp_node.specs.BlocksState.{BlocksState, Lost}
-use Rattle.thp_node.specs.Holding.{IsNode}
-use Rattle.thp_node.specs.Homes.{block_of}
-use Rattle.thp_node.specs.Journals.{leaves_of}
-use Rattle.thp_node.specs.PageCalls.{loss_call, loss_what}
-use Rattle.thp_node.proofs.Admitting.{Found, at_home}
-use Rattle.thp_node.proofs.Homing.{legal_homed}
-use Rattle.thp_node.proofs.PageEvents.{LossFits, loss_fits, lost_node}
+use Rattle.thp_places.specs.declared.page_call.Done.{Done}
+use Rattle.thp_places.specs.declared.page_call.Loss.{Loss}
+use Rattle.thp_places.specs.declared.page_call.Loss.TheVariants as loss
+use Rattle.thp_places.specs.PlacesState.{PlacesState}
+use Rattle.thp_places.specs.Holding.{IsNode, Fills}
+use Rattle.thp_places.specs.Homes.{block_of, flier}
+use Rattle.thp_places.specs.FreeChains.{Relinks}
+use Rattle.thp_node.specs.declared.journal.Unsaid.TheVariants.{FreedFrom}
+use Rattle.thp_node.specs.Chaining.{LostChained}
+use Rattle.thp_node.specs.Journals.{unsaid_of}
+use Rattle.thp_places.specs.PageCalls.{loss_call, loss_what}
+use Rattle.thp_places.proofs.Admitting.{Found, at_home}
+use Rattle.thp_places.proofs.Homing.{legal_homed}
+use Rattle.thp_places.proofs.PageEvents.{LossFits, loss_fits, loss_left, lost_node}
 
--- the event fits and tells what it did, the page leaves the flight in which it was, and the node holds what it should
-pub record Losing (s : Shape) (h : History) (c p : ℕ) (l : Loss) (old new : BlocksState) (done : Done) (left : Option ℕ) : Type 0 where
+-- a node whose links alone changed
+pub node_relinked : (s : Shape) (h : History) (old new : PlacesState) (n : ℕ) → Relinks old new n → IsNode s h old.table old.queue → IsNode s h new.table new.queue
+node_relinked s h old new n r m = record {
+  legal = m.legal;
+  size = ap length r.slots ∙ m.size;
+  order = r.order ∙ m.order;
+  fills = λ b. let P : List (Option Slot) → Type 0 = λ xs. Fills s h b (get_or xs b None) in subst P (sym r.slots) (m.fills b);
+  queue_is = m.queue_is ∙ ap (map (λ b. let o : Option ℕ = Some b in o)) (sym r.queue_is);
+}
+
+-- out of whose flight a loss freed its page is what its event leaves unsaid
+loss_unsaid : (s : Shape) (h : History) (c p : ℕ) (l : Loss) (o : Outcome) (set : List Bool) →
+    FreedFrom (if is_freed o then flier p (flights h) else None) ≡ unsaid_of s h (loss_what l p o set)
+loss_unsaid s h c p l Freed set = by_loss l where
+  by_loss : (l : Loss) → FreedFrom (flier p (flights h)) ≡ unsaid_of s h (loss_what l p Freed set)
+  by_loss loss.UnmapWhole = refl
+  by_loss (loss.UnmapSub first count) = refl
+  by_loss loss.Unpin = refl
+loss_unsaid s h c p l Queued set = by_loss l where
+  by_loss : (l : Loss) → FreedFrom None ≡ unsaid_of s h (loss_what l p Queued set)
+  by_loss loss.UnmapWhole = refl
+  by_loss (loss.UnmapSub first count) = refl
+  by_loss loss.Unpin = refl
+loss_unsaid s h c p l Stays set = by_loss l where
+  by_loss : (l : Loss) → FreedFrom None ≡ unsaid_of s h (loss_what l p Stays set)
+  by_loss loss.UnmapWhole = refl
+  by_loss (loss.UnmapSub first count) = refl
+  by_loss loss.Unpin = refl
+
+-- the event fits and tells what it did, with out of whose flight the page went, and the node holds what it should
+pub record Losing (s : Shape) (h : History) (c p : ℕ) (l : Loss) (old new : PlacesState) (done : Done) (left : Option ℕ) : Type 0 where
   pub gives : Gives s h (h ++ by c (loss_what l p done.outcome done.released) ∷ []) p done.outcome done.released
   pub fits : Fits s h (by c (loss_what l p done.outcome done.released))
-  pub left_is : left ≡ leaves_of h c (loss_what l p done.outcome done.released)
+  pub unsaid_is : FreedFrom left ≡ unsaid_of s h (loss_what l p done.outcome done.released)
   pub node : IsNode s (h ++ by c (loss_what l p done.outcome done.released) ∷ []) new.table new.queue
   pub work : new.table.accesses ≤ old.table.accesses + 8
 
-pub losing : (s : Shape) (h : History) (c p b : ℕ) (l : Loss) (closed : Bool) (old new : BlocksState) (done : Done) (left : Option ℕ) → IsNode s h old.table old.queue →
-    block_of h p ≡ Some b → closed ≡ is_closed h → refusal s h (loss_call l p) ≡ None → ((x : Slot) → slot_at old.table b ≡ Some x → Lost l closed x old new b done left) →
+pub losing : (s : Shape) (h : History) (c p b : ℕ) (l : Loss) (closed : Bool) (old new : PlacesState) (done : Done) (left : Option ℕ) → IsNode s h old.table old.queue →
+    block_of h p ≡ Some b → closed ≡ is_closed h → refusal s h (loss_call l p) ≡ None → ((x : Slot) → slot_at old.table b ≡ Some x → LostChained l closed x old new b done left) →
     Losing s h c p l old new done left
 losing s h c p b l closed old new done left m home shut allowed lost =
     let w : Found s h old.table p b = at_home s h old.table old.queue p b m home in
-    let what : Lost l closed w.slot old new b done left = lost w.slot w.at in
-    let f : LossFits s h c w.slot.id l done left =
-    loss_fits s h c b w.slot l closed old new done left (legal_homed s h m.legal) w.is shut (ap (λ q. refusal s h (loss_call l q)) w.id_is ∙ allowed) what in
+    let what : LostChained l closed w.slot old new b done left = lost w.slot w.at in
+    let homed = legal_homed s h m.legal in
+    let f : LossFits s h c w.slot.id l done =
+    loss_fits s h c b w.slot l closed old what.between done left homed w.is shut (ap (λ q. refusal s h (loss_call l q)) w.id_is ∙ allowed) what.lost in
+    let e : History = h ++ by c (loss_what l w.slot.id done.outcome done.released) ∷ [] in
     let P : ℕ → Type 0 = λ q. Losing s h c q l old new done left in
     subst P w.id_is
     (record {
       gives = f.gives;
       fits = f.fits;
-      left_is = f.left_is;
-      node = lost_node s h c b w.slot l closed old new done left (legal_homed s h m.legal) m w.at what f;
-      work = what.edits.work;
+      unsaid_is =
+          ap (λ (o : Option ℕ). FreedFrom o) (loss_left s h b w.slot l closed old what.between done left homed w.is what.lost)
+          ∙ loss_unsaid s h c w.slot.id l done.outcome done.released;
+      node = node_relinked s e what.between new 2 what.relinks (lost_node s h c b w.slot l closed old what.between done left homed m w.at what.lost f);
+      work = omega (arith, what.lost.edits.work, what.relinks.work);
     })

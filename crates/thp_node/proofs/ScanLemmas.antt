@@ -1,25 +1,26 @@
 -- The tries of a scan, one by one, and what is behind its take, put together.
-use Rattle.std.proofs.Common.{◌≡◌, ℕ, suc, ◌+◌, ◌*◌, ◌<◌, ◌≤◌, Bool, true, false, cond, not, ◌&&◌, ◌||◌, List, [], ◌∷◌, ◌++◌, Option, Some, None, length, map, take, drop, refl, ap, ap₂, sym, ◌∙◌, subst, arith, nat_eq, nat_lt, get_or, append_assoc, length-take-le, ◌-◌, eq-eqb, eqb-true, inl, inr}
+use Rattle.std.proofs.Common.{◌≡◌, ℕ, min, suc, ◌+◌, ◌*◌, ◌<◌, ◌≤◌, Bool, true, false, cond, not, ◌&&◌, ◌||◌, List, [], ◌∷◌, ◌++◌, Option, Some, None, length, map, take, drop, refl, ap, ap₂, sym, ◌∙◌, subst, arith, nat_eq, nat_lt, get_or, append_assoc, length-take-le, ◌-◌, count_by, eq-eqb, eqb-true, inl, inr}
 use Rattle.std.specs.List.{filter, after_first}
 use Rattle.std.proofs.Math.Seq.{drop-cons}
 use Rattle.std.proofs.lemmas.Bool.Decides.{nat_tests}
-use Rattle.std.proofs.lemmas.List.Filters.{length-filter_both}
 use Rattle.std.proofs.lemmas.List.Sums.{length-filter, count_by-le-length}
-use Rattle.std.proofs.lemmas.List.{map-append, take-append-drop, take_more, length-map}
+use Rattle.std.proofs.lemmas.List.{map-append, take-append-drop, take_more, take_min, length-map}
 use Rattle.thp_model.specs.declared.events.Event.{Event}
 use Rattle.thp_model.specs.declared.events.What.TheVariants as what
 use Rattle.thp_model.specs.declared.events.What.{What}
 use Rattle.thp_model.specs.declared.refusal.Refusal.{Refusal}
 use Rattle.thp_model.specs.declared.shape.Shape.{Shape}
 use Rattle.thp_model.specs.History.{History, by, count_of}
-use Rattle.thp_model.specs.Counts.{is_closed, pins}
+use Rattle.thp_model.specs.Counts.{pins}
+use Rattle.thp_model.specs.Legal.{is_dropped as drops}
+use Rattle.thp_model.specs.Underused.{is_worth_split}
 use Rattle.thp_model.specs.Legal.{IsLegal}
 use Rattle.thp_model.specs.Places.{queue, flight, has_page}
 use Rattle.thp_model.specs.Refusals.{refusal}
 use Rattle.thp_model.specs.Refusals as call
-use Rattle.thp_model.specs.Runs.{take_events, scan_events, try_event, is_pinned, return_event, still_flying, put_back_events, next_page, rest_after, split_next_events, tries_of, unused}
+use Rattle.thp_model.specs.Runs.{take_events, scan_events, try_event, is_pinned, return_event, still_flying, put_back_events, next_page, rest_after, split_next_events, tries_of, goes_back}
 use Rattle.thp_model.proofs.Bools.{or_first, or_second}
-use Rattle.thp_model.proofs.Counting.{count-cons}
+use Rattle.thp_model.proofs.Counting.{count-cons, count_push}
 use Rattle.thp_model.proofs.ListPlaces.{append_none}
 use Rattle.thp_model.proofs.OnePlace.{once_flies, not_before, filter_in}
 use Rattle.thp_model.proofs.ReturnRuns.{return_as}
@@ -27,18 +28,39 @@ use Rattle.thp_model.proofs.Standing.{times}
 use Rattle.thp_model.proofs.ScanRuns.{TakesLeave, takes_leave}
 use Rattle.thp_model.specs.PlaceLaws.{takes_of}
 use Rattle.thp_model.proofs.TakeRuns.{take_runs, none_flies}
-use Rattle.thp_model.proofs.TryRuns.{Tried, tries_run}
-use Rattle.thp_node.specs.Batches.{IsInFront, BatchState, rest, back_reply, scan_reply, is_taken, is_split_off, is_pinned_found, is_back, is_dropped}
+use Rattle.thp_model.proofs.TryRuns.{Tried, try_as, tries_run}
+use Rattle.thp_node.specs.Batches.{IsInFront, BatchState, rest, tried as answer_of, back_reply, scan_reply, is_taken, is_split_off, is_pinned_found, is_used_found, is_back, is_dropped}
+use Rattle.thp_node.specs.declared.answers.Tried.{Tried as Answer}
+use Rattle.thp_node.specs.declared.answers.Tried.TheVariants as answer
 use Rattle.thp_node.specs.declared.answers.BackReply.{BackReply}
 use Rattle.thp_node.specs.declared.answers.ScanReply.{ScanReply}
 use Rattle.thp_node.specs.Calls.{Did, Refused}
 use Rattle.thp_node.specs.NodeState.{NodeState}
-use Rattle.thp_node.specs.Scanning.{events_behind}
+use Rattle.thp_node.specs.Scanning.{events_behind, is_used, used_count}
 use Rattle.thp_node.proofs.CallLemmas.{did_then}
 
 in_middle : (p : ℕ) (xs ys : List ℕ) → has_page p (xs ++ p ∷ ys) ≡ true
 in_middle p [] ys = or_first (nat_eq p p) _ (eq-eqb p p refl)
 in_middle p (x ∷ xs) ys = or_second (nat_eq x p) _ (in_middle p xs ys)
+
+-- a try counts its page where it is in use, and so does its event
+used_answer : (s : Shape) (h : History) (p : ℕ) → used_count (answer_of s h (Some p)) ≡ cond (is_used s h p) 1 0
+used_answer s h p = go (is_worth_split s h p) (nat_eq (pins h p) 0) where
+  go : (a b : Bool) → used_count (cond a (cond b (answer.Split p) (answer.Pinned p)) (answer.Used p)) ≡ cond (not a) 1 0
+  go true true = refl
+  go true false = refl
+  go false b = refl
+
+used_of_try : (s : Shape) (h : History) (c p : ℕ) → is_used_found (try_event s h c p).what ≡ is_used s h p
+used_of_try s h c p = go (is_worth_split s h p) (nat_eq (pins h p) 0) where
+  go : (a b : Bool) → is_used_found (try_as s h c p a b).what ≡ not a
+  go true true = refl
+  go true false = refl
+  go false b = refl
+
+pub few_used : (r : Answer) → used_count r ≤ 1
+few_used (answer.Used p) = omega arith
+few_used r = omega arith
 
 -- the next page of a flight whose first i pages were tried, at the history k
 pub record NextTried (s : Shape) (h k : History) (c i p : ℕ) (ps : List ℕ) : Type 0 where
@@ -56,7 +78,7 @@ next_tried s h k c i ps l f is below =
     let whole : ps ≡ take i ps ++ p ∷ rest = sym (take-append-drop i ps) ∙ ap (λ xs. take i ps ++ xs) cut in
     let P : History → Type 0 = λ x. Tried s h x c [] (take i ps) (p ∷ rest) in
     let r : Tried s h k c [] (take i ps) (p ∷ rest) = subst P (sym is) (tries_run s h c (take i ps) (p ∷ rest) l (f ∙ whole)) in
-    let flies : has_page p (flight k c) ≡ true = ap (has_page p) r.left ∙ in_middle p (filter (is_pinned h) (take i ps)) rest in
+    let flies : has_page p (flight k c) ≡ true = ap (has_page p) r.left ∙ in_middle p (filter (is_pinned s h) (take i ps)) rest in
     let O : List ℕ → Type 0 = λ xs. times p xs ≤ 1 in
     let apart : has_page p (take i ps) ≡ false = not_before p (take i ps) rest (subst O (f ∙ whole) (once_flies s h c p l)) in
     record {
@@ -90,6 +112,18 @@ module _ (a b : NodeState) (c i : ℕ) (ps : List ℕ) (t : BatchState) (l : IsL
   pub tried_after : rest_after b.journal t.caller (rest t) ≡ drop (i + 1) ps
   tried_after = ap₂ (λ x xs. rest_after b.journal x xs) who left ∙ one_tried.after
 
+  -- whether it was found in use
+  pub used_more : (r : Answer) → r ≡ answer_of b.shape b.journal (next_page b.journal t.caller (rest t)) →
+      count_by (is_used a.shape a.journal) (take i ps) + used_count r ≡ count_by (is_used a.shape a.journal) (take (i + 1) ps)
+  used_more r e =
+      let p : ℕ = get_or ps i 0 in
+      let next : next_page b.journal t.caller (rest t) ≡ Some p = ap₂ (next_page b.journal) who left ∙ one_tried.next in
+      let told : used_count r ≡ cond (is_used b.shape b.journal p) 1 0 = ap used_count (e ∙ ap (answer_of b.shape b.journal) next) ∙ used_answer b.shape b.journal p in
+      let same : is_used b.shape b.journal p ≡ is_used a.shape a.journal p =
+      ap (λ z. is_used z b.journal p) did.shape ∙ sym (used_of_try a.shape b.journal c p) ∙ ap (λ (x : Event). is_used_found x.what) one_tried.same ∙ used_of_try a.shape a.journal c p in
+      sym (ap (count_by (is_used a.shape a.journal)) (take_more ps i 0 below) ∙ count_push (is_used a.shape a.journal) (take i ps) p
+      ∙ ap (λ n. count_by (is_used a.shape a.journal) (take i ps) + n) (ap (λ z. cond z 1 0) (sym same) ∙ sym told))
+
 -- a refusal for want of memory alone doesn't come where there is room
 pub no_refusal : (a b : NodeState) (m : ℕ) (r : Refusal) → Refused a b None m r → m ≤ a.room → ⊥
 no_refusal a b m r w room = elim w.cause [ inl e ↦ none r e | inr y ↦ let full : a.room < m = y.2 in omega arith ] where
@@ -119,38 +153,51 @@ has_passed t q (x ∷ ps) = go (nat_eq x q) (t x) refl refl (has_passed t q ps) 
   go false true y z n = ap (λ w. w || has_page q (filter t ps)) y ∙ n
   go false false y z n = n
 
--- a batch that is all in flight, once each page of it was tried: the pinned ones are left
-pub record AllTried (h k : History) (c : ℕ) (ps : List ℕ) : Type 0 where
-  pub still : still_flying k c ps ≡ filter (is_pinned h) ps
-  pub front : flight k c ≡ still_flying k c ps ++ []
-  pub closed : is_closed k ≡ is_closed h
-  pub returns : put_back_events k c ps ≡ map (return_event h c) (filter (is_pinned h) ps)
+-- tests that agree count the same
+count_same : (t u : ℕ → Bool) (ps : List ℕ) → ((p : ℕ) → t p ≡ u p) → count_by t ps ≡ count_by u ps
+count_same t u [] f = refl
+count_same t u (p ∷ ps) f = count-cons t p ps ∙ ap₂ (λ b n. cond b 1 0 + n) (f p) (count_same t u ps f) ∙ sym (count-cons u p ps)
 
-pub all_tried : (s : Shape) (h k : History) (c : ℕ) (ps : List ℕ) → IsLegal s h → flight h c ≡ ps → k ≡ h ++ map (try_event s h c) ps → AllTried h k c ps
+map_same : (f g : ℕ → Event) → ((p : ℕ) → f p ≡ g p) → (ps : List ℕ) → map f ps ≡ map g ps
+map_same f g e [] = refl
+map_same f g e (p ∷ ps) = ap₂ (λ x xs. x ∷ xs) (e p) (map_same f g e ps)
+
+-- a batch that is all in flight, once each page of it was tried: the pinned ones are left
+pub record AllTried (s : Shape) (h k : History) (c : ℕ) (ps : List ℕ) : Type 0 where
+  pub still : still_flying k c ps ≡ filter (is_pinned s h) ps
+  pub front : flight k c ≡ still_flying k c ps ++ []
+  pub dropped : (q : ℕ) → drops s k q ≡ drops s h q
+  pub returns : put_back_events s k c ps ≡ map (return_event s h c) (filter (is_pinned s h) ps)
+
+pub all_tried : (s : Shape) (h k : History) (c : ℕ) (ps : List ℕ) → IsLegal s h → flight h c ≡ ps → k ≡ h ++ map (try_event s h c) ps → AllTried s h k c ps
 all_tried s h k c ps l f is =
     let P : History → Type 0 = λ x. Tried s h x c [] ps [] in
     let r : Tried s h k c [] ps [] = subst P (sym is) (tries_run s h c ps [] l (f ∙ sym (append_none ps))) in
-    let pinned : List ℕ = filter (is_pinned h) ps in
+    let pinned : List ℕ = filter (is_pinned s h) ps in
     let left : flight k c ≡ pinned = r.left ∙ append_none pinned in
     let still : still_flying k c ps ≡ pinned =
-    filter_in (λ q. has_page q (flight k c)) (is_pinned h) ps (λ q y. ap (has_page q) left ∙ has_passed (is_pinned h) q ps ∙ ap (λ b. is_pinned h q && b) y ∙ and_true (is_pinned h q)) in
+    filter_in (λ q. has_page q (flight k c)) (is_pinned s h) ps (λ q y. ap (has_page q) left ∙ has_passed (is_pinned s h) q ps ∙ ap (λ b. is_pinned s h q && b) y ∙ and_true (is_pinned s h q)) in
     record {
       still = still;
       front = left ∙ sym (append_none (still_flying k c ps) ∙ still);
-      closed = r.closed_same;
-      returns = ap₂ (λ z qs. map (return_as z c) qs) r.closed_same still;
+      dropped = r.dropped_same;
+      returns = ap (map (return_event s k c)) still ∙ map_same (return_event s k c) (return_event s h c) (λ q. ap (λ z. return_as z c q) (r.dropped_same q)) pinned;
     } where
       and_true : (b : Bool) → (b && true) ≡ b
       and_true true = refl
       and_true false = refl
 
+abbrev bit : Bool → ℕ
+bit b = cond b 1 0
+
 -- how many events of each kind a list has
-pub record Counts (es : List Event) (taken split pinned back dropped : ℕ) : Type 0 where
+pub record Counts (es : List Event) (taken split pinned back dropped used : ℕ) : Type 0 where
   pub taken_is : count_of is_taken es ≡ taken
   pub split_is : count_of is_split_off es ≡ split
   pub pinned_is : count_of is_pinned_found es ≡ pinned
   pub back_is : count_of is_back es ≡ back
   pub dropped_is : count_of is_dropped es ≡ dropped
+  pub used_is : count_of is_used_found es ≡ used
 
 first_counts : (t : What → Bool) (e : Event) (es : List Event) (n : ℕ) → count_of t es ≡ n → count_of t (e ∷ es) ≡ cond (t e.what) 1 0 + n
 unfolding count_of
@@ -163,102 +210,169 @@ both_count t (e ∷ es) gs n m y z =
     count-cons (λ (x : Event). t x.what) e (es ++ gs)
     ∙ omega (arith, both_count t es gs (count_of t es) m refl z, sym (count-cons (λ (x : Event). t x.what) e es) ∙ y)
 
-counts_none : Counts [] 0 0 0 0 0
+counts_none : Counts [] 0 0 0 0 0 0
 unfolding count_of
-counts_none = record { taken_is = refl; split_is = refl; pinned_is = refl; back_is = refl; dropped_is = refl }
+counts_none = record { taken_is = refl; split_is = refl; pinned_is = refl; back_is = refl; dropped_is = refl; used_is = refl }
 
-pub counts_both : (es gs : List Event) (a b d e f i j k l m : ℕ) → Counts es a b d e f → Counts gs i j k l m → Counts (es ++ gs) (a + i) (b + j) (d + k) (e + l) (f + m)
-counts_both es gs a b d e f i j k l m x y = record {
+pub counts_both : (es gs : List Event) (a b d e f u i j k l m v : ℕ) → Counts es a b d e f u → Counts gs i j k l m v → Counts (es ++ gs) (a + i) (b + j) (d + k) (e + l) (f + m) (u + v)
+counts_both es gs a b d e f u i j k l m v x y = record {
   taken_is = both_count is_taken es gs a i x.taken_is y.taken_is;
   split_is = both_count is_split_off es gs b j x.split_is y.split_is;
   pinned_is = both_count is_pinned_found es gs d k x.pinned_is y.pinned_is;
   back_is = both_count is_back es gs e l x.back_is y.back_is;
   dropped_is = both_count is_dropped es gs f m x.dropped_is y.dropped_is;
+  used_is = both_count is_used_found es gs u v x.used_is y.used_is;
 }
 
-counts_first : (w : Event) (es : List Event) (a b d e f i j k l m : ℕ) → Counts es a b d e f → i ≡ cond (is_taken w.what) 1 0 + a → j ≡ cond (is_split_off w.what) 1 0 + b →
-    k ≡ cond (is_pinned_found w.what) 1 0 + d → l ≡ cond (is_back w.what) 1 0 + e → m ≡ cond (is_dropped w.what) 1 0 + f → Counts (w ∷ es) i j k l m
-counts_first w es a b d e f i j k l m x u v y z t = record {
-  taken_is = first_counts is_taken w es a x.taken_is ∙ sym u;
-  split_is = first_counts is_split_off w es b x.split_is ∙ sym v;
-  pinned_is = first_counts is_pinned_found w es d x.pinned_is ∙ sym y;
-  back_is = first_counts is_back w es e x.back_is ∙ sym z;
-  dropped_is = first_counts is_dropped w es f x.dropped_is ∙ sym t;
+counts_first : (w : Event) (es : List Event) (a b d e f g : ℕ) → Counts es a b d e f g →
+    Counts (w ∷ es) (cond (is_taken w.what) 1 0 + a) (cond (is_split_off w.what) 1 0 + b) (cond (is_pinned_found w.what) 1 0 + d) (cond (is_back w.what) 1 0 + e)
+    (cond (is_dropped w.what) 1 0 + f) (cond (is_used_found w.what) 1 0 + g)
+counts_first w es a b d e f g x = record {
+  taken_is = first_counts is_taken w es a x.taken_is;
+  split_is = first_counts is_split_off w es b x.split_is;
+  pinned_is = first_counts is_pinned_found w es d x.pinned_is;
+  back_is = first_counts is_back w es e x.back_is;
+  dropped_is = first_counts is_dropped w es f x.dropped_is;
+  used_is = first_counts is_used_found w es g x.used_is;
+}
+
+-- counts that are told otherwise
+counts_as : (es : List Event) (a b d e f g i j k l m n : ℕ) → Counts es a b d e f g → a ≡ i → b ≡ j → d ≡ k → e ≡ l → f ≡ m → g ≡ n → Counts es i j k l m n
+counts_as es a b d e f g i j k l m n x p q r s t u = record {
+  taken_is = x.taken_is ∙ p;
+  split_is = x.split_is ∙ q;
+  pinned_is = x.pinned_is ∙ r;
+  back_is = x.back_is ∙ s;
+  dropped_is = x.dropped_is ∙ t;
+  used_is = x.used_is ∙ u;
 }
 
 -- takes, tries and returns
-pub counts_takes : (c : ℕ) (ps : List ℕ) → Counts (takes_of c ps) (length ps) 0 0 0 0
+pub counts_takes : (c : ℕ) (ps : List ℕ) → Counts (takes_of c ps) (length ps) 0 0 0 0 0
 counts_takes c [] = counts_none
-counts_takes c (p ∷ ps) = counts_first (by c (what.Taken p)) (takes_of c ps) (length ps) 0 0 0 0 _ _ _ _ _ (counts_takes c ps) (omega arith) (omega arith) (omega arith) (omega arith) (omega arith)
+counts_takes c (p ∷ ps) =
+    let r = counts_first (by c (what.Taken p)) (takes_of c ps) (length ps) 0 0 0 0 0 (counts_takes c ps) in
+    counts_as (takes_of c (p ∷ ps)) _ _ _ _ _ _ (length (p ∷ ps)) 0 0 0 0 0 r (omega arith) refl refl refl refl refl
 
 none_pinned : (n : ℕ) → nat_eq n 0 ≡ not (nat_lt 0 n)
 none_pinned n = grind (arith, nat_tests)
 
-abbrev pub unpinned : History → List ℕ → List ℕ
-unpinned h ps = filter (λ p. not (is_pinned h p)) ps
+-- a try of page p splits it
+abbrev pub gets_split : Shape → History → ℕ → Bool
+gets_split s h p = is_worth_split s h p && nat_eq (pins h p) 0
 
-pub counts_tries : (s : Shape) (h : History) (c : ℕ) (ps : List ℕ) → Counts (map (try_event s h c) ps) 0 (length (unpinned h ps)) (length (filter (is_pinned h) ps)) 0 0
+pub counts_tries : (s : Shape) (h : History) (c : ℕ) (ps : List ℕ) → Counts (map (try_event s h c) ps) 0 (count_by (gets_split s h) ps) (count_by (is_pinned s h) ps) 0 0 (count_by (is_used s h) ps)
 counts_tries s h c [] = counts_none
-counts_tries s h c (p ∷ ps) = go (nat_eq (pins h p) 0) (is_pinned h p) (none_pinned (pins h p)) (counts_tries s h c ps) where
-  go : (a b : Bool) → a ≡ not b → Counts (map (try_event s h c) ps) 0 (length (unpinned h ps)) (length (filter (is_pinned h) ps)) 0 0 →
-      Counts (by c (cond a (what.Split p (unused s h p)) (what.Pinned p)) ∷ map (try_event s h c) ps) 0 (length (cond (not b) (p ∷ unpinned h ps) (unpinned h ps)))
-      (length (cond b (p ∷ filter (is_pinned h) ps) (filter (is_pinned h) ps))) 0 0
-  go true true e x = absurd (cc)
-  go true false e x = counts_first (by c (what.Split p (unused s h p))) (map (try_event s h c) ps) 0 (length (unpinned h ps)) (length (filter (is_pinned h) ps)) 0 0 _ _ _ _ _ x (omega arith) (omega arith) (omega arith) (omega arith) (omega arith)
-  go false true e x = counts_first (by c (what.Pinned p)) (map (try_event s h c) ps) 0 (length (unpinned h ps)) (length (filter (is_pinned h) ps)) 0 0 _ _ _ _ _ x (omega arith) (omega arith) (omega arith) (omega arith) (omega arith)
-  go false false e x = absurd (cc)
+counts_tries s h c (p ∷ ps) =
+    let a : Bool = is_worth_split s h p in
+    let b : Bool = nat_eq (pins h p) 0 in
+    let d : Bool = nat_lt 0 (pins h p) in
+    let r = counts_first (try_as s h c p a b) (map (try_event s h c) ps) 0 (count_by (gets_split s h) ps) (count_by (is_pinned s h) ps) 0 0 (count_by (is_used s h) ps) (counts_tries s h c ps) in
+    let w = go a b d (none_pinned (pins h p)) in
+    counts_as (map (try_event s h c) (p ∷ ps)) _ _ _ _ _ _ 0 (count_by (gets_split s h) (p ∷ ps)) (count_by (is_pinned s h) (p ∷ ps)) 0 0 (count_by (is_used s h) (p ∷ ps)) r
+    (omega (arith, w.0))
+    (ap (λ n. n + count_by (gets_split s h) ps) w.1 ∙ sym (count-cons (gets_split s h) p ps))
+    (ap (λ n. n + count_by (is_pinned s h) ps) w.2 ∙ sym (count-cons (is_pinned s h) p ps))
+    (omega (arith, w.3)) (omega (arith, w.4))
+    (ap (λ n. n + count_by (is_used s h) ps) w.5 ∙ sym (count-cons (is_used s h) p ps)) where
+      go : (a b d : Bool) → b ≡ not d →
+          (bit (is_taken (try_as s h c p a b).what) ≡ 0) × (bit (is_split_off (try_as s h c p a b).what) ≡ bit (a && b))
+          × (bit (is_pinned_found (try_as s h c p a b).what) ≡ bit (a && d)) × (bit (is_back (try_as s h c p a b).what) ≡ 0)
+          × (bit (is_dropped (try_as s h c p a b).what) ≡ 0) × (bit (is_used_found (try_as s h c p a b).what) ≡ bit (not a))
+      go true true true e = absurd (cc)
+      go true true false e = (refl, refl, refl, refl, refl, refl)
+      go true false true e = (refl, refl, refl, refl, refl, refl)
+      go true false false e = absurd (cc)
+      go false b d e = (refl, refl, refl, refl, refl, refl)
 
-pub counts_returns : (c : ℕ) (z : Bool) (qs : List ℕ) → Counts (map (return_as z c) qs) 0 0 0 (cond z 0 (length qs)) (cond z (length qs) 0)
-counts_returns c true [] = counts_none
-counts_returns c false [] = counts_none
-counts_returns c true (q ∷ qs) = counts_first (by c (what.Dropped q)) (map (return_as true c) qs) 0 0 0 0 (length qs) _ _ _ _ _ (counts_returns c true qs) (omega arith) (omega arith) (omega arith) (omega arith) (omega arith)
-counts_returns c false (q ∷ qs) = counts_first (by c (what.Back q)) (map (return_as false c) qs) 0 0 0 (length qs) 0 _ _ _ _ _ (counts_returns c false qs) (omega arith) (omega arith) (omega arith) (omega arith) (omega arith)
+pub counts_returns : (s : Shape) (h : History) (c : ℕ) (qs : List ℕ) → Counts (map (return_event s h c) qs) 0 0 0 (count_by (goes_back s h) qs) (count_by (drops s h) qs) 0
+counts_returns s h c [] = counts_none
+counts_returns s h c (q ∷ qs) =
+    let z : Bool = drops s h q in
+    let r = counts_first (return_as z c q) (map (return_event s h c) qs) 0 0 0 (count_by (goes_back s h) qs) (count_by (drops s h) qs) 0 (counts_returns s h c qs) in
+    let w = go z in
+    counts_as (map (return_event s h c) (q ∷ qs)) _ _ _ _ _ _ 0 0 0 (count_by (goes_back s h) (q ∷ qs)) (count_by (drops s h) (q ∷ qs)) 0 r
+    (omega (arith, w.0)) (omega (arith, w.1)) (omega (arith, w.2))
+    (ap (λ n. n + count_by (goes_back s h) qs) w.3 ∙ sym (count-cons (goes_back s h) q qs))
+    (ap (λ n. n + count_by (drops s h) qs) w.4 ∙ sym (count-cons (drops s h) q qs))
+    (omega (arith, w.5)) where
+      go : (z : Bool) →
+          (bit (is_taken (return_as z c q).what) ≡ 0) × (bit (is_split_off (return_as z c q).what) ≡ 0) × (bit (is_pinned_found (return_as z c q).what) ≡ 0)
+          × (bit (is_back (return_as z c q).what) ≡ bit (not z)) × (bit (is_dropped (return_as z c q).what) ≡ bit z) × (bit (is_used_found (return_as z c q).what) ≡ 0)
+      go true = (refl, refl, refl, refl, refl, refl)
+      go false = (refl, refl, refl, refl, refl, refl)
 
 pub counts_behind : (s : Shape) (h : History) (c : ℕ) (ps : List ℕ) →
-    Counts (events_behind s h c ps) 0 (length (unpinned h ps)) (length (filter (is_pinned h) ps))
-    (cond (is_closed h) 0 (length (filter (is_pinned h) ps))) (cond (is_closed h) (length (filter (is_pinned h) ps)) 0)
+    Counts (events_behind s h c ps) 0 (count_by (gets_split s h) ps) (count_by (is_pinned s h) ps)
+    (count_by (goes_back s h) (filter (is_pinned s h) ps)) (count_by (drops s h) (filter (is_pinned s h) ps)) (count_by (is_used s h) ps)
 counts_behind s h c ps =
-    let qs : List ℕ = filter (is_pinned h) ps in
-    let r : Counts (events_behind s h c ps) 0 (length (unpinned h ps) + 0) (length qs + 0) (0 + cond (is_closed h) 0 (length qs)) (0 + cond (is_closed h) (length qs) 0) =
-    counts_both (map (try_event s h c) ps) (map (return_event h c) qs) 0 (length (unpinned h ps)) (length qs) 0 0 0 0 0 (cond (is_closed h) 0 (length qs)) (cond (is_closed h) (length qs) 0)
-    (counts_tries s h c ps) (counts_returns c (is_closed h) qs) in
-    record { taken_is = r.taken_is; split_is = r.split_is ∙ omega arith; pinned_is = r.pinned_is ∙ omega arith; back_is = r.back_is ∙ omega arith; dropped_is = r.dropped_is ∙ omega arith }
+    let qs : List ℕ = filter (is_pinned s h) ps in
+    let r = counts_both (map (try_event s h c) ps) (map (return_event s h c) qs) 0 (count_by (gets_split s h) ps) (count_by (is_pinned s h) ps) 0 0 (count_by (is_used s h) ps)
+    0 0 0 (count_by (goes_back s h) qs) (count_by (drops s h) qs) 0 (counts_tries s h c ps) (counts_returns s h c qs) in
+    counts_as (events_behind s h c ps) _ _ _ _ _ _ 0 (count_by (gets_split s h) ps) (count_by (is_pinned s h) ps) (count_by (goes_back s h) qs) (count_by (drops s h) qs) (count_by (is_used s h) ps) r
+    (omega arith) (omega arith) (omega arith) (omega arith) (omega arith) (omega arith)
+
+-- each page that is tried is split, found pinned or found in use
+three_kinds : (s : Shape) (h : History) (ps : List ℕ) → count_by (gets_split s h) ps + count_by (is_pinned s h) ps + count_by (is_used s h) ps ≡ length ps
+three_kinds s h [] = refl
+three_kinds s h (p ∷ ps) =
+    omega (
+      arith,
+      count-cons (gets_split s h) p ps,
+      count-cons (is_pinned s h) p ps,
+      count-cons (is_used s h) p ps,
+      one (is_worth_split s h p) (nat_eq (pins h p) 0) (nat_lt 0 (pins h p)) (none_pinned (pins h p)),
+      three_kinds s h ps,
+    ) where
+      one : (a b d : Bool) → b ≡ not d → bit (a && b) + bit (a && d) + bit (not a) ≡ 1
+      one true true true e = absurd (cc)
+      one true true false e = refl
+      one true false true e = refl
+      one true false false e = absurd (cc)
+      one false b d e = refl
+
+-- each page that is returned goes back or is dropped
+two_kinds : (s : Shape) (h : History) (qs : List ℕ) → count_by (goes_back s h) qs + count_by (drops s h) qs ≡ length qs
+two_kinds s h [] = refl
+two_kinds s h (q ∷ qs) = omega (arith, count-cons (goes_back s h) q qs, count-cons (drops s h) q qs, one (drops s h q), two_kinds s h qs) where
+  one : (z : Bool) → bit (not z) + bit z ≡ 1
+  one true = refl
+  one false = refl
 
 -- a reply with these numbers
-pub counted_reply : (es : List Event) (x : ScanReply) → Counts es x.taken x.split x.pinned x.back x.dropped → scan_reply es ≡ x
-counted_reply es x r = rw (r.taken_is, r.split_is, r.pinned_is, r.back_is, r.dropped_is) refl
+pub counted_reply : (es : List Event) (x : ScanReply) → Counts es x.taken x.split x.pinned x.back x.dropped x.used → scan_reply es ≡ x
+counted_reply es x r = rw (r.taken_is, r.split_is, r.pinned_is, r.back_is, r.dropped_is, r.used_is) refl
 
 abbrev the_reply : ℕ → ℕ → BackReply
 the_reply b d = record { back = b; dropped = d }
 
-abbrev the_scan : ℕ → ℕ → ℕ → ℕ → ℕ → ScanReply
-the_scan a b d e f = record { taken = a; split = b; pinned = d; back = e; dropped = f }
+abbrev the_scan : ℕ → ℕ → ℕ → ℕ → ℕ → ℕ → ScanReply
+the_scan a b d e f g = record { taken = a; split = b; pinned = d; back = e; dropped = f; used = g }
 
--- the reply of a scan behind its take, by that of the put-back
-pub behind_reply : (s : Shape) (h k : History) (c : ℕ) (ps : List ℕ) (back dropped n : ℕ) → AllTried h k c ps → the_reply back dropped ≡ back_reply k (still_flying k c ps) →
-    n ≡ length ps → (back + dropped ≤ n) × (the_scan n (n - (back + dropped)) (back + dropped) back dropped ≡ record (scan_reply (events_behind s h c ps)) { taken = length ps })
-behind_reply s h k c ps back dropped n a e is =
-    let m : ℕ = length (filter (is_pinned h) ps) in
-    let many : length (still_flying k c ps) ≡ m = ap length a.still in
-    let parts : (back ≡ cond (is_closed h) 0 m) × (dropped ≡ cond (is_closed h) m 0) × (back + dropped ≡ m) =
-    split_reply (is_closed h) m (e ∙ ap₂ (λ (z : Bool) (x : ℕ). cond z (the_reply 0 x) (the_reply x 0)) a.closed many) in
-    let both : length (filter (is_pinned h) ps) + length (unpinned h ps) ≡ length ps = length-filter_both (is_pinned h) (λ p. not (is_pinned h p)) (λ p. refl) ps in
-    let r = counts_behind s h c ps in (
-      omega (arith, parts.2, both, is),
-      sym (numbers (scan_reply (events_behind s h c ps)) is (r.split_is ∙ omega (arith, parts.2, both, is)) (r.pinned_is ∙ sym parts.2) (r.back_is ∙ sym parts.0) (r.dropped_is ∙ sym parts.1)),
+-- the reply of a scan behind its take, by that of the put-back and the pages found in use
+pub behind_reply : (s : Shape) (h k : History) (c : ℕ) (ps : List ℕ) (back dropped n used : ℕ) → AllTried s h k c ps → the_reply back dropped ≡ back_reply s k (still_flying k c ps) →
+    n ≡ length ps → used ≡ count_by (is_used s h) ps →
+    (used + (back + dropped) ≤ n) × (the_scan n (n - used - (back + dropped)) (back + dropped) back dropped used ≡ record (scan_reply (events_behind s h c ps)) { taken = length ps })
+behind_reply s h k c ps back dropped n used a e is u =
+    let qs : List ℕ = filter (is_pinned s h) ps in
+    let backs : back ≡ count_by (goes_back s h) qs =
+    ap (λ (x : BackReply). x.back) e ∙ ap (count_by (goes_back s k)) a.still ∙ count_same (goes_back s k) (goes_back s h) qs (λ q. ap not (a.dropped q)) in
+    let drops_are : dropped ≡ count_by (drops s h) qs =
+    ap (λ (x : BackReply). x.dropped) e ∙ ap (count_by (drops s k)) a.still ∙ count_same (drops s k) (drops s h) qs a.dropped in
+    let pinned : back + dropped ≡ count_by (is_pinned s h) ps = omega (arith, backs, drops_are, two_kinds s h qs, length-filter (is_pinned s h) ps) in
+    let r = counts_behind s h c ps in
+    let all = three_kinds s h ps in (
+      omega (arith, pinned, all, is, u),
+      sym (numbers (scan_reply (events_behind s h c ps)) is (r.split_is ∙ omega (arith, pinned, all, is, u)) (r.pinned_is ∙ sym pinned) (r.back_is ∙ sym backs) (r.dropped_is ∙ sym drops_are) (r.used_is ∙ sym u)),
     ) where
-      split_reply : (z : Bool) (m : ℕ) → the_reply back dropped ≡ cond z (the_reply 0 m) (the_reply m 0) → (back ≡ cond z 0 m) × (dropped ≡ cond z m 0) × (back + dropped ≡ m)
-      split_reply true m y = let b : back ≡ 0 = ap (λ (x : BackReply). x.back) y in let d : dropped ≡ m = ap (λ (x : BackReply). x.dropped) y in (b, d, omega arith)
-      split_reply false m y = let b : back ≡ m = ap (λ (x : BackReply). x.back) y in let d : dropped ≡ 0 = ap (λ (x : BackReply). x.dropped) y in (b, d, omega arith)
-
-      numbers : (x : ScanReply) → n ≡ length ps → x.split ≡ n - (back + dropped) → x.pinned ≡ back + dropped → x.back ≡ back → x.dropped ≡ dropped →
-          record x { taken = length ps } ≡ the_scan n (n - (back + dropped)) (back + dropped) back dropped
-      numbers x u v y z t = rw (v, y, z, t, sym u) refl
+      numbers : (x : ScanReply) → n ≡ length ps → x.split ≡ n - used - (back + dropped) → x.pinned ≡ back + dropped → x.back ≡ back → x.dropped ≡ dropped → x.used ≡ used →
+          record x { taken = length ps } ≡ the_scan n (n - used - (back + dropped)) (back + dropped) back dropped used
+      numbers x u v y z t w = rw (v, y, z, t, w, sym u) refl
 
 -- a batch that was all in flight, and each page of which was tried
 module _ (a b : NodeState) (t : BatchState) (c : ℕ) (ps : List ℕ) (l : IsLegal a.shape a.journal) (f : flight a.journal c ≡ ps) (did : Did a b c (map (try_event a.shape a.journal c) ps))
     (who : t.caller ≡ c) (pages : t.pages ≡ ps) where
-  tried : AllTried a.journal b.journal c ps
+  tried : AllTried a.shape a.journal b.journal c ps
   tried = all_tried a.shape a.journal b.journal c ps l f did.journal
 
   same_still : still_flying b.journal t.caller t.pages ≡ still_flying b.journal c ps
@@ -269,31 +383,34 @@ module _ (a b : NodeState) (t : BatchState) (c : ℕ) (ps : List ℕ) (l : IsLeg
   tried_front = record { others = []; front = ap (flight b.journal) who ∙ tried.front ∙ ap (λ xs. xs ++ []) (sym same_still) }
 
   -- there is room for that
-  pub tried_room : 2 * length ps ≤ a.room → length (put_back_events b.journal t.caller t.pages) ≤ b.room
+  pub tried_room : 2 * length ps ≤ a.room → length (put_back_events b.shape b.journal t.caller t.pages) ≤ b.room
   tried_room room =
       omega (
         arith,
         did.room,
         length-map ps (try_event a.shape a.journal c),
-        length-map (still_flying b.journal t.caller t.pages) (return_event b.journal t.caller),
+        length-map (still_flying b.journal t.caller t.pages) (return_event b.shape b.journal t.caller),
         length-filter (λ q. has_page q (flight b.journal t.caller)) t.pages,
         count_by-le-length (λ q. has_page q (flight b.journal t.caller)) t.pages,
         ap length pages,
       )
 
   -- what was done with it
-  pub tried_returned : (d : NodeState) → Did b d t.caller (put_back_events b.journal t.caller t.pages) → Did a d c (events_behind a.shape a.journal c ps)
+  pub tried_returned : (d : NodeState) → Did b d t.caller (put_back_events b.shape b.journal t.caller t.pages) → Did a d c (events_behind a.shape a.journal c ps)
   tried_returned d m =
-      let C : ℕ → Type 0 = λ x. Did b d x (put_back_events b.journal x t.pages) in
-      let P : List ℕ → Type 0 = λ x. Did b d c (put_back_events b.journal c x) in
+      let S : Shape → Type 0 = λ z. Did b d t.caller (put_back_events z b.journal t.caller t.pages) in
+      let C : ℕ → Type 0 = λ x. Did b d x (put_back_events a.shape b.journal x t.pages) in
+      let P : List ℕ → Type 0 = λ x. Did b d c (put_back_events a.shape b.journal c x) in
       let D : List Event → Type 0 = λ x. Did b d c x in
-      did_then a b d c (map (try_event a.shape a.journal c) ps) (map (return_event a.journal c) (filter (is_pinned a.journal) ps)) did
-      (subst D tried.returns (subst P pages (subst C who m)))
+      did_then a b d c (map (try_event a.shape a.journal c) ps) (map (return_event a.shape a.journal c) (filter (is_pinned a.shape a.journal) ps)) did
+      (subst D tried.returns (subst P pages (subst C who (subst S did.shape m))))
 
   -- what is answered
-  pub tried_reply : (r : BackReply) (n : ℕ) → r ≡ back_reply b.journal (still_flying b.journal t.caller t.pages) → n ≡ length ps →
-      (r.back + r.dropped ≤ n) × (the_scan n (n - (r.back + r.dropped)) (r.back + r.dropped) r.back r.dropped ≡ record (scan_reply (events_behind a.shape a.journal c ps)) { taken = length ps })
-  tried_reply r n e is = behind_reply a.shape a.journal b.journal c ps r.back r.dropped n tried (e ∙ ap (back_reply b.journal) same_still) is
+  pub tried_reply : (r : BackReply) (n used : ℕ) → r ≡ back_reply b.shape b.journal (still_flying b.journal t.caller t.pages) → n ≡ length ps → used ≡ count_by (is_used a.shape a.journal) ps →
+      (used + (r.back + r.dropped) ≤ n)
+      × (the_scan n (n - used - (r.back + r.dropped)) (r.back + r.dropped) r.back r.dropped used ≡ record (scan_reply (events_behind a.shape a.journal c ps)) { taken = length ps })
+  tried_reply r n used e is u =
+      behind_reply a.shape a.journal b.journal c ps r.back r.dropped n used tried (e ∙ ap (λ z. back_reply z b.journal (still_flying b.journal t.caller t.pages)) did.shape ∙ ap (back_reply a.shape b.journal) same_still) is u
 
 -- a scan is refused as a take is
 pub scan_as_take : (s : Shape) (h : History) (c : ℕ) → refusal s h (call.scan c) ≡ refusal s h (call.take c)
@@ -302,11 +419,12 @@ scan_as_take s h c = refl
 
 -- a take, with what was reserved before it
 pub took_reserved : (a r b : NodeState) (c n : ℕ) → r.shape ≡ a.shape → r.journal ≡ a.journal → a.room ≤ r.room → r.table.accesses ≡ a.table.accesses →
-    Did r b c (take_events r.journal c n) → Did a b c (take_events a.journal c n)
+    Did r b c (take_events r.shape r.journal c n) → Did a b c (take_events a.shape a.journal c n)
 took_reserved a r b c n s j g w m =
-    let es : List Event = take_events a.journal c n in
-    let T : History → Type 0 = λ h. Did r b c (take_events h c n) in
-    let k : Did r b c es = subst T j m in
+    let es : List Event = take_events a.shape a.journal c n in
+    let S : Shape → Type 0 = λ z. Did r b c (take_events z r.journal c n) in
+    let T : History → Type 0 = λ h. Did r b c (take_events a.shape h c n) in
+    let k : Did r b c es = subst T j (subst S s m) in
     record {
       shape = k.shape ∙ s;
       journal = k.journal ∙ ap (λ h. h ++ es) j;
@@ -319,68 +437,77 @@ took_reserved a r b c n s j g w m =
 abbrev pub whole_batch : ℕ → List ℕ → BatchState
 whole_batch c ps = record { caller = c; pages = ps; place = 0 }
 
-map_same : (f g : ℕ → Event) → ((p : ℕ) → f p ≡ g p) → (ps : List ℕ) → map f ps ≡ map g ps
-map_same f g e [] = refl
-map_same f g e (p ∷ ps) = ap₂ (λ x xs. x ∷ xs) (e p) (map_same f g e ps)
+-- a take of as many pages as are wanted and queued, with what was reserved before it
+module _ (a m b : NodeState) (c n k : ℕ) (same : m ≡ record a { room = m.room }) (is : k ≡ min n (length (queue a.shape a.journal))) where
+  pub took_admitted : a.room ≤ m.room → Did m b c (take_events m.shape m.journal c k) → Did a b c (take_events a.shape a.journal c n)
+  took_admitted more did =
+      let D : List Event → Type 0 = λ es. Did a b c es in
+      subst D (ap (take_events a.shape a.journal c) is ∙ ap (takes_of c) (take_min n (queue a.shape a.journal)))
+      (took_reserved a m b c k (ap (λ (x : NodeState). x.shape) same) (ap (λ (x : NodeState). x.journal) same) more (ap (λ (x : NodeState). x.table.accesses) same) did)
+
+  pub batch_admitted : (t : BatchState) → t ≡ whole_batch c (take k (queue m.shape m.journal)) → t ≡ whole_batch c (take n (queue a.shape a.journal))
+  batch_admitted t e =
+      e ∙ ap (whole_batch c)
+      (ap (λ (x : NodeState). take k (queue x.shape x.journal)) same ∙ ap (λ i. take i (queue a.shape a.journal)) is ∙ take_min n (queue a.shape a.journal))
 
 -- takes leave what is behind them
 behind_takes : (s : Shape) (h k : History) (c : ℕ) (ps : List ℕ) → TakesLeave s h k c → events_behind s k c ps ≡ events_behind s h c ps
 behind_takes s h k c ps t =
     ap₂ (λ xs ys. xs ++ ys) (map_same (try_event s k c) (try_event s h c) t.tries ps)
-    (ap₂ (λ z qs. map (return_as z c) qs) t.closed (filter_in (is_pinned k) (is_pinned h) ps (λ q y. t.pinned q)))
+    (ap (map (return_event s k c)) (filter_in (is_pinned s k) (is_pinned s h) ps (λ q y. t.pinned q)) ∙ map_same (return_event s k c) (return_event s h c) (λ q. ap (λ z. return_as z c q) (t.dropped q)) (filter (is_pinned s h) ps))
 
 empty_list : (ps : List ℕ) → length ps ≡ 0 → ps ≡ []
 empty_list [] e = refl
 empty_list (p ∷ ps) e = absurd (omega arith)
 
 -- a batch of a take by a caller that had nothing in flight
-module _ (a b : NodeState) (t : BatchState) (c n : ℕ) (l : IsLegal a.shape a.journal) (none : length (flight a.journal c) ≡ 0) (took : Did a b c (take_events a.journal c n))
-    (is : t ≡ whole_batch c (take n (queue a.journal))) where
+module _ (a b : NodeState) (t : BatchState) (c n : ℕ) (l : IsLegal a.shape a.journal) (none : length (flight a.journal c) ≡ 0) (took : Did a b c (take_events a.shape a.journal c n))
+    (is : t ≡ whole_batch c (take n (queue a.shape a.journal))) where
   -- it is all in flight
   pub scan_flies : flight b.journal t.caller ≡ t.pages
   scan_flies =
       ap (λ (x : BatchState). flight b.journal x.caller) is ∙ ap (λ h. flight h c) took.journal
-      ∙ (take_runs a.shape a.journal c n l (none_flies (flight a.journal c) none)).joined ∙ ap (λ ps. ps ++ take n (queue a.journal)) (empty_list (flight a.journal c) none)
+      ∙ (take_runs a.shape a.journal c n l (none_flies (flight a.journal c) none)).joined ∙ ap (λ ps. ps ++ take n (queue a.shape a.journal)) (empty_list (flight a.journal c) none)
       ∙ sym (ap (λ (x : BatchState). x.pages) is)
 
-  behind_is : events_behind b.shape b.journal t.caller t.pages ≡ events_behind a.shape a.journal c (take n (queue a.journal))
+  behind_is : events_behind b.shape b.journal t.caller t.pages ≡ events_behind a.shape a.journal c (take n (queue a.shape a.journal))
   behind_is =
-      let ps : List ℕ = take n (queue a.journal) in
+      let ps : List ℕ = take n (queue a.shape a.journal) in
       ap (λ (x : BatchState). events_behind b.shape b.journal x.caller x.pages) is
       ∙ ap₂ (λ s h. events_behind s h c ps) took.shape took.journal
-      ∙ behind_takes a.shape a.journal (a.journal ++ take_events a.journal c n) c ps (takes_leave a.shape a.journal c ps)
+      ∙ behind_takes a.shape a.journal (a.journal ++ take_events a.shape a.journal c n) c ps (takes_leave a.shape a.journal c ps)
 
-  whole_scan : take_events a.journal c n ++ events_behind a.shape a.journal c (take n (queue a.journal)) ≡ scan_events a.shape a.journal c n
+  whole_scan : take_events a.shape a.journal c n ++ events_behind a.shape a.journal c (take n (queue a.shape a.journal)) ≡ scan_events a.shape a.journal c n
   whole_scan =
-      let ps : List ℕ = take n (queue a.journal) in
-      sym (append_assoc (take_events a.journal c n) (map (try_event a.shape a.journal c) ps) (map (return_event a.journal c) (filter (is_pinned a.journal) ps)))
+      let ps : List ℕ = take n (queue a.shape a.journal) in
+      sym (append_assoc (take_events a.shape a.journal c n) (map (try_event a.shape a.journal c) ps) (map (return_event a.shape a.journal c) (filter (is_pinned a.shape a.journal) ps)))
 
   -- with what is behind the take it is the scan
   pub scan_recorded : (d : NodeState) → Did b d t.caller (events_behind b.shape b.journal t.caller t.pages) → Did a d c (scan_events a.shape a.journal c n)
   scan_recorded d m =
-      let es : List Event = events_behind a.shape a.journal c (take n (queue a.journal)) in
+      let es : List Event = events_behind a.shape a.journal c (take n (queue a.shape a.journal)) in
       let B : List Event → Type 0 = λ xs. Did b d t.caller xs in
       let C : ℕ → Type 0 = λ x. Did b d x es in
       let D : List Event → Type 0 = λ xs. Did a d c xs in
-      subst D whole_scan (did_then a b d c (take_events a.journal c n) es took (subst C (ap (λ (x : BatchState). x.caller) is) (subst B behind_is m)))
+      subst D whole_scan (did_then a b d c (take_events a.shape a.journal c n) es took (subst C (ap (λ (x : BatchState). x.caller) is) (subst B behind_is m)))
 
   pub scan_replied : (x : ScanReply) → x ≡ record (scan_reply (events_behind b.shape b.journal t.caller t.pages)) { taken = length t.pages } →
       x ≡ scan_reply (scan_events a.shape a.journal c n)
   scan_replied x e =
-      let ps : List ℕ = take n (queue a.journal) in
+      let ps : List ℕ = take n (queue a.shape a.journal) in
+      let s : Shape = a.shape in
       let h : History = a.journal in
-      let es : List Event = events_behind a.shape h c ps in
-      let m : ℕ = length (filter (is_pinned h) ps) in
-      let r : Counts es 0 (length (unpinned h ps)) m (cond (is_closed h) 0 m) (cond (is_closed h) m 0) = counts_behind a.shape h c ps in
-      let all = counts_both (takes_of c ps) es (length ps) 0 0 0 0 0 (length (unpinned h ps)) m (cond (is_closed h) 0 m) (cond (is_closed h) m 0) (counts_takes c ps) r in
+      let es : List Event = events_behind s h c ps in
+      let qs : List ℕ = filter (is_pinned s h) ps in
+      let split : ℕ = count_by (gets_split s h) ps in
+      let pinned : ℕ = count_by (is_pinned s h) ps in
+      let back : ℕ = count_by (goes_back s h) qs in
+      let dropped : ℕ = count_by (drops s h) qs in
+      let used : ℕ = count_by (is_used s h) ps in
+      let r : Counts es 0 split pinned back dropped used = counts_behind s h c ps in
+      let all = counts_both (takes_of c ps) es (length ps) 0 0 0 0 0 0 split pinned back dropped used (counts_takes c ps) r in
       e ∙ ap₂ (λ xs (k : ℕ). let y : ScanReply = record (scan_reply xs) { taken = k } in y) behind_is (ap (λ (y : BatchState). length y.pages) is)
-      ∙ rw (r.split_is, r.pinned_is, r.back_is, r.dropped_is) refl
-      ∙ sym (counted_reply (takes_of c ps ++ es) (the_scan (length ps) (length (unpinned h ps)) m (cond (is_closed h) 0 m) (cond (is_closed h) m 0))
-      (record {
-        taken_is = all.taken_is ∙ omega arith;
-        split_is = all.split_is ∙ omega arith;
-        pinned_is = all.pinned_is ∙ omega arith;
-        back_is = all.back_is ∙ omega arith;
-        dropped_is = all.dropped_is ∙ omega arith;
-      }))
+      ∙ rw (r.split_is, r.pinned_is, r.back_is, r.dropped_is, r.used_is) refl
+      ∙ sym (counted_reply (takes_of c ps ++ es) (the_scan (length ps) split pinned back dropped used)
+      (counts_as (takes_of c ps ++ es) _ _ _ _ _ _ (length ps) split pinned back dropped used all (omega arith) (omega arith) (omega arith) (omega arith) (omega arith) (omega arith)))
       ∙ ap scan_reply whole_scan

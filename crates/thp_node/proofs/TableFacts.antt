@@ -4,20 +4,20 @@ use Rattle.thp_model.specs.declared.shape.Shape.{Shape}
 use Rattle.thp_model.specs.History.{History}
 use Rattle.thp_model.specs.Counts.{is_live}
 use Rattle.thp_model.specs.Legal.{IsLegal}
-use Rattle.thp_page.specs.Slots.{IsHeld}
+use Rattle.thp_page.specs.Slots.{HoldsPage}
 use Rattle.thp_page.specs.Table.{Slot, Table}
-use Rattle.thp_node.specs.Holding.{IsNode, HasBlock}
-use Rattle.thp_node.specs.Homes.{LiesWherePlaced}
+use Rattle.thp_places.specs.Holding.{IsNode, HasBlock}
+use Rattle.thp_places.specs.Homes.{LiesWherePlaced}
 use Rattle.thp_node.specs.NodeState.{NodeState}
-use Rattle.thp_node.proofs.Admitting.{Found, at_home}
-use Rattle.thp_node.proofs.Homing.{Homed, Lies, legal_homed, live_block}
+use Rattle.thp_places.proofs.Admitting.{Found, at_home}
+use Rattle.thp_places.proofs.Homing.{Homed, Lies, legal_homed, live_block}
 
 -- each live page stands in its block
 pub live_has_block : (s : Shape) (h : History) (t : Table) (q : List ℕ) → IsNode s h t q → (p : ℕ) → is_live h p ≡ true → HasBlock t p
 live_has_block s h t q m p l =
     let w = live_block s h p (legal_homed s h m.legal) l in
     let there : Found s h t p w.0 = at_home s h t q p w.0 m w.1 in
-    let P : Option Slot → Type 0 = λ o. IsHeld o p in
+    let P : Option Slot → Type 0 = λ o. HoldsPage o p in
     (w.0, subst P (sym there.at) there.id_is)
 
 -- and that is where its allocation put it

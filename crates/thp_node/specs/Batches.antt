@@ -1,14 +1,18 @@
 -- What contracts see of a batch, what a try and a put-back answer, and what a scan counts.
-use Rattle.std.specs.Prelude.{◌≡◌, ◌≢◌, ℕ, ◌≤◌, ◌<◌, length, nat_eq, if◌then◌else◌, Bool, true, false, List, ◌++◌, drop, Option, Some, None}
+use Rattle.std.specs.Prelude.{◌≡◌, ◌≢◌, ℕ, ◌≤◌, ◌<◌, length, count_by, nat_eq, if◌then◌else◌, Bool, true, false, List, ◌++◌, drop, Option, Some, None}
+use Rattle.std.specs.List.{All}
 use Rattle.thp_model.specs.declared.events.Event.{Event}
 use Rattle.thp_model.specs.declared.events.What.{What}
-use Rattle.thp_model.specs.declared.events.What.TheVariants.{Taken, Split as SplitOf, Pinned as PinnedOf, Back, Dropped}
+use Rattle.thp_model.specs.declared.events.What.TheVariants.{Taken, Split as SplitOf, Pinned as PinnedOf, Used as UsedOf, Back, Dropped}
+use Rattle.thp_model.specs.declared.shape.Shape.{Shape}
 use Rattle.thp_model.specs.History.{History, count_of}
-use Rattle.thp_model.specs.Counts.{pins, is_closed}
-use Rattle.thp_model.specs.Places.{flight}
-use Rattle.thp_model.specs.Runs.{still_flying}
+use Rattle.thp_model.specs.Counts.{pins}
+use Rattle.thp_model.specs.Underused.{is_worth_split}
+use Rattle.thp_model.specs.Legal.{is_dropped as drops}
+use Rattle.thp_model.specs.Places.{flight, has_page}
+use Rattle.thp_model.specs.Runs.{still_flying, goes_back}
 use Rattle.thp_node.specs.declared.answers.Tried.{Tried}
-use Rattle.thp_node.specs.declared.answers.Tried.TheVariants.{Split, Pinned, Done}
+use Rattle.thp_node.specs.declared.answers.Tried.TheVariants.{Split, Pinned, Used, Done}
 use Rattle.thp_node.specs.declared.answers.BackReply.{BackReply}
 use Rattle.thp_node.specs.declared.answers.ScanReply.{ScanReply}
 
@@ -41,17 +45,18 @@ FrontsStay h k = (b : BatchState) → IsInFront h b → IsInFront k b
 abbrev pub OtherFrontsStay : ℕ → History → History → Type 0
 OtherFrontsStay c h k = (b : BatchState) → b.caller ≢ c → IsInFront h b → IsInFront k b
 
--- what a try of the next page answers
-abbrev pub tried : History → Option ℕ → Tried
-tried h None = Done
-tried h (Some p) = if nat_eq (pins h p) 0 then Split p else Pinned p
+-- a batch of caller c that has none of the pages ps, which are those of its flight, is in front of the flight at h
+abbrev pub OlderAreInFront : ℕ → List ℕ → History → Type 0
+OlderAreInFront c ps h = (b : BatchState) → b.caller ≡ c → All (λ p. has_page p ps ≡ false) b.pages → IsInFront h b
 
--- what a put-back of these pages answers: all go back, or all are dropped where the node is closed
-abbrev pub back_reply : History → List ℕ → BackReply
-back_reply h ps =
-    if is_closed h
-    then (record { back = 0; dropped = length ps })
-    else record { back = length ps; dropped = 0 }
+-- what a try of the next page answers
+abbrev pub tried : Shape → History → Option ℕ → Tried
+tried s h None = Done
+tried s h (Some p) = if is_worth_split s h p then if nat_eq (pins h p) 0 then Split p else Pinned p else Used p
+
+-- what a put-back of these pages answers: how many go back, and how many are dropped
+abbrev pub back_reply : Shape → History → List ℕ → BackReply
+back_reply s h ps = record { back = count_by (goes_back s h) ps; dropped = count_by (drops s h) ps }
 
 abbrev pub is_taken : What → Bool
 is_taken (Taken p) = true
@@ -64,6 +69,10 @@ is_split_off _ = false
 abbrev pub is_pinned_found : What → Bool
 is_pinned_found (PinnedOf p) = true
 is_pinned_found _ = false
+
+abbrev pub is_used_found : What → Bool
+is_used_found (UsedOf p) = true
+is_used_found _ = false
 
 abbrev pub is_back : What → Bool
 is_back (Back p) = true
@@ -81,4 +90,5 @@ scan_reply es = record {
   pinned = count_of is_pinned_found es;
   back = count_of is_back es;
   dropped = count_of is_dropped es;
+  used = count_of is_used_found es;
 }

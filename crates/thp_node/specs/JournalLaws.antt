@@ -1,5 +1,5 @@
 -- What the laws of every legal history say of the journal of a node.
-use Rattle.std.specs.Prelude.{◌≡◌, ℕ, ◌+◌, ◌*◌, ◌<◌, ◌≤◌, true, false, cond, nat_eq, nat_lt, List, [], ◌∷◌, ◌++◌, Some, slice_get, take, length, count_by}
+use Rattle.std.specs.Prelude.{◌≡◌, ℕ, ◌+◌, ◌*◌, ◌<◌, ◌≤◌, true, false, ◌&&◌, cond, nat_eq, nat_lt, List, [], ◌∷◌, ◌++◌, Some, slice_get, take, length, count_by}
 use Rattle.std.specs.List.{filter}
 use Rattle.thp_model.specs.declared.events.Event.{Event}
 use Rattle.thp_model.specs.declared.shape.Shape.{Shape}
@@ -12,18 +12,21 @@ use Rattle.thp_model.specs.FlightSteps.{flight_after}
 use Rattle.thp_model.specs.Frames.{places, is_held, frames_held, frames_given}
 use Rattle.thp_model.specs.PlaceLaws.{takes_of, acts_on, enters, is_others}
 use Rattle.thp_model.specs.FrameLaws.{gives_frame}
+use Rattle.thp_model.specs.UnderusedLaws.{finds_used}
+use Rattle.thp_model.specs.Counters.{thp_underused_split_page}
+use Rattle.thp_model.specs.Underused.{shrinks_underused, is_partly_mapped}
 
 -- the queue and all flights joined repeat no page
-unfoldable pub StandsOnce : History → Type 0
-StandsOnce h = (p : ℕ) → count_by (λ q. nat_eq q p) (standing h) ≤ 1
+unfoldable pub StandsOnce : Shape → History → Type 0
+StandsOnce s h = (p : ℕ) → count_by (λ q. nat_eq q p) (standing s h) ≤ 1
 
 -- each page there is live and not split
-unfoldable pub StandsWhole : History → Type 0
-StandsWhole h = (p : ℕ) → stands h p ≡ true → (is_live h p ≡ true) × (is_split h p ≡ false)
+unfoldable pub StandsWhole : Shape → History → Type 0
+StandsWhole s h = (p : ℕ) → stands s h p ≡ true → (is_live h p ≡ true) × (is_split h p ≡ false)
 
 -- each run of takes by one caller took the first pages of the queue, in order
-unfoldable pub TakesOldest : History → Type 0
-TakesOldest h = (before after : History) (c : ℕ) (ps : List ℕ) → h ≡ before ++ takes_of c ps ++ after → ps ≡ take (length ps) (queue before)
+unfoldable pub TakesOldest : Shape → History → Type 0
+TakesOldest s h = (before after : History) (c : ℕ) (ps : List ℕ) → h ≡ before ++ takes_of c ps ++ after → ps ≡ take (length ps) (queue s before)
 
 -- at each event about a page but its allocation the page was live: no freed page was taken, split, put back or dropped
 unfoldable pub LeavesFreedAlone : History → Type 0
@@ -47,9 +50,18 @@ HasFramesOnce s h =
 unfoldable pub KeepsFrames : Shape → History → Type 0
 KeepsFrames s h = subpages s * allocations h ≡ frames_held s h + frames_given h
 
--- a page holds a frame exactly while it lives
+-- a page holds a frame exactly while it lives, but for a split page where the switch is on
 unfoldable pub HoldsWhileLive : Shape → History → Type 0
-HoldsWhileLive s h = (p : ℕ) → some_below (subpages s) (is_held s h p) ≡ is_live h p
+HoldsWhileLive s h = (p : ℕ) → (shrinks_underused s && is_split h p) ≡ false → some_below (subpages s) (is_held s h p) ≡ is_live h p
+
+-- while the switch is off each page of the queue and of a flight is partly mapped, no page was found in use, and none was
+-- split as underused
+unfoldable pub NoneIsUnderused : Shape → History → Type 0
+NoneIsUnderused s h =
+    shrinks_underused s ≡ false →
+    ((p : ℕ) → stands s h p ≡ true → is_partly_mapped s h p ≡ true)
+    × ((k : ℕ) (e : Event) → slice_get h k ≡ Some e → finds_used e.what ≡ false)
+    × (thp_underused_split_page s h ≡ 0)
 
 -- two live pages have different blocks
 unfoldable pub LivesApart : History → Type 0
@@ -69,5 +81,5 @@ FlightsGoOn h =
     flight (before ++ e ∷ []) c ≡ flight_after c (flight before c) e.caller e.what
 
 -- and so did the queue
-unfoldable pub QueueGoesOn : History → Type 0
-QueueGoesOn h = (before after : History) (e : Event) → h ≡ before ++ e ∷ after → queue (before ++ e ∷ []) ≡ queue_after (queue before) e.what
+unfoldable pub QueueGoesOn : Shape → History → Type 0
+QueueGoesOn s h = (before after : History) (e : Event) → h ≡ before ++ e ∷ after → queue s (before ++ e ∷ []) ≡ queue_after s (queue s before) e.what

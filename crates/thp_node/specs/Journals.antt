@@ -1,20 +1,23 @@
 -- What the journal of a node keeps beside its events.
-use Rattle.std.specs.Prelude.{◌≡◌, ℕ, ◌*◌, ◌^◌, ◌≤◌, Bool, cond, nat_eq, length, List, slice_index_or, Option, Some, None}
+use Rattle.std.specs.Prelude.{◌≡◌, ℕ, ◌*◌, ◌^◌, ◌≤◌, Bool, false, not, cond, nat_eq, length, List, slice_index_or, Option, Some, None, IfSome, ◌<◌}
 use Rattle.thp_model.specs.declared.events.Outcome.{Outcome}
 use Rattle.thp_model.specs.declared.events.Outcome.TheVariants.{Freed}
 use Rattle.thp_model.specs.declared.events.What.{What}
-use Rattle.thp_model.specs.declared.events.What.TheVariants.{UnmapWhole, UnmapSub, Unpin, Taken, Split, Back, Dropped}
+use Rattle.thp_model.specs.declared.events.What.TheVariants.{UnmapWhole, UnmapSub, SplitPmd, Unpin, Taken, Split, Used, Back, Dropped}
 use Rattle.thp_model.specs.declared.shape.Shape.{Shape}
 use Rattle.thp_model.specs.Sets.{set_size}
 use Rattle.thp_model.specs.Shapes.{IsShape}
 use Rattle.thp_model.specs.History.{History}
-use Rattle.thp_model.specs.Counts.{is_closed, allocations}
-use Rattle.thp_model.specs.Counters.{thp_split_page, thp_split_page_failed, thp_deferred_split_page, thp_split_pmd}
+use Rattle.thp_model.specs.Counts.{is_closed, allocations, whole}
+use Rattle.thp_model.specs.Underused.{is_partly_mapped}
+use Rattle.thp_model.specs.Counters.{thp_split_page, thp_split_page_failed, thp_deferred_split_page, thp_split_pmd, thp_underused_split_page}
 use Rattle.thp_model.specs.Frames.{frames_given}
 use Rattle.thp_model.specs.Places.{flights, flight}
 use Rattle.thp_model.specs.Legal.{IsLegal}
-use Rattle.thp_node.specs.Homes.{flier}
+use Rattle.thp_places.specs.Homes.{flier}
 use Rattle.thp_node.specs.declared.answers.Counters.{Counters}
+use Rattle.thp_node.specs.declared.journal.Unsaid.{Unsaid}
+use Rattle.thp_node.specs.declared.journal.Unsaid.TheVariants.{Nothing, FreedFrom, OfSplit}
 
 -- the node's shape, the events so far, and how many more there is room for
 pub record JournalState : Type 0 where
@@ -23,11 +26,12 @@ pub record JournalState : Type 0 where
   pub room : ℕ
 
 -- the statistics that a history gives
-abbrev pub counters_of : History → Counters
-counters_of h = record {
+abbrev pub counters_of : Shape → History → Counters
+counters_of s h = record {
   split_page = thp_split_page h;
   split_page_failed = thp_split_page_failed h;
   deferred_split_page = thp_deferred_split_page h;
+  underused_split_page = thp_underused_split_page s h;
   split_pmd = thp_split_pmd h;
 }
 
@@ -40,9 +44,10 @@ pub record IsJournal (shape : Shape) (h : History) (next : ℕ) (closed : Bool) 
   -- also past the 64 callers, who have no page in flight
   pub flying_are : (c : ℕ) → slice_index_or flying c 0 ≡ length (flight h c)
   pub given_is : given ≡ frames_given h
-  pub counters_are : counters ≡ counters_of h
+  pub counters_are : counters ≡ counters_of shape h
   -- each event splits fewer than 2 ^ 32
   pub few_split_pmds : thp_split_pmd h ≤ 2 ^ 32 * length h
+  pub few_underused : thp_underused_split_page shape h ≤ length h
 
 -- the flight that page p leaves by an outcome: that in which it is, where it is freed
 abbrev pub left_by : History → ℕ → Outcome → Option ℕ
@@ -51,18 +56,51 @@ left_by h p _ = None
 
 -- the caller whose flight a page leaves by what caller c does
 abbrev pub leaves_of : History → ℕ → What → Option ℕ
-leaves_of h c (UnmapWhole p outcome set) = left_by h p outcome
-leaves_of h c (UnmapSub p first count outcome set) = left_by h p outcome
-leaves_of h c (Unpin p outcome set) = left_by h p outcome
+leaves_of h c (UnmapWhole outcome p set) = left_by h p outcome
+leaves_of h c (UnmapSub outcome p first count set) = left_by h p outcome
+leaves_of h c (Unpin outcome p set) = left_by h p outcome
 leaves_of h c (Split p set) = Some c
+leaves_of h c (Used p) = Some c
 leaves_of h c (Back p) = Some c
 leaves_of h c (Dropped p) = Some c
 leaves_of h c _ = None
+
+-- what an event does that it doesn't say itself
+abbrev pub unsaid_of : Shape → History → What → Unsaid
+unsaid_of s h (UnmapWhole outcome p set) = FreedFrom (left_by h p outcome)
+unsaid_of s h (UnmapSub outcome p first count set) = FreedFrom (left_by h p outcome)
+unsaid_of s h (Unpin outcome p set) = FreedFrom (left_by h p outcome)
+unsaid_of s h (Split p set) = OfSplit (whole h p) (is_partly_mapped s h p)
+unsaid_of s h _ = Nothing
+
+-- the caller whose flight a page leaves by what caller c does, told of what is unsaid
+abbrev pub leaves_by : ℕ → What → Unsaid → Option ℕ
+leaves_by c w (FreedFrom flier) = flier
+leaves_by c w (OfSplit n partly) = Some c
+leaves_by c (Used p) Nothing = Some c
+leaves_by c (Back p) Nothing = Some c
+leaves_by c (Dropped p) Nothing = Some c
+leaves_by c w Nothing = None
+
+-- how many PMD mappings an event splits, told of what is unsaid
+abbrev pub pmds_by : What → Unsaid → ℕ
+pmds_by w (OfSplit n partly) = n
+pmds_by (SplitPmd p) u = 1
+pmds_by w u = 0
+
+-- the event splits a page that isn't partly mapped, told of what is unsaid
+abbrev pub splits_as_underused : Unsaid → Bool
+splits_as_underused (OfSplit n partly) = not partly
+splits_as_underused u = false
 
 -- the caller whose flight a page joins by what caller c does
 abbrev pub joins_of : ℕ → What → Option ℕ
 joins_of c (Taken p) = Some c
 joins_of c _ = None
+
+-- the flight that a page joins has fewer than 255 pages
+abbrev pub HasFlightRoom : History → ℕ → What → Type 0
+HasFlightRoom h c w = IfSome (joins_of c w) (λ d. length (flight h d) < 255)
 
 -- 1 for that caller, and 0 for another or where there is none
 abbrev pub one_for : Option ℕ → ℕ → ℕ
@@ -71,8 +109,8 @@ one_for (Some c) d = cond (nat_eq c d) 1 0
 
 -- how many frames an event gives back
 abbrev pub frames_of : What → ℕ
-frames_of (UnmapWhole p outcome set) = set_size set
-frames_of (UnmapSub p first count outcome set) = set_size set
-frames_of (Unpin p outcome set) = set_size set
+frames_of (UnmapWhole outcome p set) = set_size set
+frames_of (UnmapSub outcome p first count set) = set_size set
+frames_of (Unpin outcome p set) = set_size set
 frames_of (Split p set) = set_size set
 frames_of _ = 0

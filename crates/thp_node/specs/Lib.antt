@@ -1,13 +1,9 @@
-pub mod Homes
 pub mod NodeState
 pub mod Journals
 pub mod JournalLaws
 pub mod Batches
 pub mod Calls
-pub mod Holding
-pub mod Linking
-pub mod PageCalls
-pub mod BlocksState
-pub mod Flying
+pub mod Chaining
 pub mod Takings
+pub mod Returning
 pub mod Scanning

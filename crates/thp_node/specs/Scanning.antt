@@ -1,11 +1,23 @@
 -- What a scan does behind its take. No public clause cites this module.
-use Rattle.std.specs.Prelude.{ℕ, List, ◌++◌, map}
+use Rattle.std.specs.Prelude.{ℕ, Bool, not, List, ◌++◌, map}
 use Rattle.std.specs.List.{filter}
 use Rattle.thp_model.specs.declared.events.Event.{Event}
 use Rattle.thp_model.specs.declared.shape.Shape.{Shape}
 use Rattle.thp_model.specs.History.{History}
+use Rattle.thp_node.specs.declared.answers.Tried.{Tried}
+use Rattle.thp_node.specs.declared.answers.Tried.TheVariants.{Used}
 use Rattle.thp_model.specs.Runs.{try_event, return_event, is_pinned}
+use Rattle.thp_model.specs.Underused.{is_worth_split}
 
 -- a try of each of these pages, and the return of those that are pinned
 abbrev pub events_behind : Shape → History → ℕ → List ℕ → List Event
-events_behind s h c ps = map (try_event s h c) ps ++ map (return_event h c) (filter (is_pinned h) ps)
+events_behind s h c ps = map (try_event s h c) ps ++ map (return_event s h c) (filter (is_pinned s h) ps)
+
+-- a try of page p finds it in use
+abbrev pub is_used : Shape → History → ℕ → Bool
+is_used s h p = not (is_worth_split s h p)
+
+-- 1 for a try that found its page in use
+abbrev pub used_count : Tried → ℕ
+used_count (Used p) = 1
+used_count t = 0

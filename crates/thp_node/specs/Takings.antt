@@ -7,6 +7,6 @@ use Rattle.thp_node.specs.NodeState.{NodeState}
 
 -- the i oldest pages were taken by caller c, who may go on
 pub record Took (old now : NodeState) (c i : ℕ) : Type 0 where
-  pub did : Did old now c (take_events old.journal c i)
-  pub left : queue now.journal ≡ drop i (queue old.journal)
+  pub did : Did old now c (take_events old.shape old.journal c i)
+  pub left : queue old.shape now.journal ≡ drop i (queue old.shape old.journal)
   pub may : (no_pages (flight now.journal c) || is_taking now.journal c) ≡ true

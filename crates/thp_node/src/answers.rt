@@ -1,5 +1,5 @@
 //! What the calls of a node answer.
-use thp_model::{Outcome, PageId, SubSet};
+use thp_model::PageId;
 
 /// Why a node wasn't made.
 #[derive(Clone, Copy, PartialEq, Eq, Debug)]
@@ -10,13 +10,6 @@ pub enum NewFault {
     OutOfMemory,
 }
 
-/// What an unmap or an unpin did to its page, and the subpages whose frames it gave back.
-#[derive(Clone, Copy, PartialEq, Eq, Debug)]
-pub struct Done {
-    pub outcome: Outcome,
-    pub released: SubSet,
-}
-
 /// What a try of a batch's next page did.
 #[derive(Clone, Copy, PartialEq, Eq, Debug)]
 pub enum Tried {
@@ -24,18 +17,21 @@ pub enum Tried {
     Split(PageId),
     /// The page has pins and stays in the batch.
     Pinned(PageId),
+    /// The page isn't worth a split, being neither partly mapped nor underused, and left the batch.
+    Used(PageId),
     /// No page of the batch is left to try.
     Done,
 }
 
-/// What a put-back did: how many pages went back to the queue's tail, and how many were dropped since the node is closed.
+/// What a put-back did: how many pages went back to the queue's tail, and how many were dropped, since the node is closed or
+/// they aren't partly mapped.
 #[derive(Clone, Copy, PartialEq, Eq, Debug)]
 pub struct BackReply {
     pub back: u32,
     pub dropped: u32,
 }
 
-/// What a scan did: how many pages it took, split, found pinned, put back and dropped.
+/// What a scan did: how many pages it took, split, found pinned, put back, dropped, and found in use.
 #[derive(Clone, Copy, PartialEq, Eq, Debug)]
 pub struct ScanReply {
     pub taken: u32,
@@ -43,6 +39,7 @@ pub struct ScanReply {
     pub pinned: u32,
     pub back: u32,
     pub dropped: u32,
+    pub used: u32,
 }
 
 /// The node's statistics, by the names of /proc/vmstat without their `thp_`
@@ -53,8 +50,10 @@ pub struct Counters {
     pub split_page: u64,
     /// Tries that found a page pinned.
     pub split_page_failed: u64,
-    /// Times a page was queued; a put-back doesn't count.
+    /// Times a page was queued; neither a put-back nor an allocation counts.
     pub deferred_split_page: u64,
+    /// Pages split that weren't partly mapped, but underused.
+    pub underused_split_page: u64,
     /// PMD mappings split: one for each `split_pmd`, and all that a page has when it is split itself.
     pub split_pmd: u128,
 }

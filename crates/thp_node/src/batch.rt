@@ -45,8 +45,11 @@ impl Batch {
         &self.pages
     }
 
-    /// Lets the batch go. It records nothing: the pages stay in the caller's flight, out of the queue.
-    pub fn abandon(self) {}
+    /// Lets the batch go, which always works. No node takes part, so nothing is recorded and nothing else changes: the pages
+    /// stay in the caller's flight, out of the queue, and the caller has a batch that it can't put back any more.
+    pub fn abandon(self)
+        ensures { result ≡ tt }
+    {}
 
     // A caller's batch with no page yet.
     pub(crate) fn new(caller: u32) -> Batch

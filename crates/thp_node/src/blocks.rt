@@ -1,45 +1,40 @@
-//! The blocks of a node: the table of their pages, with the queue and the free chain that are linked through it.
-ghost use Rattle.std.specs.Prelude.{◌≡◌, ◌≢◌, ℕ, ◌+◌, ◌<◌, ◌≤◌, [], ◌∷◌, ◌++◌, not, false, true, length, ◌↔◌, ◌&&◌, IsTrue, if◌then◌else◌, nat_eq, drop, slice_get, Option, Some, None, IsSome, IfSome, IfOk, MatchOption};
+//! The blocks of a node: the pages that lie in them, and the chain of those that are free.
+ghost use Rattle.std.specs.Prelude.{◌≡◌, ◌≢◌, ℕ, ◌<◌, [], ◌∷◌, ◌++◌, false, length, ◌↔◌, IsTrue, Option, Some, None, IsSome, IfOk, MatchOption};
 ghost use Rattle.std.specs.Bool.{OnTrue, OnFalse};
-ghost use Rattle.thp_links.specs.Indices.{without};
 ghost use Rattle.thp_links.specs.Standing.{Stands};
 ghost use Rattle.thp_model.specs.Shapes.{IsShape};
-ghost use Rattle.thp_model.specs.Pages.{page_refusal, gives_frames, PageState, PageSplit, IsFresh};
-ghost use Rattle.thp_model.specs.PageChanges.{page_outcome, page_released};
-ghost use Rattle.thp_page.specs.Slots.{slot_at, with_slot, IsHeld};
-ghost use Rattle.thp_page.specs.Changes.{IsChange};
+ghost use Rattle.thp_model.specs.Pages.{page_refusal, gives_frames, is_worth, PageState, PageSplit};
+ghost use Rattle.thp_page.specs.Slots.{slot_at, HoldsPage};
 ghost use Rattle.thp_page.specs.Table.{Slot};
-ghost use Rattle.thp_node.specs.PageCalls.{gain_call, loss_call, page_call, Gains, Loses};
-ghost use Rattle.thp_node.specs.BlocksState.{AtSlot, Edits, batch_of, LeavesQueue, Lost, Reduced, TakesFirst, HasFree};
+ghost use Rattle.thp_places.specs.PageCalls.{gain_call, loss_call, page_call, Gains};
+ghost use Rattle.thp_places.specs.PlacesState.{AtSlot, Edits, TakesFirst, HasFree};
+ghost use Rattle.thp_node.specs.Chaining.{LostChained, PlacesFresh};
 
-use crate::answers::Done;
-use crate::page_call::{Gain, Loss, PageCall};
 use std::alloc::{AllocError, Global};
 use std::marker::Model;
 use thp_links::{FreeChain, Queue};
 use thp_model::{Outcome, PageId, Refusal, Shape, SubSet};
 use thp_page::{PageTable, Standing};
+use thp_places::{Done, Gain, Loss, PageCall, Places};
 
-// The pages of a node by block, its queue, and the chain of its free blocks.
+// The pages of a node by block, with its queue, and the chain of its free blocks, which stands in the same links.
 //
-// A block stands in the queue exactly where its page's standing says so, and in the chain exactly where it has no page.
-// None of this knows of histories.
+// A block is in the chain exactly where it has no page.
 #[derive(Drop)]
 pub(crate) struct Blocks {
-    table: PageTable,
-    queue: Queue,
+    places: Places,
     free: FreeChain,
 }
 
 impl Model for Blocks {
-    ghost use Rattle.thp_node.specs.BlocksState.{BlocksState};
-    ghost use Rattle.thp_node.specs.Linking.{IsLinked};
+    ghost use Rattle.thp_places.specs.PlacesState.{PlacesState};
+    ghost use Rattle.thp_node.specs.Chaining.{HasChain};
 
-    ghost Value = { BlocksState };
+    ghost Value = { PlacesState };
 
-    ghost view = { λ b. record { table = b.table; queue = b.queue } };
+    ghost view = { λ b. b.places };
 
-    ghost invariant = { λ b. IsLinked b.table b.queue b.free };
+    ghost invariant = { λ b. HasChain b.places.table b.free };
 }
 
 impl Blocks {
@@ -51,23 +46,19 @@ impl Blocks {
         ensures empty { IfOk result (λ b. (i : ℕ) → slot_at b.table i ≡ None) }
         ensures queue { IfOk result (λ b. b.queue ≡ []) }
     {
-        let mut table = PageTable::new(alloc, shape.blocks, shape.order)?;
+        let mut places = Places::new(alloc, shape)?;
         let mut free = FreeChain::new();
         for block in (0..shape.blocks).rev() {
-            free.push(&mut table, block);
+            places.push_free(&mut free, block);
         }
-        Ok(Blocks {
-            table,
-            queue: Queue::new(),
-            free,
-        })
+        Ok(Blocks { places, free })
     }
 
     // The block of a page.
     pub(crate) fn find(&self, page: PageId) -> Option<u32>
-        ensures { MatchOption result ((b : ℕ) → IsHeld (slot_at self.now.table b) page → ⊥) (λ b. IsHeld (slot_at self.now.table b) page) }
+        ensures { MatchOption result ((b : ℕ) → HoldsPage (slot_at self.now.table b) page → ⊥) (λ b. HoldsPage (slot_at self.now.table b) page) }
     {
-        self.table.block_of(page)
+        self.places.find(page)
     }
 
     // Why the page of a block would refuse a call, if it would.
@@ -75,22 +66,16 @@ impl Blocks {
         requires { IsSome (slot_at self.now.table block) }
         ensures { AtSlot self.now.table block (λ x. (p : ℕ) → result ≡ page_refusal x.page (page_call call p)) }
     {
-        match self.table.page(block) {
-            Some((_, page)) => call.refusal(page),
-            None => unreachable!(),
-        }
+        self.places.refusal(block, call)
     }
 
-    // Gives the page of a block mappings or a pin, which isn't refused.
+    // Gives the page of a block mappings or a pin, or fills subpages of it, which isn't refused.
     pub(crate) fn gain(&mut self, block: u32, gain: Gain)
         requires occupied { IsSome (slot_at self.old.table block) }
         requires allowed { AtSlot self.old.table block (λ x. page_refusal x.page (gain_call gain 0) ≡ None) }
         ensures { AtSlot self.old.table block (λ x. (p : PageState) × Gains gain x.page p × Edits self.old self.new block (Some (record x { page = p })) self.old.queue 0) }
     {
-        match self.table.page_mut(block) {
-            Some(page) => gain.apply(page),
-            None => unreachable!(),
-        }
+        self.places.gain(block, gain);
     }
 
     // Takes mappings or a pin from the page of a block, which isn't refused, and then queues or frees the page, or leaves
@@ -98,21 +83,12 @@ impl Blocks {
     pub(crate) fn lose(&mut self, block: u32, loss: Loss, closed: bool) -> (Done, Option<u32>)
         requires occupied { IsSome (slot_at self.old.table block) }
         requires allowed { AtSlot self.old.table block (λ x. page_refusal x.page (loss_call loss 0) ≡ None) }
-        ensures { AtSlot self.old.table block (λ x. Lost loss closed x self.old self.new block result.0 result.1) }
+        ensures { AtSlot self.old.table block (λ x. LostChained loss closed x self.old self.new block result.0 result.1) }
     {
-        let standing = self.table.standing(block);
-        let done = self.reduce(block, loss, closed);
-        let left = match done.outcome {
-            Outcome::Stays => None,
-            Outcome::Queued => {
-                self.enqueue(block);
-                None
-            }
-            Outcome::Freed => {
-                self.release(block);
-                batch_of(standing)
-            }
-        };
+        let (done, left) = self.places.lose(block, loss, closed);
+        if let Outcome::Freed = done.outcome {
+            self.places.push_free(&mut self.free, block);
+        }
         (done, left)
     }
 
@@ -121,13 +97,7 @@ impl Blocks {
         requires { 0 < length self.old.queue }
         ensures { TakesFirst self.old self.new caller result }
     {
-        match self.queue.pop_front(&mut self.table) {
-            Some(block) => {
-                self.table.set_standing(block, Standing::Batch(caller));
-                self.number(block)
-            }
-            None => unreachable!(),
-        }
+        self.places.take_first(caller)
     }
 
     // Whether the page of a block stands in a caller's batch.
@@ -135,41 +105,54 @@ impl Blocks {
         requires { IsSome (slot_at self.now.table block) }
         ensures { AtSlot self.now.table block (λ x. IsTrue result ↔ (x.standing ≡ Standing.Batch caller)) }
     {
-        self.table.standing(block) == Standing::Batch(caller)
+        self.places.is_in_batch(block, caller)
     }
 
-    // The pins of the page of a block, and its entire map count.
+    // The number of the page of a block, its pins, and its entire map count.
+    pub(crate) fn number(&self, block: u32) -> PageId
+        requires { IsSome (slot_at self.now.table block) }
+        ensures { AtSlot self.now.table block (λ x. result ≡ x.id) }
+    {
+        self.places.number(block)
+    }
+
     pub(crate) fn pins(&self, block: u32) -> u32
         requires { IsSome (slot_at self.now.table block) }
         ensures { AtSlot self.now.table block (λ x. result ≡ x.page.pins) }
     {
-        match self.table.page(block) {
-            Some((_, page)) => page.pins(),
-            None => unreachable!(),
-        }
+        self.places.pins(block)
     }
 
     pub(crate) fn whole(&self, block: u32) -> u32
         requires { IsSome (slot_at self.now.table block) }
         ensures { AtSlot self.now.table block (λ x. result ≡ x.page.whole) }
     {
-        match self.table.page(block) {
-            Some((_, page)) => page.whole(),
-            None => unreachable!(),
-        }
+        self.places.whole(block)
     }
 
-    // Splits the page of a block, which stands in a batch, and takes it out of the batch. Answers the frames given back.
-    pub(crate) fn split(&mut self, block: u32) -> SubSet
+    // Whether the page of a block is partly mapped, and whether it is worth a split.
+    pub(crate) fn is_partly(&self, block: u32) -> bool
+        requires { IsSome (slot_at self.now.table block) }
+        ensures { AtSlot self.now.table block (λ x. result ≡ x.page.partly) }
+    {
+        self.places.is_partly(block)
+    }
+
+    pub(crate) fn is_worth(&self, block: u32, threshold: Option<u32>) -> bool
+        requires { IsSome (slot_at self.now.table block) }
+        ensures { AtSlot self.now.table block (λ x. result ≡ is_worth threshold x.page) }
+    {
+        self.places.is_worth(block, threshold)
+    }
+
+    // Splits the page of a block, which stands in a batch, and takes it out of the batch. Answers the frames given back,
+    // which are those of zero-filled subpages too where `give_zero` says so.
+    pub(crate) fn split(&mut self, block: u32, give_zero: bool) -> SubSet
         requires occupied { IsSome (slot_at self.old.table block) }
         requires allowed { AtSlot self.old.table block (λ x. (x.page.split ≡ false) × (x.page.pins ≡ 0) × (x.standing ≢ Standing.Queued)) }
-        ensures { AtSlot self.old.table block (λ x. (p : PageState) × PageSplit x.page p × (result ≡ gives_frames x.page p) × Edits self.old self.new block (Some (record x { page = p; standing = Standing.Nowhere })) self.old.queue 0) }
+        ensures { AtSlot self.old.table block (λ x. (p : PageState) × PageSplit give_zero x.page p × (result ≡ gives_frames x.page p) × Edits self.old self.new block (Some (record x { page = p; standing = Standing.Nowhere })) self.old.queue 0) }
     {
-        self.table.set_standing(block, Standing::Nowhere);
-        match self.table.page_mut(block) {
-            Some(page) => page.split(),
-            None => unreachable!(),
-        }
+        self.places.split(block, give_zero)
     }
 
     // Puts the page of a block, which isn't in the queue, at the queue's tail.
@@ -178,8 +161,7 @@ impl Blocks {
         requires outside { AtSlot self.old.table block (λ x. x.standing ≢ Standing.Queued) }
         ensures { AtSlot self.old.table block (λ x. Edits self.old self.new block (Some (record x { standing = Standing.Queued })) (self.old.queue ++ block ∷ []) 4) }
     {
-        self.table.set_standing(block, Standing::Queued);
-        self.queue.push_back(&mut self.table, block);
+        self.places.enqueue(block);
     }
 
     // Takes the page of a block, which isn't in the queue, out of its batch.
@@ -188,7 +170,7 @@ impl Blocks {
         requires outside { AtSlot self.old.table block (λ x. x.standing ≢ Standing.Queued) }
         ensures { AtSlot self.old.table block (λ x. Edits self.old self.new block (Some (record x { standing = Standing.Nowhere })) self.old.queue 0) }
     {
-        self.table.set_standing(block, Standing::Nowhere);
+        self.places.drop_out(block);
     }
 
     // Whether a block has no page.
@@ -202,17 +184,17 @@ impl Blocks {
         }
     }
 
-    // Puts a new page into a free block.
-    pub(crate) fn place(&mut self, page: PageId) -> u32
+    // Puts a new page into a free block, and at the queue's tail where it is to be queued.
+    pub(crate) fn place(&mut self, page: PageId, queued: bool) -> u32
         requires free { HasFree self.old.table }
-        requires new { (b : ℕ) → IsHeld (slot_at self.old.table b) page → ⊥ }
+        requires new { (b : ℕ) → HoldsPage (slot_at self.old.table b) page → ⊥ }
         ensures inside { result < length self.old.table.slots }
         ensures free { slot_at self.old.table result ≡ None }
-        ensures placed { (p : PageState) × IsFresh self.old.table.order p × Edits self.old self.new result (Some (record { id = page; page = p; standing = Standing.Nowhere })) self.old.queue 2 }
+        ensures placed { PlacesFresh self.old self.new result page queued }
     {
-        match self.free.pop(&mut self.table) {
+        match self.places.pop_free(&mut self.free) {
             Some(block) => {
-                self.table.place(block, page);
+                self.places.place(block, page, queued);
                 block
             }
             None => unreachable!(),
@@ -223,7 +205,7 @@ impl Blocks {
     pub(crate) fn table(&self) -> &PageTable
         ensures { result.now ≡ self.now.table }
     {
-        &self.table
+        self.places.table()
     }
 
     // The queue.
@@ -231,71 +213,6 @@ impl Blocks {
         ensures value { result.now ≡ self.now.queue }
         ensures stands { Stands self.now.queue self.now.table.links }
     {
-        &self.queue
-    }
-
-    // The number of the page of a block.
-    fn number(&self, block: u32) -> PageId
-        requires { IsSome (slot_at self.now.table block) }
-        ensures { AtSlot self.now.table block (λ x. result ≡ x.id) }
-    {
-        match self.table.page(block) {
-            Some((id, _)) => id,
-            None => unreachable!(),
-        }
-    }
-
-    // Takes mappings or a pin from the page of a block, which isn't refused, and answers what becomes of it.
-    fn reduce(&mut self, block: u32, loss: Loss, closed: bool) -> Done
-        requires occupied { IsSome (slot_at self.old.table block) }
-        requires allowed { AtSlot self.old.table block (λ x. page_refusal x.page (loss_call loss 0) ≡ None) }
-        ensures { AtSlot self.old.table block (λ x. Reduced loss closed x self.old self.new block result) }
-    {
-        let standing = self.table.standing(block);
-        match self.table.page_mut(block) {
-            Some(page) => loss.apply(page, standing, closed),
-            None => unreachable!(),
-        }
-    }
-
-    // Takes the page of a block out of the table, and out of the queue where it stands there. The block is free then.
-    fn release(&mut self, block: u32)
-        requires { IsSome (slot_at self.old.table block) }
-        ensures { Edits self.old self.new block None (without block self.old.queue) 8 }
-    {
-        self.leave_queue(block);
-        self.vacate(block);
-    }
-
-    // Takes the page of a block out of the queue, wherever it stands there, if it does.
-    fn leave_queue(&mut self, block: u32)
-        requires { IsSome (slot_at self.old.table block) }
-        ensures { LeavesQueue self.old self.new block }
-    {
-        let Standing::Queued = self.table.standing(block) else {
-            return;
-        };
-        self.queue.remove(&mut self.table, block);
-        self.table.set_standing(block, Standing::Nowhere);
-    }
-
-    // Takes a page that isn't in the queue out of the table. Its block is free then.
-    fn vacate(&mut self, block: u32)
-        requires occupied { IsSome (slot_at self.old.table block) }
-        requires outside { AtSlot self.old.table block (λ x. x.standing ≢ Standing.Queued) }
-        ensures { Edits self.old self.new block None self.old.queue 2 }
-    {
-        self.table.clear(block);
-        self.free.push(&mut self.table, block);
-    }
-}
-
-// The caller in whose batch a page stands, if it is in one.
-fn batch_of(standing: Standing) -> Option<u32>
-    ensures { result ≡ batch_of standing }
-{
-    match standing {
-        Standing::Batch(caller) => Some(caller),
-        _ => None,
+        self.places.queue()
     }
 }

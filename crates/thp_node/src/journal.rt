@@ -3,16 +3,27 @@ ghost use Rattle.std.specs.Prelude.{◌≡◌, ℕ, ◌+◌, ◌<◌, ◌≤◌,
 ghost use Rattle.thp_model.specs.History.{by};
 ghost use Rattle.thp_model.specs.Shapes.{IsShape};
 ghost use Rattle.thp_model.specs.Counts.{allocations, is_closed, is_alloc, closes};
-ghost use Rattle.thp_model.specs.Counters.{splits_pmds, is_page_split, is_failed_try, queues};
+ghost use Rattle.thp_model.specs.Counters.{is_page_split, is_failed_try, queues};
 ghost use Rattle.thp_model.specs.Frames.{frames_given, frames_held};
 ghost use Rattle.thp_model.specs.Places.{flight};
 ghost use Rattle.thp_model.specs.Legal.{IsLegal, Fits};
-ghost use Rattle.thp_node.specs.Journals.{leaves_of, joins_of, one_for, counters_of, frames_of};
+ghost use Rattle.thp_node.specs.Journals.{HasFlightRoom, unsaid_of, leaves_by, pmds_by, splits_as_underused, joins_of, one_for, counters_of, frames_of};
 
 use crate::answers::Counters;
 use std::alloc::{AllocError, Global};
 use std::marker::Model;
 use thp_model::{Event, Outcome, Shape, What};
+
+// What an event does that it doesn't say itself.
+#[derive(Clone, Copy)]
+pub(crate) enum Unsaid {
+    // Nothing.
+    Nothing,
+    // Out of whose flight, if any, an unmap or an unpin freed its page.
+    FreedFrom(Option<u32>),
+    // How many PMD mappings a page had that its caller split, and whether it was partly mapped.
+    OfSplit { mappings: u32, partly: bool },
+}
 
 // What happened on a node, and the numbers of it that the calls need at once.
 #[derive(Drop)]
@@ -23,7 +34,7 @@ pub(crate) struct Journal {
     next: u64,
     closed: bool,
     // how many pages each caller has in flight
-    flying: [u64; 64],
+    flying: [u8; 64],
     frames_given: u128,
     counters: Counters,
 }
@@ -57,6 +68,7 @@ impl Journal {
                 split_page: 0,
                 split_page_failed: 0,
                 deferred_split_page: 0,
+                underused_split_page: 0,
                 split_pmd: 0,
             },
         }
@@ -74,14 +86,13 @@ impl Journal {
         self.events.try_reserve(count)
     }
 
-    // Records what a caller did, which fits. `left` is the caller whose flight the event's page leaves, and `split_pmds`
-    // the number of PMD mappings that the event splits.
-    pub(crate) fn record(&mut self, caller: u32, what: What, left: Option<u32>, split_pmds: u32)
+    // Records what a caller did, which fits, with what the event leaves unsaid.
+    pub(crate) fn record(&mut self, caller: u32, what: What, unsaid: Unsaid)
         requires caller { caller < 64 }
         requires room { 0 < self.old.room }
         requires fits { Fits self.old.shape self.old.events (by caller what) }
-        requires left { left ≡ leaves_of self.old.events caller what }
-        requires split_pmds { split_pmds ≡ splits_pmds self.old.events what }
+        requires flight { HasFlightRoom self.old.events caller what }
+        requires unsaid { unsaid ≡ unsaid_of self.old.shape self.old.events what }
         ensures shape { self.new.shape ≡ self.old.shape }
         ensures events { self.new.events ≡ self.old.events ++ by caller what ∷ [] }
         ensures room { self.new.room + 1 ≡ self.old.room }
@@ -96,7 +107,9 @@ impl Journal {
         self.counters.split_page += u64::from(is_split(&what));
         self.counters.split_page_failed += u64::from(is_pinned(&what));
         self.counters.deferred_split_page += u64::from(is_queued(&what));
-        self.counters.split_pmd += u128::from(split_pmds);
+        self.counters.underused_split_page += u64::from(is_underused_split(unsaid));
+        self.counters.split_pmd += u128::from(split_pmds(&what, unsaid));
+        let left = leaves(caller, &what, unsaid);
         count_moves(&mut self.flying, joins(caller, &what), left);
     }
 
@@ -136,7 +149,7 @@ impl Journal {
         requires { caller < 64 }
         ensures { result ≡ length (flight self.now.events caller) }
     {
-        self.flying[caller as usize]
+        u64::from(self.flying[caller as usize])
     }
 
     // How many frames were given back.
@@ -155,7 +168,7 @@ impl Journal {
 
     // The statistics.
     pub(crate) fn counters(&self) -> Counters
-        ensures { result ≡ counters_of self.now.events }
+        ensures { result ≡ counters_of self.now.shape self.now.events }
     {
         self.counters
     }
@@ -217,6 +230,38 @@ fn is_queued(what: &What) -> bool
     )
 }
 
+// Whether the event splits a page that isn't partly mapped.
+fn is_underused_split(unsaid: Unsaid) -> bool
+    ensures { result ≡ splits_as_underused unsaid }
+{
+    matches!(unsaid, Unsaid::OfSplit { partly: false, .. })
+}
+
+// How many PMD mappings the event splits.
+fn split_pmds(what: &What, unsaid: Unsaid) -> u32
+    ensures value { result ≡ pmds_by what.now unsaid }
+    ensures small { result < 2 ^ 32 }
+{
+    match unsaid {
+        Unsaid::OfSplit { mappings, .. } => mappings,
+        _ => u32::from(matches!(what, What::SplitPmd { .. })),
+    }
+}
+
+// The caller whose flight the event's page leaves.
+fn leaves(caller: u32, what: &What, unsaid: Unsaid) -> Option<u32>
+    ensures { result ≡ leaves_by caller what.now unsaid }
+{
+    match unsaid {
+        Unsaid::FreedFrom(flier) => flier,
+        Unsaid::OfSplit { .. } => Some(caller),
+        Unsaid::Nothing => match what {
+            What::Used { .. } | What::Back { .. } | What::Dropped { .. } => Some(caller),
+            _ => None,
+        },
+    }
+}
+
 // The caller whose flight the event's page joins.
 fn joins(caller: u32, what: &What) -> Option<u32>
     ensures { result ≡ joins_of caller what.now }
@@ -228,8 +273,8 @@ fn joins(caller: u32, what: &What) -> Option<u32>
 }
 
 // Counts a page that joins the flight of one caller, and a page that leaves that of another, where there are such.
-fn count_moves(flying: &mut [u64; 64], joins: Option<u32>, leaves: Option<u32>)
-    requires joins { IfSome joins (λ c. (c < 64) × (slice_index_or flying.old c 0 + 1 < 2 ^ 64)) }
+fn count_moves(flying: &mut [u8; 64], joins: Option<u32>, leaves: Option<u32>)
+    requires joins { IfSome joins (λ c. (c < 64) × (slice_index_or flying.old c 0 + 1 < 2 ^ 8)) }
     requires leaves { IfSome leaves (λ c. (c < 64) × (0 < slice_index_or flying.old c 0)) }
     ensures { (c : ℕ) → slice_index_or flying.new c 0 + one_for leaves c ≡ slice_index_or flying.old c 0 + one_for joins c }
 {

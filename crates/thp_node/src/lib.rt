@@ -5,13 +5,13 @@
 //! is said by the definitions of `thp_model`; what every call keeps is said once, in `specs/Calls.antt`.
 //!
 //! The public surface: `Node::new`, `reserve`; `alloc_page`, `map_whole`, `unmap_whole`, `map_sub`, `unmap_sub`,
-//! `split_pmd`, `pin`, `unpin`, `close`; `take`, `split_next`, `put_back`, `scan`; the readers `shape`, `journal`, `table`,
-//! `queue`, `queue_len`, `frames_given`, `frames_held`, `counters`; `Batch` with `caller`, `pages`, `abandon`; and the
-//! answers `NewFault`, `Done`, `Tried`, `BackReply`, `ScanReply`, `Counters`.
+//! `split_pmd`, `pin`, `unpin`, `write`, `zero`, `close`; `take`, `split_next`, `put_back`, `scan`; the readers `shape`,
+//! `journal`, `table`, `queue`, `queue_len`, `frames_given`, `frames_held`, `counters`; `Batch` with `caller`, `pages`,
+//! `abandon`; and the answers `NewFault`, `Done`, `Tried`, `BackReply`, `ScanReply`, `Counters`.
 //!
 //! For callers' proofs: `journal` ensures the laws of `specs/JournalLaws.antt`, which `proofs/JournalFacts` has for every legal
-//! history. What `put_back` requires of its batch is ensured by `take` and handed on by every call, clauses `front` and
-//! `fronts`; `proofs/Fronts` says the same of histories that grow.
+//! history. What `put_back` requires of its batch is ensured by `take` and handed on by every call, clauses `front`, `fronts`
+//! and `older`; `proofs/Fronts` says the same of histories that grow. The pages with their places are `thp_places`'.
 #![tactic(auto)]
 
 mod answers;
@@ -19,10 +19,8 @@ mod batch;
 mod blocks;
 mod journal;
 mod node;
-mod page_call;
-#[cfg(test)]
-mod tests;
 
-pub use answers::{BackReply, Counters, Done, NewFault, ScanReply, Tried};
+pub use answers::{BackReply, Counters, NewFault, ScanReply, Tried};
 pub use batch::Batch;
 pub use node::Node;
+pub use thp_places::Done;

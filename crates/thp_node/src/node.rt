@@ -7,9 +7,9 @@ ghost use Rattle.thp_model.specs.Frames.{frames_given, frames_held};
 ghost use Rattle.thp_model.specs.Legal.{IsLegal};
 ghost use Rattle.thp_model.specs.Places.{queue};
 ghost use Rattle.thp_page.specs.Slots.{slot_at};
-ghost use Rattle.thp_node.specs.Holding.{Fills, HasBlock};
-ghost use Rattle.thp_node.specs.Homes.{block_of, LiesWherePlaced};
-ghost use Rattle.thp_node.specs.JournalLaws.{StandsOnce, StandsWhole, TakesOldest, LeavesFreedAlone, AllocatesOnce, NothingEnters, HasFramesOnce, KeepsFrames, HoldsWhileLive, LivesApart, OthersFree, FlightsGoOn, QueueGoesOn};
+ghost use Rattle.thp_places.specs.Holding.{Fills, HasBlock};
+ghost use Rattle.thp_places.specs.Homes.{block_of, LiesWherePlaced};
+ghost use Rattle.thp_node.specs.JournalLaws.{StandsOnce, StandsWhole, TakesOldest, LeavesFreedAlone, AllocatesOnce, NothingEnters, HasFramesOnce, KeepsFrames, HoldsWhileLive, LivesApart, OthersFree, FlightsGoOn, QueueGoesOn, NoneIsUnderused};
 ghost use Rattle.thp_node.specs.Journals.{counters_of};
 
 mod batch_calls;
@@ -39,7 +39,7 @@ pub struct Node {
 
 impl Model for Node {
     ghost use Rattle.thp_node.specs.NodeState.{NodeState};
-    ghost use Rattle.thp_node.specs.Holding.{IsNode};
+    ghost use Rattle.thp_places.specs.Holding.{IsNode};
 
     ghost Value = { NodeState };
 
@@ -96,9 +96,9 @@ impl Node {
         ensures value { result.now ≡ self.now.journal }
         ensures legal { IsLegal self.now.shape self.now.journal }
         // the laws of every legal history, at this one
-        ensures once { StandsOnce self.now.journal }
-        ensures whole { StandsWhole self.now.journal }
-        ensures oldest { TakesOldest self.now.journal }
+        ensures once { StandsOnce self.now.shape self.now.journal }
+        ensures whole { StandsWhole self.now.shape self.now.journal }
+        ensures oldest { TakesOldest self.now.shape self.now.journal }
         ensures freed { LeavesFreedAlone self.now.journal }
         ensures new { AllocatesOnce self.now.journal }
         ensures closed { NothingEnters self.now.journal }
@@ -108,7 +108,8 @@ impl Node {
         ensures apart { LivesApart self.now.journal }
         ensures others { OthersFree self.now.journal }
         ensures flights { FlightsGoOn self.now.journal }
-        ensures queue { QueueGoesOn self.now.journal }
+        ensures queue { QueueGoesOn self.now.shape self.now.journal }
+        ensures off { NoneIsUnderused self.now.shape self.now.journal }
     {
         self.journal.events()
     }
@@ -130,14 +131,14 @@ impl Node {
     pub fn queue(&self) -> &Queue
         ensures value { result.now ≡ self.now.queue }
         ensures stands { Stands self.now.queue self.now.table.links }
-        ensures pages { map (block_of self.now.journal) (queue self.now.journal) ≡ map (λ b. Some b) self.now.queue }
+        ensures pages { map (block_of self.now.journal) (queue self.now.shape self.now.journal) ≡ map (λ b. Some b) self.now.queue }
     {
         self.blocks.queue()
     }
 
     /// How many pages are queued, which is what the shrinker counts.
     pub fn queue_len(&self) -> u32
-        ensures { result ≡ length (queue self.now.journal) }
+        ensures { result ≡ length (queue self.now.shape self.now.journal) }
     {
         self.blocks.queue().len()
     }
@@ -158,7 +159,7 @@ impl Node {
 
     /// The node's statistics.
     pub fn counters(&self) -> Counters
-        ensures { result ≡ counters_of self.now.journal }
+        ensures { result ≡ counters_of self.now.shape self.now.journal }
     {
         self.journal.counters()
     }

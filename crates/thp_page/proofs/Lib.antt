@@ -8,6 +8,7 @@ pub mod PageRefusals
 pub mod PageChanges
 pub mod PageUse
 pub mod MappedCounts
+pub mod ZeroSets
 pub mod Halves
 pub mod Buckets
 pub mod TableSlots

@@ -2,7 +2,7 @@
 use Rattle.std.proofs.Common.{◌≡◌, ℕ, ◌+◌, ◌<◌, ◌≤◌, Bool, true, false, ◌&&◌, cond, nat_eq, nat_lt, refl, ap, sym, ◌∙◌, arith}
 use Rattle.std.proofs.lemmas.Bool.Decides.{nat_tests}
 use Rattle.thp_model.specs.Sets.{covers}
-use Rattle.thp_model.specs.Frames.{count_below}
+use Rattle.thp_model.specs.Sets.{count_below}
 use Rattle.thp_model.specs.Pages.{PageState, size, own_at}
 use Rattle.thp_page.specs.PageView.{mapped_count}
 use Rattle.thp_page.specs.Ranges.{count_in_range}

@@ -6,7 +6,7 @@ use Rattle.thp_model.specs.declared.refusal.Refusal.TheVariants as reason
 use Rattle.thp_model.specs.Sets.{covers, some_below}
 use Rattle.thp_model.specs.Refusals.{most}
 use Rattle.thp_model.specs.Refusals as call
-use Rattle.thp_model.specs.Pages.{PageState, size, own_at, total_at, page_refusal, IsPage}
+use Rattle.thp_model.specs.Pages.{PageState, size, own_at, total_at, some_in_range, page_refusal, IsPage}
 use Rattle.thp_page.proofs.RangeLemmas.{covers_true}
 use Rattle.thp_model.proofs.Below.{some_none}
 
@@ -93,6 +93,17 @@ unmap_sub_allowed t p first count e =
       λ i covered. let below = covered_below (size t) first count i inside covered in positive (own_at t i)
           (second (covers first count i) (nat_eq (own_at t i) 0) covered (some_none (size t) (λ i. covers first count i && nat_eq (own_at t i) 0) facts.1 i below)),
     )
+
+-- the range stands in the page, for a write of data and of zeros
+pub write_allowed : (t : PageState) (p first count : ℕ) → page_refusal t (call.write p first count) ≡ None → first + count ≤ size t
+unfolding page_refusal
+write_allowed t p first count e =
+    good_range (size t) first count (none_of_three _ t.split (some_in_range t first count (λ i. nat_eq (total_at t i) 0)) _ reason.IsSplit reason.NotMapped e).0
+
+pub zero_fill_allowed : (t : PageState) (p first count : ℕ) → page_refusal t (call.zero_fill p first count) ≡ None → first + count ≤ size t
+unfolding page_refusal
+zero_fill_allowed t p first count e =
+    good_range (size t) first count (none_of_three _ t.split (some_in_range t first count (λ i. nat_eq (total_at t i) 0)) _ reason.IsSplit reason.NotMapped e).0
 
 -- what isn't refused of a page isn't refused of its fields' state
 pub allowed_as : (t u : PageState) (k : call.Call) → t ≡ u → page_refusal u k ≡ None → page_refusal t k ≡ None

@@ -2,11 +2,10 @@
 use Rattle.std.proofs.Common.{◌≡◌, ◌≢◌, ℕ, ◌+◌, ◌^◌, ◌<◌, ◌≤◌, Bool, true, false, not, ◌&&◌, ◌||◌, cond, nat_eq, nat_lt, List, refl, ap, ap₂, sym, ◌∙◌, arith, inl, inr}
 use Rattle.std.proofs.lemmas.Bool.Decides.{nat_tests}
 use Rattle.std.proofs.lemmas.Bool.{cases_lt}
-use Rattle.thp_model.specs.Sets.{covers, set_of, has}
+use Rattle.thp_model.specs.Sets.{covers, set_of, has, count_below}
 use Rattle.thp_model.specs.Words.{get_or-set_of}
-use Rattle.thp_model.specs.Frames.{count_below}
-use Rattle.thp_model.specs.Pages.{PageState, size, own_at, total_at, holds, used_set, has_use, drops_use, gives_frames, WholeMapped, RangeMapped, PageSplit}
-use Rattle.thp_page.specs.Changes.{unused_set}
+use Rattle.thp_model.specs.Pages.{PageState, size, own_at, total_at, holds, used_set, has_use, drops_use, gives_frames, zero_at, zero_set, WholeUnmapped, RangeUnmapped, PageSplit}
+use Rattle.thp_page.specs.Changes.{split_set}
 use Rattle.thp_page.specs.PageView.{mapped_count}
 use Rattle.thp_page.specs.Ranges.{count_in_range}
 use Rattle.thp_model.proofs.Below.{some_yes, some_no, some_below-ext}
@@ -31,10 +30,10 @@ has_use-unmapped t unmapped =
       go w x h = grind (arith, nat_tests)
 
 -- the last whole mapping goes: a subpage goes out of use where not each has a mapping of its own
-pub drops_use-last : (t u : PageState) → WholeMapped u t → t.whole ≡ 1 → drops_use t u ≡ nat_lt (mapped_count t) (size t)
+pub drops_use-last : (t u : PageState) → WholeUnmapped t u → t.whole ≡ 1 → drops_use t u ≡ nat_lt (mapped_count t) (size t)
 drops_use-last t u r last =
     some_below-ext (size t) (λ i. nat_lt 0 (total_at t i) && nat_eq (total_at u i) 0) (λ i. nat_eq (own_at t i) 0)
-    (λ i below. go t.whole u.whole (own_at t i) (own_at u i) last r.whole (r.own i (omega (arith, same_size t u (sym r.order)))))
+    (λ i below. go t.whole u.whole (own_at t i) (own_at u i) last r.whole (sym (r.own i below)))
     ∙ some_below-count (size t) (λ i. nat_eq (own_at t i) 0)
     ∙ rest (count_below (size t) (λ i. nat_eq (own_at t i) 0)) (mapped_count t) (size t) (mapped_or_not t) where
       go : (w v x y : ℕ) → w ≡ 1 → w ≡ v + 1 → x ≡ y → (nat_lt 0 (w + x) && nat_eq (v + y) 0) ≡ nat_eq x 0
@@ -51,11 +50,11 @@ drops_use-mapped t u mapped =
       go v y b h = grind (arith, nat_tests)
 
 -- no whole mapping, and one mapping of each subpage of a range goes: those that had just one go out of use
-pub drops_use-range : (t u : PageState) (first count : ℕ) → t.order ≤ 9 → RangeMapped first count u t → first + count ≤ size t → t.whole ≡ 0 →
+pub drops_use-range : (t u : PageState) (first count : ℕ) → t.order ≤ 9 → RangeUnmapped first count t u → first + count ≤ size t → t.whole ≡ 0 →
     drops_use t u ≡ nat_lt 0 (count_in_range t.own first count (λ x. nat_eq x 1))
 drops_use-range t u first count most r inside unmapped =
     some_below-ext (size t) (λ i. nat_lt 0 (total_at t i) && nat_eq (total_at u i) 0) (λ i. covers first count i && nat_eq (own_at t i) 1)
-    (λ i below. go t.whole u.whole (own_at t i) (own_at u i) (covers first count i) unmapped r.whole (r.own i (omega (arith, same_size t u (sym r.order)))))
+    (λ i below. go t.whole u.whole (own_at t i) (own_at u i) (covers first count i) unmapped (sym r.whole) (r.own i below))
     ∙ range_test (size t) first count (λ i. nat_eq (own_at t i) 1) inside (size_most t most)
     ∙ some_below-count 512 (λ i. covers first count i && nat_eq (own_at t i) 1) where
       go : (w v x y : ℕ) (b : Bool) → w ≡ 0 → w ≡ v → x ≡ y + cond b 1 0 → (nat_lt 0 (w + x) && nat_eq (v + y) 0) ≡ (b && nat_eq x 1)
@@ -66,48 +65,85 @@ drops_use-range t u first count most r inside unmapped =
 pub gives_frames-unsplit : (t u : PageState) → u.order ≡ t.order → t.split ≡ false → u.split ≡ false → gives_frames t u ≡ set_of (λ i. false)
 gives_frames-unsplit t u order whole still =
     set_of-ext (λ i. holds t i && not (holds u i)) (λ i. false)
-    (λ i below. go (nat_lt i (size t)) (nat_lt i (size u)) t.split u.split (nat_lt 0 (total_at t i)) (nat_lt 0 (total_at u i)) (ap (λ n. nat_lt i n) (same_size t u order)) whole still) where
+    (λ i below. go (nat_lt i (size t)) (nat_lt i (size u)) t.split u.split (nat_lt 0 (total_at t i) && not (t.gave_zero && zero_at t i)) (nat_lt 0 (total_at u i) && not (u.gave_zero && zero_at u i)) (ap (λ n. nat_lt i n) (same_size t u order)) whole still) where
       go : (a b s v x y : Bool) → b ≡ a → s ≡ false → v ≡ false → ((a && (not s || x)) && not (b && (not v || y))) ≡ false
       go true b s v x y e f g = cc
       go false b s v x y e f g = refl
 
--- a split page gives back the frames of the subpages of the range that have no mapping any more
-pub gives_frames-range : (t u : PageState) (first count : ℕ) → RangeMapped first count u t → first + count ≤ size t → t.split ≡ true → t.whole ≡ 0 →
-    gives_frames t u ≡ set_of (λ i. covers first count i && nat_eq (own_at u i) 0)
-gives_frames-range t u first count r inside split unmapped =
-    set_of-ext (λ i. holds t i && not (holds u i)) (λ i. covers first count i && nat_eq (own_at u i) 0)
+-- a split page gives back the frames of the subpages of the range that have no mapping any more, but those that its split gave
+pub gives_frames-range : (t u : PageState) (first count : ℕ) (bare : List Bool) → RangeUnmapped first count t u → first + count ≤ size t → t.split ≡ true → t.whole ≡ 0 →
+    bare ≡ set_of (λ i. covers first count i && nat_eq (own_at u i) 0) → gives_frames t u ≡ set_of (λ i. has bare i && not (u.gave_zero && zero_at u i))
+gives_frames-range t u first count bare r inside split unmapped is =
+    set_of-ext (λ i. holds t i && not (holds u i)) (λ i. has bare i && not (u.gave_zero && zero_at u i))
+    (λ i short.
+    elim (cases_lt i (size t)) [
+      | inl below ↦
+          let long : size u ≡ size t = same_size t u r.order in
+          let given : (u.gave_zero && zero_at u i) ≡ (t.gave_zero && zero_at t i) = ap₂ (λ a z. a && has z i) r.kept.gave_zero r.kept.zero in
+          here i (size t) (size u) t.split u.split t.whole u.whole (own_at t i) (own_at u i) (covers first count i) (t.gave_zero && zero_at t i) (u.gave_zero && zero_at u i)
+          below long split (r.split ∙ split) unmapped (sym r.whole) (r.own i below) given
+      | inr above ↦
+          there i (size t) first count (not t.split || (nat_lt 0 (total_at t i) && not (t.gave_zero && zero_at t i))) (not (holds u i)) (nat_eq (own_at u i) 0) (not (u.gave_zero && zero_at u i)) above inside
+    ]
+    ∙ ap (λ b. b && not (u.gave_zero && zero_at u i)) (sym (ap (λ s. has s i) is ∙ get_or-set_of (λ j. covers first count j && nat_eq (own_at u j) 0) i short))) where
+      here : (i n m : ℕ) (s v : Bool) (w x y z : ℕ) (b g g' : Bool) → i < n → m ≡ n → s ≡ true → v ≡ true → w ≡ 0 → w ≡ x → y ≡ z + cond b 1 0 → g' ≡ g →
+          ((nat_lt i n && (not s || (nat_lt 0 (w + y) && not g))) && not (nat_lt i m && (not v || (nat_lt 0 (x + z) && not g')))) ≡ ((b && nat_eq z 0) && not g')
+      here i n m s v w x y z true true g' below long e f unmapped same g same_given = grind (arith, nat_tests)
+      here i n m s v w x y z true false g' below long e f unmapped same g same_given = grind (arith, nat_tests)
+      here i n m s v w x y z false true g' below long e f unmapped same g same_given = grind (arith, nat_tests)
+      here i n m s v w x y z false false g' below long e f unmapped same g same_given = grind (arith, nat_tests)
+
+      there : (i n first count : ℕ) (a b c d : Bool) → n ≤ i → first + count ≤ n → ((nat_lt i n && a) && b) ≡ ((covers first count i && c) && d)
+      there i n first count a b c d above inside = grind (arith, nat_tests)
+
+-- a page that is split gives back the frames of the subpages that aren't in use, and of zero-filled ones where it is to
+pub gives_frames-split : (give : Bool) (t u : PageState) → PageSplit give t u → t.split ≡ false → gives_frames t u ≡ split_set give t
+gives_frames-split give t u r whole =
+    set_of-ext (λ i. holds t i && not (holds u i)) (λ i. nat_lt i (size t) && (not (nat_lt 0 (total_at t i)) || (give && zero_at t i)))
     (λ i short. elim (cases_lt i (size t)) [
       | inl below ↦
-          let long : size u ≡ size t = same_size t u (sym r.order) in
-          here i (size t) (size u) t.split u.split t.whole u.whole (own_at t i) (own_at u i) (covers first count i) below long split (sym r.split ∙ split) unmapped r.whole (r.own i (omega (arith, long)))
+          let given : (u.gave_zero && zero_at u i) ≡ (give && zero_at t i) = ap₂ (λ a z. a && has z i) r.gave_zero r.zero in
+          here i (size t) (size u) t.split u.split (total_at t i) (total_at u i) (nat_lt 0 (total_at t i) && not (t.gave_zero && zero_at t i)) (give && zero_at t i) (u.gave_zero && zero_at u i)
+          below (same_size t u r.order) whole r.split (now (total_at t i) u.whole (own_at u i) r.whole (r.own i below)) given
       | inr above ↦
-          there i (size t) first count (not t.split || nat_lt 0 (total_at t i)) (not (holds u i)) (nat_eq (own_at u i) 0) above inside
-    ]) where
-      here : (i n m : ℕ) (s v : Bool) (w x y z : ℕ) (b : Bool) → i < n → m ≡ n → s ≡ true → v ≡ true → w ≡ 0 → w ≡ x → y ≡ z + cond b 1 0 →
-          ((nat_lt i n && (not s || nat_lt 0 (w + y))) && not (nat_lt i m && (not v || nat_lt 0 (x + z)))) ≡ (b && nat_eq z 0)
-      here i n m s v w x y z true below long e f unmapped same g = grind (arith, nat_tests)
-      here i n m s v w x y z false below long e f unmapped same g = grind (arith, nat_tests)
-
-      there : (i n first count : ℕ) (a b c : Bool) → n ≤ i → first + count ≤ n → ((nat_lt i n && a) && b) ≡ (covers first count i && c)
-      there i n first count a b c above inside = grind (arith, nat_tests)
-
--- a page that is split gives back the frames of the subpages that aren't in use
-pub gives_frames-split : (t u : PageState) → PageSplit t u → t.split ≡ false → gives_frames t u ≡ unused_set t
-gives_frames-split t u r whole =
-    set_of-ext (λ i. holds t i && not (holds u i)) (λ i. nat_lt i (size t) && not (nat_lt 0 (total_at t i)))
-    (λ i short. elim (cases_lt i (size t)) [
-      | inl below ↦ here i (size t) (size u) t.split u.split (total_at t i) (total_at u i) below (same_size t u r.order) whole r.split (now (total_at t i) u.whole (own_at u i) r.whole (r.own i below))
-      | inr above ↦ there i (size t) (not t.split || nat_lt 0 (total_at t i)) (not (holds u i)) (not (nat_lt 0 (total_at t i))) above
+          there i (size t) (not t.split || (nat_lt 0 (total_at t i) && not (t.gave_zero && zero_at t i))) (not (holds u i)) (not (nat_lt 0 (total_at t i)) || (give && zero_at t i)) above
     ]) where
       now : (n w y : ℕ) → w ≡ 0 → y ≡ n → w + y ≡ n
       now n w y e f = omega arith
 
-      here : (i n m : ℕ) (s v : Bool) (x y : ℕ) → i < n → m ≡ n → s ≡ false → v ≡ true → y ≡ x →
-          ((nat_lt i n && (not s || nat_lt 0 x)) && not (nat_lt i m && (not v || nat_lt 0 y))) ≡ (nat_lt i n && not (nat_lt 0 x))
-      here i n m s v x y below long e f g = grind (arith, nat_tests)
+      here : (i n m : ℕ) (s v : Bool) (x y : ℕ) (a g g' : Bool) → i < n → m ≡ n → s ≡ false → v ≡ true → y ≡ x → g' ≡ g →
+          ((nat_lt i n && (not s || a)) && not (nat_lt i m && (not v || (nat_lt 0 y && not g')))) ≡ (nat_lt i n && (not (nat_lt 0 x) || g))
+      here i n m s v x y a true g' below long e f g same_given = grind (arith, nat_tests)
+      here i n m s v x y a false g' below long e f g same_given = grind (arith, nat_tests)
 
       there : (i n : ℕ) (a b c : Bool) → n ≤ i → ((nat_lt i n && a) && b) ≡ (nat_lt i n && c)
       there i n a b c above = grind (arith, nat_tests)
+
+-- the subpages that no entry maps
+abbrev pub unused_set : PageState → List Bool
+unused_set t = set_of (λ i. nat_lt i (size t) && not (nat_lt 0 (total_at t i)))
+
+-- they are what a split gives back that gives no zeros
+pub split_set-none : (t : PageState) → unused_set t ≡ split_set false t
+split_set-none t =
+    set_of-ext (λ i. nat_lt i (size t) && not (nat_lt 0 (total_at t i))) (λ i. nat_lt i (size t) && (not (nat_lt 0 (total_at t i)) || (false && zero_at t i)))
+    (λ i short. go (nat_lt i (size t)) (nat_lt 0 (total_at t i)) (zero_at t i)) where
+      go : (a b z : Bool) → (a && not b) ≡ (a && (not b || (false && z)))
+      go true true z = refl
+      go true false z = refl
+      go false b z = refl
+
+-- another gives back the zero-filled ones too
+pub split_set-zeros : (t : PageState) (unused : List Bool) → unused ≡ unused_set t → t.zero ≡ zero_set t → set_of (λ i. has unused i || has t.zero i) ≡ split_set true t
+split_set-zeros t unused is inside =
+    set_of-ext (λ i. has unused i || has t.zero i) (λ i. nat_lt i (size t) && (not (nat_lt 0 (total_at t i)) || (true && zero_at t i)))
+    (λ i short.
+    ap (λ b. b || has t.zero i) (ap (λ s. has s i) is ∙ get_or-set_of (λ j. nat_lt j (size t) && not (nat_lt 0 (total_at t j))) i short)
+    ∙ go (nat_lt i (size t)) (nat_lt 0 (total_at t i)) (zero_at t i) (ap (λ s. has s i) inside ∙ get_or-set_of (λ j. nat_lt j (size t) && zero_at t j) i short)) where
+      go : (a b z : Bool) → z ≡ (a && z) → ((a && not b) || z) ≡ (a && (not b || (true && z)))
+      go true true z e = refl
+      go true false z e = refl
+      go false b z e = e
 
 -- the subpages that aren't in use: those without mappings of their own where the page isn't mapped whole, else none
 pub unused_set-unmapped : (t : PageState) (n : ℕ) → n ≡ size t → t.whole ≡ 0 → set_of (λ i. covers 0 n i && nat_eq (own_at t i) 0) ≡ unused_set t

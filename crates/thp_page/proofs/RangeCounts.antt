@@ -5,7 +5,7 @@ use Rattle.std.proofs.lemmas.Bool.Decides.{nat_tests, eqb_tells}
 use Rattle.std.proofs.lemmas.List.{length-drop, get_or-drop}
 use Rattle.std.proofs.lemmas.List.Sums.{count_by_more_yes, count_by_more_no}
 use Rattle.thp_model.specs.Sets.{covers, some_below}
-use Rattle.thp_model.specs.Frames.{sum_below, count_below}
+use Rattle.thp_model.specs.Sets.{sum_below, count_below}
 use Rattle.thp_model.proofs.Below.{some_no, some_none}
 use Rattle.thp_model.proofs.SumsBelow.{sum_below-ext, sum_below-add, sum_below-one, sum_below-const, sum_below-stop}
 use Rattle.thp_page.specs.Ranges.{count_in_range}

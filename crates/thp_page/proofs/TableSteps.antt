@@ -7,7 +7,7 @@ use Rattle.thp_model.specs.Pages.{PageState}
 use Rattle.thp_page.specs.declared.page_table.Descriptor.{Descriptor}
 use Rattle.thp_page.specs.declared.standing.Standing.{Standing}
 use Rattle.thp_page.specs.Table.{Slot, Table}
-use Rattle.thp_page.specs.Slots.{slot_at, with_slot, number_in, page_in, paged, stood, IsHeld}
+use Rattle.thp_page.specs.Slots.{slot_at, with_slot, number_in, page_in, paged, stood, HoldsPage}
 use Rattle.thp_page.specs.Descriptors.{links_of, slot_of, slots_of, blank_descriptor}
 use Rattle.thp_page.specs.Lending.{with_page}
 
@@ -62,19 +62,19 @@ get_or-slots_of (n ∷ ns) (x ∷ ds) zero d same inside = refl
 get_or-slots_of (n ∷ ns) (x ∷ ds) (suc b) d same inside = get_or-slots_of ns ds b d (omega arith) (omega arith)
 
 -- a slot has a page of this number exactly where the block has the number
-pub number-held : (ns : List (Option ℕ)) (ds : List Descriptor) (b id : ℕ) → IsHeld (get_or (slots_of ns ds) b None) id → get_or ns b None ≡ Some id
+pub number-held : (ns : List (Option ℕ)) (ds : List Descriptor) (b id : ℕ) → HoldsPage (get_or (slots_of ns ds) b None) id → get_or ns b None ≡ Some id
 number-held [] ds b id held = absurd held
 number-held (n ∷ ns) [] b id held = absurd held
 number-held (None ∷ ns) (d ∷ ds) zero id held = absurd held
 number-held (Some m ∷ ns) (d ∷ ds) zero id held = ap (λ (k : ℕ). Some k) held
 number-held (n ∷ ns) (d ∷ ds) (suc b) id held = number-held ns ds b id held
 
-pub IsHeld-number : (ns : List (Option ℕ)) (ds : List Descriptor) (b id : ℕ) → length ns ≡ length ds → get_or ns b None ≡ Some id → IsHeld (get_or (slots_of ns ds) b None) id
-IsHeld-number [] ds b id same is = absurd (cc)
-IsHeld-number (n ∷ ns) [] b id same is = absurd (omega arith)
-IsHeld-number (None ∷ ns) (d ∷ ds) zero id same is = absurd (cc)
-IsHeld-number (Some m ∷ ns) (d ∷ ds) zero id same is = cc
-IsHeld-number (n ∷ ns) (d ∷ ds) (suc b) id same is = IsHeld-number ns ds b id (omega arith) is
+pub HoldsPage-number : (ns : List (Option ℕ)) (ds : List Descriptor) (b id : ℕ) → length ns ≡ length ds → get_or ns b None ≡ Some id → HoldsPage (get_or (slots_of ns ds) b None) id
+HoldsPage-number [] ds b id same is = absurd (cc)
+HoldsPage-number (n ∷ ns) [] b id same is = absurd (omega arith)
+HoldsPage-number (None ∷ ns) (d ∷ ds) zero id same is = absurd (cc)
+HoldsPage-number (Some m ∷ ns) (d ∷ ds) zero id same is = cc
+HoldsPage-number (n ∷ ns) (d ∷ ds) (suc b) id same is = HoldsPage-number ns ds b id (omega arith) is
 
 -- a slot with another page, and with another standing
 pub slot_of-page : (o : Option ℕ) (d : Descriptor) (p : PageState) → slot_of o (with_page d p) ≡ paged (slot_of o d) p
@@ -135,13 +135,13 @@ some_number order ns ds n b t view same inside taken = ap is_some (sym (number_r
   as_slot (Some s) = refl
 
 -- the block of a number, and a number that no block has
-pub number_found : (order : ℕ) (ns : List (Option ℕ)) (ds : List Descriptor) (n id : ℕ) (t : Table) (r : Option ℕ) → table_of order ns ds n ≡ t → length ns ≡ length ds → IfSome r (λ b. get_or ns b None ≡ Some id) → IfSome r (λ b. IsHeld (slot_at t b) id)
+pub number_found : (order : ℕ) (ns : List (Option ℕ)) (ds : List Descriptor) (n id : ℕ) (t : Table) (r : Option ℕ) → table_of order ns ds n ≡ t → length ns ≡ length ds → IfSome r (λ b. get_or ns b None ≡ Some id) → IfSome r (λ b. HoldsPage (slot_at t b) id)
 number_found order ns ds n id t None view same is = tt
-number_found order ns ds n id t (Some b) view same is = subst (λ (u : Table). IsHeld (slot_at u b) id) view (IsHeld-number ns ds b id same is)
+number_found order ns ds n id t (Some b) view same is = subst (λ (u : Table). HoldsPage (slot_at u b) id) view (HoldsPage-number ns ds b id same is)
 
-pub number_absent : (order : ℕ) (ns : List (Option ℕ)) (ds : List Descriptor) (n id : ℕ) (t : Table) (r : Option ℕ) → table_of order ns ds n ≡ t → IfNone r ((b : ℕ) → get_or ns b None ≢ Some id) → IfNone r ((b : ℕ) → IsHeld (slot_at t b) id → ⊥)
+pub number_absent : (order : ℕ) (ns : List (Option ℕ)) (ds : List Descriptor) (n id : ℕ) (t : Table) (r : Option ℕ) → table_of order ns ds n ≡ t → IfNone r ((b : ℕ) → get_or ns b None ≢ Some id) → IfNone r ((b : ℕ) → HoldsPage (slot_at t b) id → ⊥)
 number_absent order ns ds n id t (Some b) view none = tt
-number_absent order ns ds n id t None view none = λ b held. none b (number-held ns ds b id (subst (λ (u : Table). IsHeld (slot_at u b) id) (sym view) held))
+number_absent order ns ds n id t None view none = λ b held. none b (number-held ns ds b id (subst (λ (u : Table). HoldsPage (slot_at u b) id) (sym view) held))
 
 -- a descriptor written, with its pair kept
 pub descriptor_written : (order : ℕ) (ns : List (Option ℕ)) (ds : List Descriptor) (n b : ℕ) (d e : Descriptor) (t : Table) → table_of order ns ds n ≡ t → d ≡ get_or ds b d → e.link ≡ d.link → table_of order ns (set ds b e) n ≡ with_slot t b (slot_of (get_or ns b None) e)

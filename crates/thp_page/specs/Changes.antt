@@ -1,7 +1,7 @@
 -- What the calls of a page answer.
-use Rattle.std.specs.Prelude.{◌≡◌, Bool, not, ◌&&◌, nat_lt, List}
+use Rattle.std.specs.Prelude.{◌≡◌, Bool, not, ◌&&◌, ◌||◌, nat_lt, List}
 use Rattle.thp_model.specs.Sets.{set_of}
-use Rattle.thp_model.specs.Pages.{PageState, size, total_at, drops_use, has_use, gives_frames}
+use Rattle.thp_model.specs.Pages.{PageState, size, total_at, zero_at, drops_use, has_use, gives_frames}
 use Rattle.thp_page.specs.declared.page.Change.{Change}
 
 -- what an unmap tells of the change from one state of its page to another
@@ -10,6 +10,6 @@ pub record IsChange (old new : PageState) (change : Change) : Type 0 where
   pub used_left : change.used_left ≡ has_use new
   pub released : change.released ≡ gives_frames old new
 
--- the subpages that no entry maps
-abbrev pub unused_set : PageState → List Bool
-unused_set t = set_of (λ i. nat_lt i (size t) && not (nat_lt 0 (total_at t i)))
+-- the subpages whose frames a split gives back: those that no entry maps, and where it is to give zeros, the zero-filled ones
+abbrev pub split_set : Bool → PageState → List Bool
+split_set give_zero t = set_of (λ i. nat_lt i (size t) && (not (nat_lt 0 (total_at t i)) || (give_zero && zero_at t i)))

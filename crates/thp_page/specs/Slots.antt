@@ -38,6 +38,6 @@ stood None w = None
 stood (Some s) w = Some (record s { standing = w })
 
 -- the page of this number stands in the slot
-abbrev pub IsHeld : Option Slot → ℕ → Type 0
-IsHeld None id = ⊥
-IsHeld (Some s) id = s.id ≡ id
+abbrev pub HoldsPage : Option Slot → ℕ → Type 0
+HoldsPage None id = ⊥
+HoldsPage (Some s) id = s.id ≡ id

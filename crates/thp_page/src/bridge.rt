@@ -1,5 +1,5 @@
 //! The bridge from a page to the history of its node. Each function does nothing: its contract is the law.
-ghost use Rattle.thp_page.specs.Bridge.{OthersLeavePages, RefusalsAgree, FreshPageIsRecorded, MapWholeIsRecorded, UnmapWholeIsRecorded, MapSubIsRecorded, UnmapSubIsRecorded, SplitPmdIsRecorded, PinIsRecorded, UnpinIsRecorded, SplitIsRecorded};
+ghost use Rattle.thp_page.specs.Bridge.{OthersLeavePages, RefusalsAgree, FreshPageIsRecorded, MapWholeIsRecorded, UnmapWholeIsRecorded, MapSubIsRecorded, UnmapSubIsRecorded, SplitPmdIsRecorded, PinIsRecorded, UnpinIsRecorded, WriteIsRecorded, ZeroIsRecorded, WorthAgrees, SplitIsRecorded};
 
 /// A page that lives and is what its node's history says of it refuses each call about it exactly where the history does,
 /// for the same reason.
@@ -52,7 +52,22 @@ pub fn unpin_is_recorded()
     ensures { UnpinIsRecorded }
 {}
 
-/// The same of `split` of a page in a caller's batch, and the frames that it gives back.
+/// The same of `write`.
+pub fn write_is_recorded()
+    ensures { WriteIsRecorded }
+{}
+
+/// The same of `zero`.
+pub fn zero_is_recorded()
+    ensures { ZeroIsRecorded }
+{}
+
+/// A page that is what its node's history says of it is worth a split where the history says so.
+pub fn worth_agrees()
+    ensures { WorthAgrees }
+{}
+
+/// The same as of the other calls of `split` of a page in a caller's batch that is worth it, and the frames that it gives back.
 pub fn split_is_recorded()
     ensures { SplitIsRecorded }
 {}

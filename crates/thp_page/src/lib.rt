@@ -6,11 +6,7 @@ mod counts;
 mod page;
 mod page_numbers;
 mod page_table;
-#[cfg(test)]
-mod page_tests;
 mod standing;
-#[cfg(test)]
-mod table_tests;
 
 pub use page::{Change, Page};
 pub use page_table::PageTable;

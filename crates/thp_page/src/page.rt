@@ -1,7 +1,8 @@
-//! One page: its map counts, its pins, and whether it is split.
-ghost use Rattle.std.specs.Prelude.{◌≡◌, ℕ, ◌+◌, ◌<◌, ◌≤◌, Bool, true, false, not, ◌||◌, nat_eq, nat_lt, OnOk, OnErr, IfOk, Option, None};
+//! One page: its map counts, its pins, whether it is split, and which of its subpages are zero-filled.
+ghost use Rattle.std.specs.Prelude.{◌≡◌, ℕ, ◌+◌, ◌<◌, ◌≤◌, Bool, true, false, not, ◌&&◌, ◌||◌, nat_eq, nat_lt, OnOk, OnErr, IfOk, Option, None};
 ghost use Rattle.std.specs.Result.{result_err};
-ghost use Rattle.thp_model.specs.Pages.{size, own_at, total_at, holds, used_set, has_use, gives_frames, some_in_range, page_refusal, IsFresh, WholeMapped, RangeMapped, PmdSplit, Pinned, PageSplit};
+ghost use Rattle.thp_model.specs.Pages.{size, own_at, total_at, zero_at, holds, used_set, has_use, zero_set, zero_count, is_worth, gives_frames, some_in_range, page_refusal, IsFresh, WholeMapped, WholeUnmapped, RangeMapped, RangeUnmapped, PmdSplit, Pinned, RangeWritten, RangeZeroed, PageSplit};
+ghost use Rattle.thp_model.specs.Sets.{set_of, has};
 ghost use Rattle.thp_model.specs.Refusals.{most};
 ghost use Rattle.thp_model.specs.Refusals as call;
 ghost use Rattle.thp_page.specs.Fresh.{fresh_page};
@@ -23,11 +24,13 @@ pub struct Change {
     pub released: SubSet,
 }
 
-/// The map counts, the pins and the split state of one page.
+/// The map counts, the pins, the split state and the zero-filled subpages of one page.
 ///
 /// A mapping of the whole page by a PMD entry counts in `whole`, and one of a subpage by a PTE entry in that subpage's own
 /// count; a subpage is in use while either is positive (mm/transhuge.rst, "Refcounts and transparent huge pages"; this
-/// project's profile keeps a count for the page by itself). No call takes memory, and none copies the counts.
+/// project's profile keeps a count for the page by itself). A subpage is zero-filled until data is written to it, and again
+/// after zeros are (admin-guide/mm/transhuge.rst, "shrink_underused"; that writes tell it is this project's profile). No call
+/// takes memory, and none copies the counts.
 #[derive(Drop)]
 pub struct Page {
     // The page has `2 ^ order` subpages.
@@ -38,8 +41,14 @@ pub struct Page {
     pins: u16,
     // The page was split into base pages.
     split: bool,
+    // An unmap took a subpage out of use and left another in use.
+    partly: bool,
+    // The split gave back the frames of the zero-filled subpages too.
+    gave_zero: bool,
     // How many subpages a PTE entry maps. It saves a pass over the counts.
     mapped: u16,
+    // The zero-filled subpages.
+    zero: SubSet,
     // How often a PTE entry maps each subpage. No call looks behind the page's last subpage.
     own: [u16; MOST_SUBPAGES],
 }
@@ -57,9 +66,9 @@ impl Model for Page {
 }
 
 impl Page {
-    ghost use Rattle.thp_page.specs.Changes.{IsChange, unused_set};
+    ghost use Rattle.thp_page.specs.Changes.{IsChange, split_set};
 
-    /// A page that was just allocated: mapped whole once.
+    /// A page that was just allocated: mapped whole once, and all zero-filled.
     pub fn fresh(order: u32) -> Page
         requires least { 2 ≤ order }
         requires most { order ≤ 9 }
@@ -71,7 +80,10 @@ impl Page {
             whole: 1,
             pins: 0,
             split: false,
+            partly: false,
+            gave_zero: false,
             mapped: 0,
+            zero: SubSet::full(order),
             own: [0; MOST_SUBPAGES],
         }
     }
@@ -116,7 +128,7 @@ impl Page {
     /// One mapping of the whole page less. Refused as `IsSplit` and `NotMapped`.
     pub fn unmap_whole(&mut self) -> Result<Change, Refusal>
         ensures refusal { (p : ℕ) → result_err result ≡ page_refusal self.old (call.unmap_whole p) }
-        ensures counts { OnOk result (WholeMapped self.new self.old) }
+        ensures counts { OnOk result (WholeUnmapped self.old self.new) }
         ensures change { IfOk result (IsChange self.old self.new) }
         ensures kept { OnErr result (self.new ≡ self.old) }
     {
@@ -143,14 +155,16 @@ impl Page {
     /// `unmap_whole`, where it isn't refused.
     pub fn do_unmap_whole(&mut self) -> Change
         requires { page_refusal self.old (call.unmap_whole 0) ≡ None }
-        ensures counts { WholeMapped self.new self.old }
+        ensures counts { WholeUnmapped self.old self.new }
         ensures change { IsChange self.old self.new result }
     {
         let unused = self.whole == 1 && (self.mapped as usize) < self.subpages();
         self.whole -= 1;
+        let used_left = self.has_use();
+        self.partly |= unused && used_left;
         Change {
             unused,
-            used_left: self.has_use(),
+            used_left,
             released: SubSet::empty(),
         }
     }
@@ -199,7 +213,7 @@ impl Page {
     /// One mapping of each of the `count` subpages from `first` on less. Refused as `BadRange` and `NotMapped`.
     pub fn unmap_sub(&mut self, first: u32, count: u32) -> Result<Change, Refusal>
         ensures refusal { (p : ℕ) → result_err result ≡ page_refusal self.old (call.unmap_sub p first count) }
-        ensures counts { OnOk result (RangeMapped first count self.new self.old) }
+        ensures counts { OnOk result (RangeUnmapped first count self.old self.new) }
         ensures change { IfOk result (IsChange self.old self.new) }
         ensures kept { OnErr result (self.new ≡ self.old) }
     {
@@ -226,21 +240,23 @@ impl Page {
     /// `unmap_sub`, where it isn't refused.
     pub fn do_unmap_sub(&mut self, first: u32, count: u32) -> Change
         requires { page_refusal self.old (call.unmap_sub 0 first count) ≡ None }
-        ensures counts { RangeMapped first count self.new self.old }
+        ensures counts { RangeUnmapped first count self.old self.new }
         ensures change { IsChange self.old self.new result }
     {
         let (first, count) = (first as usize, count as usize);
         let gone = unmap_range(&mut self.own, first, count);
         self.mapped -= gone;
         let unused = self.whole == 0 && gone > 0;
+        let used_left = self.has_use();
         let released = if self.split {
-            subpages_with_count(&self.own, first, count, 0)
+            self.without_given(subpages_with_count(&self.own, first, count, 0))
         } else {
             SubSet::empty()
         };
+        self.partly |= unused && used_left;
         Change {
             unused,
-            used_left: self.has_use(),
+            used_left,
             released,
         }
     }
@@ -353,13 +369,87 @@ impl Page {
         self.pins -= 1;
     }
 
+    /// Data is written to each of the `count` subpages from `first` on, so that none of them is zero-filled any more. Refused
+    /// as `BadRange`, `IsSplit` and `NotMapped`.
+    pub fn write(&mut self, first: u32, count: u32) -> Result<(), Refusal>
+        ensures refusal { (p : ℕ) → result_err result ≡ page_refusal self.old (call.write p first count) }
+        ensures written { OnOk result (RangeWritten first count self.old self.new) }
+        ensures kept { OnErr result (self.new ≡ self.old) }
+    {
+        match self.refusal_write(first, count) {
+            Some(refusal) => Err(refusal),
+            None => {
+                self.do_write(first, count);
+                Ok(())
+            }
+        }
+    }
+
+    /// Why `write` would be refused, if it would.
+    #[tactic(auto, unfolding(thp_model::specs::Pages::page_refusal))]
+    pub fn refusal_write(&self, first: u32, count: u32) -> Option<Refusal>
+        ensures { (p : ℕ) → result ≡ page_refusal self.now (call.write p first count) }
+    {
+        if self.is_bad_range(first, count) {
+            Some(Refusal::BadRange)
+        } else if self.split {
+            Some(Refusal::IsSplit)
+        } else if self.has_unused(first as usize, count as usize) {
+            Some(Refusal::NotMapped)
+        } else {
+            None
+        }
+    }
+
+    /// `write`, where it isn't refused.
+    pub fn do_write(&mut self, first: u32, count: u32)
+        requires { page_refusal self.old (call.write 0 first count) ≡ None }
+        ensures { RangeWritten first count self.old self.new }
+    {
+        self.zero = self.zero.difference(SubSet::range(first, count));
+    }
+
+    /// Zeros are written to each of the `count` subpages from `first` on, so that all of them are zero-filled. Refused as
+    /// `BadRange`, `IsSplit` and `NotMapped`.
+    pub fn zero(&mut self, first: u32, count: u32) -> Result<(), Refusal>
+        ensures refusal { (p : ℕ) → result_err result ≡ page_refusal self.old (call.zero_fill p first count) }
+        ensures zeroed { OnOk result (RangeZeroed first count self.old self.new) }
+        ensures kept { OnErr result (self.new ≡ self.old) }
+    {
+        match self.refusal_zero(first, count) {
+            Some(refusal) => Err(refusal),
+            None => {
+                self.do_zero(first, count);
+                Ok(())
+            }
+        }
+    }
+
+    /// Why `zero` would be refused, if it would.
+    #[tactic(auto, unfolding(thp_model::specs::Pages::page_refusal))]
+    pub fn refusal_zero(&self, first: u32, count: u32) -> Option<Refusal>
+        ensures { (p : ℕ) → result ≡ page_refusal self.now (call.zero_fill p first count) }
+    {
+        // Zeros are written as data is.
+        self.refusal_write(first, count)
+    }
+
+    /// `zero`, where it isn't refused.
+    pub fn do_zero(&mut self, first: u32, count: u32)
+        requires { page_refusal self.old (call.zero_fill 0 first count) ≡ None }
+        ensures { RangeZeroed first count self.old self.new }
+    {
+        self.zero = self.zero.union(SubSet::range(first, count));
+    }
+
     /// Splits the page into base pages, each with all its mappings as its own, and answers the subpages whose frames that
-    /// gives back: those that aren't in use (mm/transhuge.rst, "Partial unmap and deferred_split_huge_page()").
-    pub fn split(&mut self) -> SubSet
+    /// gives back: those that aren't in use (mm/transhuge.rst, "Partial unmap and deferred_split_huge_page()"), and where
+    /// `give_zero`, the zero-filled ones too. The mappings of those stay, as mappings of the shared zero page.
+    pub fn split(&mut self, give_zero: bool) -> SubSet
         requires whole { self.old.split ≡ false }
         requires unpinned { self.old.pins ≡ 0 }
-        ensures counts { PageSplit self.old self.new }
-        ensures unused { result ≡ unused_set self.old }
+        ensures counts { PageSplit give_zero self.old self.new }
+        ensures given { result ≡ split_set give_zero self.old }
         ensures released { result ≡ gives_frames self.old self.new }
     {
         let subpages = self.subpages();
@@ -372,7 +462,12 @@ impl Page {
         self.mapped = mapped;
         self.whole = 0;
         self.split = true;
-        unused
+        self.gave_zero = give_zero;
+        if give_zero {
+            unused.union(self.zero)
+        } else {
+            unused
+        }
     }
 
     /// The page's order.
@@ -383,12 +478,12 @@ impl Page {
         self.order
     }
 
-    /// Whether subpage `i` is in use.
+    /// Whether subpage `i` is in use. Beyond the page nothing is.
     pub fn in_use(&self, i: u32) -> bool
-        requires { i < size self.now }
-        ensures { result ≡ nat_lt 0 (total_at self.now i) }
+        ensures { result ≡ (nat_lt i (size self.now) && nat_lt 0 (total_at self.now i)) }
     {
-        self.whole > 0 || self.own[i as usize] > 0
+        let i = i as usize;
+        i < self.subpages() && (self.whole > 0 || self.own[i] > 0)
     }
 
     /// Whether some subpage is in use.
@@ -408,6 +503,39 @@ impl Page {
         } else {
             all.difference(subpages_with_count(&self.own, 0, self.subpages(), 0))
         }
+    }
+
+    /// The zero-filled subpages.
+    pub fn zero_set(&self) -> SubSet
+        ensures { result ≡ zero_set self.now }
+    {
+        self.zero
+    }
+
+    /// How many subpages are zero-filled.
+    pub fn zero_count(&self) -> u32
+        ensures { result ≡ zero_count self.now }
+    {
+        self.zero.count()
+    }
+
+    /// Whether the page is partly mapped: an unmap took a subpage out of use and left another in use.
+    pub fn is_partly(&self) -> bool
+        ensures { result ≡ self.now.partly }
+    {
+        self.partly
+    }
+
+    /// Whether a split of the page is worth its while: it is partly mapped, or more of its subpages are zero-filled than
+    /// the threshold says, if there is one.
+    pub fn is_worth(&self, threshold: Option<u32>) -> bool
+        ensures { result ≡ is_worth threshold self.now }
+    {
+        self.partly
+            || match threshold {
+                Some(threshold) => self.zero_count() > threshold,
+                None => false,
+            }
     }
 
     /// How often a PMD entry maps the whole page.
@@ -461,7 +589,8 @@ impl Page {
         requires inside { first + count ≤ size self.now }
         ensures { result ≡ some_in_range self.now first count (λ i. not (holds self.now i)) }
     {
-        range_has_count(&self.own, first, count, 0)
+        let given = self.gave_zero && self.has_zero_filled(first, count);
+        given || self.has_unmapped(first, count)
     }
 
     // Whether a subpage of the range has no mapping of its own.
@@ -470,5 +599,35 @@ impl Page {
         ensures { result ≡ some_in_range self.now first count (λ i. nat_eq (own_at self.now i) 0) }
     {
         range_has_count(&self.own, first, count, 0)
+    }
+
+    // Whether a subpage of the range is zero-filled.
+    fn has_zero_filled(&self, first: usize, count: usize) -> bool
+        requires { first + count ≤ size self.now }
+        ensures { result ≡ some_in_range self.now first count (zero_at self.now) }
+    {
+        let zero = self.zero;
+        let others = zero.difference(SubSet::range(first as u32, count as u32));
+        !zero.difference(others).is_empty()
+    }
+
+    // Whether a subpage of the range isn't in use.
+    fn has_unused(&self, first: usize, count: usize) -> bool
+        requires { first + count ≤ size self.now }
+        ensures { result ≡ some_in_range self.now first count (λ i. nat_eq (total_at self.now i) 0) }
+    {
+        self.whole == 0 && self.has_unmapped(first, count)
+    }
+
+    // The subpages of a set but those whose frames the page's split gave back as zero-filled.
+    fn without_given(&self, subpages: SubSet) -> SubSet
+        ensures { result ≡ set_of (λ i. has subpages i && not (self.now.gave_zero && zero_at self.now i)) }
+    {
+        let given = if self.gave_zero {
+            self.zero
+        } else {
+            SubSet::empty()
+        };
+        subpages.difference(given)
     }
 }

@@ -1,8 +1,10 @@
 //! The table of page descriptors: for each block of a node a link pair and, where it is taken, a page.
 ghost use Rattle.std.specs.Prelude.{◌≡◌, ◌<◌, ◌≤◌, ℕ, ◌+◌, length, replicate, IsSome, IfOk, IfSome, IfNone, Option, Some, None};
 ghost use Rattle.std.specs.Option.{option_map, option_copied_mut};
+ghost use Rattle.thp_model.specs.Pages.{IsFresh};
+ghost use Rattle.thp_page.specs.Fresh.{fresh_page};
 ghost use Rattle.thp_page.specs.Table.{Slot};
-ghost use Rattle.thp_page.specs.Slots.{slot_at, with_slot, fresh_slot, number_in, page_in, stood, IsHeld};
+ghost use Rattle.thp_page.specs.Slots.{slot_at, with_slot, fresh_slot, number_in, page_in, stood, HoldsPage};
 
 use crate::page::Page;
 use crate::page_numbers::PageNumbers;
@@ -89,9 +91,9 @@ impl PageTable {
 
     /// The block of the page of this number; where no block has it, `None`.
     pub fn block_of(&self, id: PageId) -> Option<u32>
-        ensures found { IfSome result (λ b. IsHeld (slot_at self.now b) id) }
+        ensures found { IfSome result (λ b. HoldsPage (slot_at self.now b) id) }
         ensures inside { IfSome result (λ b. b < length self.now.links) }
-        ensures absent { IfNone result ((b : ℕ) → IsHeld (slot_at self.now b) id → ⊥) }
+        ensures absent { IfNone result ((b : ℕ) → HoldsPage (slot_at self.now b) id → ⊥) }
     {
         let _blocks = self.descriptors.len();
         self.numbers.block_of(id)
@@ -123,8 +125,9 @@ impl PageTable {
     pub fn place(&mut self, block: u32, id: PageId)
         requires inside { block < length self.old.links }
         requires empty { slot_at self.old block ≡ None }
-        requires new { (b : ℕ) → IsHeld (slot_at self.old b) id → ⊥ }
-        ensures { self.new ≡ with_slot self.old block (Some (fresh_slot self.old.order id)) }
+        requires new { (b : ℕ) → HoldsPage (slot_at self.old b) id → ⊥ }
+        ensures table { self.new ≡ with_slot self.old block (Some (fresh_slot self.old.order id)) }
+        ensures fresh { IsFresh self.old.order (fresh_page self.old.order) }
     {
         let descriptor = &mut self.descriptors[block as usize];
         descriptor.standing = Standing::Nowhere;

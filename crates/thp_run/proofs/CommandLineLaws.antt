@@ -16,7 +16,7 @@ use Rattle.clap.specs.declared.parser.matches.ArgMatches.{ArgMatches}
 use Rattle.clap.proofs.OnLiterals.{clap_on_literals}
 use Rattle.clap.proofs.WalkLemmas.{first_value-rows, one_text-rows}
 use Rattle.std.proofs.lemmas.List.Elements.{All-nil}
-use Rattle.thp_run.specs.CommandLine.{FailsAsWords, HoldsWords, WritesNumber, blocks_rule, report_name, report_rule}
+use Rattle.thp_run.specs.CommandLine.{FailsAsWords, HoldsWords, WritesNumber, bare, blocks_rule, report_name, report_rule}
 use Rattle.thp_run.specs.Options.{IsOption}
 use Rattle.thp_run.specs.OwnCommand.{IsOwnCommand}
 use Rattle.thp_run.specs.declared.line.Line.{Line}
@@ -29,7 +29,7 @@ abbrev pub rules : ReportNames → List Rule
 rules names = blocks_rule ∷ report_rule names ∷ []
 
 abbrev pub thpsplit : ReportNames → App
-thpsplit names = with_rule (with_rule (new_app (codes "thpsplit")) blocks_rule) (report_rule names)
+thpsplit names = with_rule (with_rule bare blocks_rule) (report_rule names)
 
 blocks_default : (names : ReportNames) → IsDefaultRule (rules names) 0 blocks_rule (Signed (pos 1) (pos 4096))
 blocks_default names = record { within = omega arith; here = λ d. refl; once = refl; set = refl; range = refl; default = refl; reads = refl; exact_case = refl; named = refl; own = refl }
@@ -37,8 +37,8 @@ blocks_default names = record { within = omega arith; here = λ d. refl; once = 
 report_default : (names : ReportNames) → IsDefaultRule (rules names) 1 (report_rule names) (Names names)
 report_default names = record { within = omega arith; here = λ d. refl; once = refl; set = refl; range = refl; default = refl; reads = refl; exact_case = refl; named = refl; own = refl }
 
--- a new command that was told what it is about, and to which the two options were added
-module _ (new start middle command : Command) (about : _) (blocks report : Arg) (is : out-Command start ≡ record (out-Command new) { about = about }) (first : AddsArg start blocks middle) (second : AddsArg middle report command) where
+-- a new command that was given a version and what its help says, and to which the two options were added
+module _ (new start middle command : Command) (version : _) (about after_help : _) (blocks report : Arg) (is : out-Command start ≡ record (out-Command new) { about = about; version = Some version; after_help = after_help }) (first : AddsArg start blocks middle) (second : AddsArg middle report command) where
   pub own : (names : ReportNames) → map (λ name. name.now) names.now ≡ codes "totals" ∷ [] → app_of new ≡ new_app (codes "thpsplit") → args_of new ≡ [] → groups_of new ≡ [] → (out-Command new).has_globals ≡ false
       → IsOption blocks blocks_rule → IsOption report (report_rule names) → IsOwnCommand command
   own names totals app args groups globals is-blocks is-report =
@@ -46,7 +46,7 @@ module _ (new start middle command : Command) (about : _) (blocks report : Arg) 
       let none : args_of start ≡ [] = ap (λ f. f.args.items) is ∙ args in
       let no-groups : groups_of start ≡ [] = ap (λ f. f.groups.items) is ∙ groups in
       let plain : IsPlain start = (rw none (All-nil IsPlainArg), no-groups) in
-      let start-app : app_of start ≡ new_app (codes "thpsplit") = ap app_of_fields is ∙ app in
+      let start-app : app_of start ≡ bare = ap app_of_fields is ∙ ap (λ (a : App). record a { top = record a.top { has_version = true } }) app in
       let chain = chained start command (blocks ∷ report ∷ []) (rules names) adds (is-blocks, (is-report, tt)) plain (ap (λ f. f.has_globals) is ∙ globals) in
       record {
         is_thpsplit = record {

@@ -1,7 +1,3 @@
-pub mod PieceLaws
-pub mod NumberLaws
-pub mod SectionLaws
-pub mod ScriptLaws
 pub mod ReportLaws
 pub mod DeviceLaws
 pub mod OptionLaws
@@ -11,3 +7,4 @@ pub mod CommandLineLaws
 pub mod StepLaws
 pub mod RunLaws
 pub mod OneNodeLaws
+pub mod OutcomeLaws

@@ -15,7 +15,7 @@ use Rattle.thp_model.specs.History.{History, by}
 use Rattle.thp_model.specs.Refusals.{refusal}
 use Rattle.thp_model.specs.Refusals as call
 use Rattle.thp_model.specs.Runs.{scan_events}
-use Rattle.thp_node.specs.declared.answers.Done.{Done}
+use Rattle.thp_places.specs.declared.page_call.Done.{Done}
 use Rattle.thp_node.specs.declared.answers.ScanReply.{ScanReply}
 use Rattle.thp_node.specs.Batches.{scan_reply}
 use Rattle.thp_node.specs.Calls.{Did, DidAlloc, Refused}
@@ -23,12 +23,12 @@ use Rattle.thp_node.specs.NodeState.{NodeState}
 use Rattle.thp_run.specs.declared.reply.Reply.{Reply}
 use Rattle.thp_run.specs.declared.reply.Reply.TheVariants as reply
 use Rattle.thp_run.specs.declared.reply.Reply.TheVariants.{Page, Unit as UnitReply}
-use Rattle.thp_run.specs.declared.script.Op.{Op}
-use Rattle.thp_run.specs.declared.script.Op.TheVariants.{Alloc, MapWhole, UnmapWhole, Map, Unmap, SplitPmd, Pin, Unpin, Close, Scan}
-use Rattle.thp_run.specs.Answers.{Answer, Answers, Does, call_of}
+use Rattle.thp_text.specs.declared.script.Op.{Op}
+use Rattle.thp_text.specs.declared.script.Op.TheVariants.{Alloc, MapWhole, UnmapWhole, Map, Unmap, SplitPmd, Pin, Unpin, Close, Scan, Take, Count, SplitNext, PutBack}
+use Rattle.thp_run.specs.Answers.{Answer, Answers, Does, refusal_of}
 use Rattle.thp_run.specs.Fronts.{Moves, StepDone, Tells}
-use Rattle.thp_run.specs.declared.settings.Settings.{Settings}
-use Rattle.thp_run.specs.NewNodes.{IsNew, shape_of}
+use Rattle.thp_text.specs.declared.settings.Settings.{Settings}
+use Rattle.thp_run.specs.NewNodes.{IsNew, IsServed, shape_of}
 use Rattle.thp_run.specs.OneNode.{change_answer, fronts_of, only, unit_answer}
 
 -- a call is never refused at a history for want of memory
@@ -36,18 +36,22 @@ memory_last : (b : Bool) (why : Refusal) (rest : Option Refusal) → (why ≡ Ou
 memory_last true why rest here later is = here (ap (λ o. unwrap_or o why) is)
 memory_last false why rest here later is = later is
 
-never_memory : (s : Shape) (h : History) (c : ℕ) (op : Op) → refusal s h (call_of c op) ≡ Some OutOfMemory → ⊥
+never_memory : (s : Shape) (h : History) (c : ℕ) (op : Op) → refusal_of s h c op ≡ Some OutOfMemory → ⊥
 unfolding refusal
 never_memory s h c Alloc = memory_last _ Closed _ (λ e. cc) (memory_last _ NoBlock None (λ e. cc) (λ e. cc))
 never_memory s h c (MapWhole p) = memory_last _ NoPage _ (λ e. cc) (memory_last _ IsSplit _ (λ e. cc) (memory_last _ TooMany None (λ e. cc) (λ e. cc)))
 never_memory s h c (UnmapWhole p) = memory_last _ NoPage _ (λ e. cc) (memory_last _ IsSplit _ (λ e. cc) (memory_last _ NotMapped None (λ e. cc) (λ e. cc)))
-never_memory s h c (Map p first count) = memory_last _ NoPage _ (λ e. cc) (memory_last _ BadRange _ (λ e. cc) (memory_last _ Gone _ (λ e. cc) (memory_last _ TooMany None (λ e. cc) (λ e. cc))))
+never_memory s h c (Map first count p) = memory_last _ NoPage _ (λ e. cc) (memory_last _ BadRange _ (λ e. cc) (memory_last _ Gone _ (λ e. cc) (memory_last _ TooMany None (λ e. cc) (λ e. cc))))
 never_memory s h c (SplitPmd p) = memory_last _ NoPage _ (λ e. cc) (memory_last _ IsSplit _ (λ e. cc) (memory_last _ NotMapped None (λ e. cc) (λ e. cc)))
-never_memory s h c (Unmap p first count) = memory_last _ NoPage _ (λ e. cc) (memory_last _ BadRange _ (λ e. cc) (memory_last _ NotMapped None (λ e. cc) (λ e. cc)))
+never_memory s h c (Unmap first count p) = memory_last _ NoPage _ (λ e. cc) (memory_last _ BadRange _ (λ e. cc) (memory_last _ NotMapped None (λ e. cc) (λ e. cc)))
 never_memory s h c (Pin p) = memory_last _ NoPage _ (λ e. cc) (memory_last _ IsSplit _ (λ e. cc) (memory_last _ TooMany None (λ e. cc) (λ e. cc)))
 never_memory s h c (Unpin p) = memory_last _ NoPage _ (λ e. cc) (memory_last _ IsSplit _ (λ e. cc) (memory_last _ NotPinned None (λ e. cc) (λ e. cc)))
 never_memory s h c Close = memory_last _ Closed None (λ e. cc) (λ e. cc)
 never_memory s h c (Scan count) = memory_last _ HasBatch None (λ e. cc) (λ e. cc)
+never_memory s h c (Take count) = memory_last _ HasBatch None (λ e. cc) (λ e. cc)
+never_memory s h c Count = λ e. cc
+never_memory s h c SplitNext = λ e. cc
+never_memory s h c PutBack = λ e. cc
 
 abbrev shapes : Shape → ℕ → Shape
 shapes s n = s
@@ -76,16 +80,16 @@ did_moves old new c own did = record {
   legal = λ _. rw did.shape at did.legal;
 }
 
-answers_done : (s : Shape) (h : History) (c : ℕ) (op : Op) (own : List Event) (reply : Reply) → refusal s h (call_of c op) ≡ None → Does s h c op own (Ok reply) → Answers s h c op own (Ok reply)
+answers_done : (s : Shape) (h : History) (c : ℕ) (op : Op) (own : List Event) (reply : Reply) → refusal_of s h c op ≡ None → Does s h c op own (Ok reply) → Answers s h c op own (Ok reply)
 unfolding Answers
 answers_done s h c op own reply allowed does = rw allowed does
 
-answers_refused : (s : Shape) (h : History) (c : ℕ) (op : Op) (why : Refusal) → refusal s h (call_of c op) ≡ Some why → Answers s h c op [] (Err why)
+answers_refused : (s : Shape) (h : History) (c : ℕ) (op : Op) (why : Refusal) → refusal_of s h c op ≡ Some why → Answers s h c op [] (Err why)
 unfolding Answers
 answers_refused s h c op why refused = rw refused (refl, refl)
 
 -- a call that was done
-pub done_step : (old new : NodeState) (c : ℕ) (op : Op) (own : List Event) (reply : Reply) → refusal old.shape old.journal (call_of c op) ≡ None → Did old new c own → Does old.shape old.journal c op own (Ok reply) → StepDone c 0 op (fronts_of old) (fronts_of new) (Ok reply)
+pub done_step : (old new : NodeState) (c : ℕ) (op : Op) (own : List Event) (reply : Reply) → refusal_of old.shape old.journal c op ≡ None → Did old new c own → Does old.shape old.journal c op own (Ok reply) → StepDone c 0 op (fronts_of old) (fronts_of new) (Ok reply)
 done_step old new c op own reply allowed did does = record {
   others = [];
   own = own;
@@ -93,7 +97,7 @@ done_step old new c op own reply allowed did does = record {
   tells = rw append-nil (answers_done old.shape old.journal c op own reply allowed does);
 }
 
-tells_refused : (s : Shape) (h : History) (c : ℕ) (op : Op) (why : Refusal) → refusal s h (call_of c op) ≡ Some why → Tells s h c op [] (Err why)
+tells_refused : (s : Shape) (h : History) (c : ℕ) (op : Op) (why : Refusal) → refusal_of s h c op ≡ Some why → Tells s h c op [] (Err why)
 tells_refused s h c op OutOfMemory refused = absurd (never_memory s h c op refused)
 tells_refused s h c op why refused = answers_refused s h c op why refused
 
@@ -114,12 +118,12 @@ nothing_moves old new c same = record {
   legal = λ legal. rw same legal;
 }
 
-tells_cause : (old : NodeState) (c : ℕ) (op : Op) (m : ℕ) (why : Refusal) → (refusal old.shape old.journal (call_of c op) ≡ Some why) ⊎ ((refusal old.shape old.journal (call_of c op) ≡ None) × (why ≡ OutOfMemory) × (old.room < m)) → Tells old.shape old.journal c op [] (Err why)
+tells_cause : (old : NodeState) (c : ℕ) (op : Op) (m : ℕ) (why : Refusal) → (refusal_of old.shape old.journal c op ≡ Some why) ⊎ ((refusal_of old.shape old.journal c op ≡ None) × (why ≡ OutOfMemory) × (old.room < m)) → Tells old.shape old.journal c op [] (Err why)
 tells_cause old c op m why (inl told) = tells_refused old.shape old.journal c op why told
 tells_cause old c op m why (inr memory) = subst (λ (r : Refusal). Tells old.shape old.journal c op [] (Err r)) (sym memory.1) (memory.0, refl)
 
 -- a call that was refused, or that had no memory
-pub refused_step : (old new : NodeState) (c : ℕ) (op : Op) (m : ℕ) (why : Refusal) → Refused old new (refusal old.shape old.journal (call_of c op)) m why → StepDone c 0 op (fronts_of old) (fronts_of new) (Err why)
+pub refused_step : (old new : NodeState) (c : ℕ) (op : Op) (m : ℕ) (why : Refusal) → Refused old new (refusal_of old.shape old.journal c op) m why → StepDone c 0 op (fronts_of old) (fronts_of new) (Err why)
 refused_step old new c op m why refused = record {
   others = [];
   own = [];
@@ -145,9 +149,9 @@ pub unit_step : (old new : NodeState) (c n : ℕ) (op same : Op) (event : What) 
     → n ≡ 0
     → op ≡ same
     → answer ≡ unit_answer called
-    → OnOk called (refusal old.shape old.journal (call_of c same) ≡ None)
+    → OnOk called (refusal_of old.shape old.journal c same ≡ None)
     → OnOk called (Did old new c (by c event ∷ []))
-    → IfErr called (Refused old new (refusal old.shape old.journal (call_of c same)) 1)
+    → IfErr called (Refused old new (refusal_of old.shape old.journal c same) 1)
     → Does old.shape old.journal c same (by c event ∷ []) (Ok UnitReply)
     → StepDone c n op (fronts_of old) (fronts_of new) answer
 unit_step old new c n op same event (Ok u) answer is-0 is answered allowed did refused does = rw (is-0, is, answered) (done_step old new c same (by c event ∷ []) UnitReply allowed did does)
@@ -158,9 +162,9 @@ pub change_step : (old new : NodeState) (c n : ℕ) (op same : Op) (event : Outc
     → n ≡ 0
     → op ≡ same
     → answer ≡ change_answer called
-    → OnOk called (refusal old.shape old.journal (call_of c same) ≡ None)
+    → OnOk called (refusal_of old.shape old.journal c same ≡ None)
     → IfOk called (λ d. Did old new c (by c (event d.outcome d.released) ∷ []))
-    → IfErr called (Refused old new (refusal old.shape old.journal (call_of c same)) 1)
+    → IfErr called (Refused old new (refusal_of old.shape old.journal c same) 1)
     → ((d : Done) → Does old.shape old.journal c same (by c (event d.outcome d.released) ∷ []) (Ok (reply.Done d)))
     → StepDone c n op (fronts_of old) (fronts_of new) answer
 change_step old new c n op same event (Ok d) answer is-0 is answered allowed did refused does = rw (is-0, is, answered) (done_step old new c same (by c (event d.outcome d.released) ∷ []) (reply.Done d) allowed did (does d))
@@ -172,9 +176,9 @@ only_nothing : (n : ℕ) → only [] n ≡ []
 only_nothing zero = refl
 only_nothing (suc n) = refl
 
-pub new_node : (s : Settings) (node : NodeState) → node.shape ≡ shape_of s 0 → node.journal ≡ [] → IsNew s (fronts_of node)
-new_node s node shape journal = record {
-  nodes = omega (arith, s.within_limits.least_nodes, s.within_limits.most_nodes);
+pub new_node : (s : Settings) (node : NodeState) → node.shape ≡ shape_of s 0 → node.journal ≡ [] → IsServed s → IsNew s (fronts_of node)
+new_node s node shape journal served = record {
+  nodes = omega (arith, served.one_node);
   shape = ap shapes shape;
   front = λ n. rw journal (only_nothing n);
   first = refl;

@@ -13,12 +13,12 @@ use Rattle.thp_model.specs.History.{History, events_of}
 use Rattle.thp_model.specs.Legal.{IsLegal}
 use Rattle.thp_model.proofs.LegalSteps.{legal_none}
 use Rattle.thp_model.proofs.ListPlaces.{get_below}
-use Rattle.thp_run.specs.declared.fault.ReadFault.{ReadFault}
-use Rattle.thp_run.specs.declared.fault.ReadFault.TheVariants as reading
+use Rattle.thp_text.specs.declared.fault.ReadFault.{ReadFault}
+use Rattle.thp_text.specs.declared.fault.ReadFault.TheVariants as reading
 use Rattle.thp_run.specs.declared.fault.RunFault.{RunFault}
 use Rattle.thp_run.specs.declared.fault.RunFault.TheVariants.{Write}
-use Rattle.thp_run.specs.declared.script.Script.{Script}
-use Rattle.thp_run.specs.declared.settings.Settings.{Settings}
+use Rattle.thp_text.specs.declared.script.Script.{Script}
+use Rattle.thp_text.specs.declared.settings.Settings.{Settings}
 use Rattle.thp_run.specs.Devices.{IsInputOf, WritesFront}
 use Rattle.thp_run.specs.Fronts.{Fronts}
 use Rattle.thp_run.specs.NewNodes.{IsNew, shape_of}
@@ -26,9 +26,10 @@ use Rattle.thp_run.specs.Programs.{Ends, IsReport, totals_report}
 use Rattle.thp_run.specs.Reports.{totals_of, totals_text}
 use Rattle.thp_run.specs.RunFaults.{run_fault}
 use Rattle.thp_run.specs.Runs.{Step, IsAfterSetup, IsRun, IsSection, IsStep, own_events}
-use Rattle.thp_run.specs.Scripts.{Fault, IsScriptFor, TellsFault, script_of}
+use Rattle.thp_text.specs.declared.vocabulary.Vocabulary.TheVariants.{SetupOnly}
+use Rattle.thp_text.specs.Scripts.{Fault, IsScriptFor, TellsFault, script_of}
 use Rattle.thp_run.specs.Works.{Worked}
-use Rattle.thp_run.proofs.ScriptLaws.{too_long}
+use Rattle.thp_text.proofs.ScriptLaws.{too_long}
 
 append-none : (es : History) → [] ++ es ≡ es
 append-none es = refl
@@ -62,7 +63,7 @@ unfolding events_of
 only_setup_caller most h = λ k d lt. let by-setup : (get_or (filter (λ (e : Event). nat_eq e.caller 0) h) k d).caller ≡ 0 = eqb-true _ 0 (filter_passes (λ (e : Event). nat_eq e.caller 0) h k d lt) in omega arith
 
 -- what `setup` does on new nodes is a run of a script that has no other section
-pub run_of_setup : (s : Settings) (old new : Fronts) (script : Script) (steps : List Step) → IsNew s old → Worked 0 old new script.setup steps → IsScriptFor s.nodes script → IsRun (shape_of s) script new.front
+pub run_of_setup : (s : Settings) (old new : Fronts) (script : Script) (steps : List Step) → IsNew s old → Worked 0 old new script.setup steps → IsScriptFor SetupOnly s script → IsRun (shape_of s) script new.front
 run_of_setup s old new script steps is-new w fits =
     let own : (n : ℕ) → events_of 0 (new.front n) ≡ own_events n steps = λ n. w.own n ∙ rw (is-new.front n) (nothing_before 0 (own_events n steps)) in
     let all : (n : ℕ) → new.front n ≡ events_of 0 (new.front n) = λ n. w.sole is-new.first is-new.end n ∙ rw (is-new.front n) (append-none (own_events n steps)) ∙ sym (own n) in
@@ -79,7 +80,7 @@ run_of_setup s old new script steps is-new w fits =
       );
       setup_first = λ n. ([], all n ∙ sym (append-nil (events_of 0 (new.front n))));
       workers = λ k commands at.
-          let none : commands ≡ [] = sym (get_or_from_slice_get script.workers k commands [] at) ∙ fits.only_setup k [] (get_below script.workers k commands at) in
+          let none : commands ≡ [] = sym (get_or_from_slice_get script.workers k commands [] at) ∙ fits.kept k [] (get_below script.workers k commands at) in
           let idle : (n : ℕ) → events_of (k + 1) (new.front n) ≡ [] = λ n. ap (events_of (k + 1)) (all n) ∙ others_of 0 (k + 1) (new.front n) (λ e. absurd (omega arith)) in
           ([], rw none (no_section (shape_of s) new.front (k + 1) idle), All-nil (IsAfterSetup new.front));
       nobody_else = λ n. subst (λ (h : History). All (λ (e : Event). e.caller ≤ length script.workers) h) (sym (all n)) (only_setup_caller (length script.workers) (new.front n));
@@ -91,17 +92,17 @@ pub keeps_same : (known : Option (List ℕ)) → Keeps known known
 keeps_same None = tt
 keeps_same (Some xs) = refl
 
-same_script : (s : Settings) (input bytes : List ℕ) → IsInputOf bytes input → script_of s bytes ≡ script_of s input
+same_script : (s : Settings) (input bytes : List ℕ) → IsInputOf bytes input → script_of SetupOnly s bytes ≡ script_of SetupOnly s input
 same_script s input bytes read =
     elim (cases_lt 16777216 (length bytes)) [
-      | inl more ↦ too_long s bytes more ∙ sym (too_long s input (rw read.front (omega (arith, length-append bytes read.rest))))
-      | inr less ↦ ap (script_of s) (sym (read.front ∙ rw (read.all less, append-nil) refl))
+      | inl more ↦ too_long SetupOnly s bytes more ∙ sym (too_long SetupOnly s input (rw read.front (omega (arith, length-append bytes read.rest))))
+      | inr less ↦ ap (script_of SetupOnly s) (sym (read.front ∙ rw (read.all less, append-nil) refl))
     ]
 
 pub report_of_input : (s : Settings) (input bytes text : List ℕ) → IsInputOf bytes input → IsReport s bytes text → IsReport s input text
 report_of_input s input bytes text read r = record { script = r.script; spelled = sym (same_script s input bytes read) ∙ r.spelled; history = r.history; is_run = r.is_run; written = r.written }
 
-pub text_fault : (s : Settings) (known : Option (List ℕ)) (bytes : List ℕ) (fault : Fault) → IfSome known (IsInputOf bytes) → script_of s bytes ≡ Err fault → IfSome known (λ input. script_of s input ≡ Err fault)
+pub text_fault : (s : Settings) (known : Option (List ℕ)) (bytes : List ℕ) (fault : Fault) → IfSome known (IsInputOf bytes) → script_of SetupOnly s bytes ≡ Err fault → IfSome known (λ input. script_of SetupOnly s input ≡ Err fault)
 text_fault s None bytes fault read told = tt
 text_fault s (Some input) bytes fault read told = sym (same_script s input bytes read) ∙ told
 
@@ -111,7 +112,7 @@ report_written s (Some input) bytes text P read r p = (text, report_of_input s i
 
 -- ---- how a run ends
 
-pub report_told : (s : Settings) (input text : List ℕ) (old new : Fronts) (script : Script) (steps : List Step) → script_of s input ≡ Ok script → IsScriptFor s.nodes script → IsNew s old → Worked 0 old new script.setup steps
+pub report_told : (s : Settings) (input text : List ℕ) (old new : Fronts) (script : Script) (steps : List Step) → script_of SetupOnly s input ≡ Ok script → IsScriptFor SetupOnly s script → IsNew s old → Worked 0 old new script.setup steps
     → text ≡ totals_text (map (λ n. totals_of n (new.shape n) (new.front n)) (range_with_len 0 s.nodes)) → IsReport s input text
 unfolding totals_report
 report_told s input text old new script steps spelled fits is-new w told = record {
@@ -123,7 +124,7 @@ report_told s input text old new script steps spelled fits is-new w told = recor
 }
 
 -- the text was no script, or memory was refused
-pub ends_early : (s : Settings) (known old : Option (List ℕ)) (bytes : List ℕ) (reader_failed writer_failed : Bool) (fault : ReadFault) (r : Result (Unit {0}) RunFault) → IfSome known (IsInputOf bytes) → TellsFault (script_of s bytes) fault
+pub ends_early : (s : Settings) (known old : Option (List ℕ)) (bytes : List ℕ) (reader_failed writer_failed : Bool) (fault : ReadFault) (r : Result (Unit {0}) RunFault) → IfSome known (IsInputOf bytes) → TellsFault (script_of SetupOnly s bytes) fault
     → reader_failed ≡ false → writer_failed ≡ false → r ≡ Err (run_fault fault) → Ends s known old old reader_failed writer_failed r
 ends_early s known old bytes rf wf (reading.Text line kind) r read told e f is = rw is (text_fault s known bytes (line, kind) read told, keeps_same old, e, f)
 ends_early s known old bytes rf wf reading.OutOfMemory r read told e f is = rw is (keeps_same old, e, f)

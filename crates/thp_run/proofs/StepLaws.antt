@@ -14,7 +14,7 @@ use Rattle.thp_model.specs.declared.shape.Shape.{Shape}
 use Rattle.thp_model.specs.History.{History, events_of}
 use Rattle.thp_model.specs.Legal.{IsLegal}
 use Rattle.thp_model.proofs.ListPlaces.{get_push}
-use Rattle.thp_run.specs.declared.script.Command.{Command}
+use Rattle.thp_text.specs.declared.script.Command.{Command}
 use Rattle.thp_run.specs.Answers.{Answer, Answers}
 use Rattle.thp_run.specs.Fronts.{Fronts, HasCaller, IsOther, Moves}
 use Rattle.thp_run.specs.Runs.{Step, IsStep, ComesBefore, own_events}

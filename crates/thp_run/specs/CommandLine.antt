@@ -1,5 +1,5 @@
 -- The program's command line, as `clap` reads it.
-use Rattle.std.specs.Prelude.{◌≡◌, ◌≤◌, ℕ, pos, List, [], ◌∷◌, Option, Some, Result, map, codes}
+use Rattle.std.specs.Prelude.{◌≡◌, ◌≤◌, ℕ, true, pos, List, [], ◌∷◌, Option, Some, Result, map, codes}
 use Rattle.std.specs.Borrow.{Bor}
 use Rattle.std.specs.Str.Parse.{IsNumeral, digits_value, without_leading_plus}
 use Rattle.clap.specs.Words.{App, FailsBy, Row, Rule, fault_of, first_of, matches_of, new_app, new_rule, one_of, with_rule}
@@ -7,8 +7,8 @@ use Rattle.clap.specs.declared.builder.action.ArgAction.TheVariants.{Set}
 use Rattle.clap.specs.declared.builder.value_parser.ValueParser.TheVariants.{Names, Signed}
 use Rattle.clap.specs.declared.error.Error.{Error}
 use Rattle.thp_run.specs.declared.line.Line.{Line}
-use Rattle.thp_run.specs.declared.settings.Report.{Report}
-use Rattle.thp_run.specs.declared.settings.Report.TheVariants.{Totals}
+use Rattle.thp_text.specs.declared.settings.Report.{Report}
+use Rattle.thp_text.specs.declared.settings.Report.TheVariants.{Totals}
 
 -- `--blocks BLOCKS`: a whole number from 1 to 4,096; 16 where the option isn't given
 abbrev pub blocks_rule : Rule
@@ -34,11 +34,17 @@ report_rule names = record (new_rule (codes "report")) {
 abbrev pub report_name : Report → List ℕ
 report_name Totals = codes "totals"
 
+-- the command `thpsplit` without options; it has a version
+abbrev pub bare : App
+bare =
+    let new = new_app (codes "thpsplit") in
+    record new { top = record new.top { has_version = true } }
+
 -- the command `thpsplit` with these two options and no others
 pub record IsThpsplit (command : App) : Type 0 where
   pub names : Bor (List (Bor (List ℕ)))
   pub reports : map (λ name. name.now) names.now ≡ codes "totals" ∷ []
-  pub options : command ≡ with_rule (with_rule (new_app (codes "thpsplit")) blocks_rule) (report_rule names)
+  pub options : command ≡ with_rule (with_rule bare blocks_rule) (report_rule names)
 
 -- a text, there being one, writes this number
 abbrev pub WritesNumber : Option (List ℕ) → ℕ → Type 0

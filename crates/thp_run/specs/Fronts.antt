@@ -5,9 +5,8 @@ use Rattle.thp_model.specs.declared.refusal.Refusal.TheVariants.{OutOfMemory}
 use Rattle.thp_model.specs.declared.shape.Shape.{Shape}
 use Rattle.thp_model.specs.History.{History}
 use Rattle.thp_model.specs.Legal.{IsLegal}
-use Rattle.thp_model.specs.Refusals.{refusal}
-use Rattle.thp_run.specs.declared.script.Op.{Op}
-use Rattle.thp_run.specs.Answers.{Answer, Answers, call_of}
+use Rattle.thp_text.specs.declared.script.Op.{Op}
+use Rattle.thp_run.specs.Answers.{Answer, Answers, refusal_of}
 
 -- how many nodes there are, the shape of each and its history so far, how many callers there are, and which of them the
 -- holder has: those from `first` on and before `end`
@@ -48,7 +47,7 @@ pub record Moves (c n : ℕ) (old new : Fronts) (others own : List Event) : Type
 -- the result of a command of caller c at h: its answer, or, where it isn't refused, that memory for its events was
 abbrev pub Tells : Shape → History → ℕ → Op → List Event → Answer → Type 0
 Tells s h c op own (Ok reply) = Answers s h c op own (Ok reply)
-Tells s h c op own (Err OutOfMemory) = (refusal s h (call_of c op) ≡ None) × (own ≡ [])
+Tells s h c op own (Err OutOfMemory) = (refusal_of s h c op ≡ None) × (own ≡ [])
 Tells s h c op own (Err why) = Answers s h c op own (Err why)
 
 -- a step of caller c on node n

@@ -1,13 +1,5 @@
-pub mod Settings
 pub mod Watch
 pub mod Devices
-pub mod Words
-pub mod Steps
-pub mod Commands
-pub mod Operands
-pub mod Statements
-pub mod Scripts
-pub mod TextKinds
 pub mod RunFaults
 pub mod Reports
 pub mod CommandLine
@@ -20,3 +12,4 @@ pub mod Works
 pub mod NewNodes
 pub mod Programs
 pub mod OneNode
+pub mod Outcomes

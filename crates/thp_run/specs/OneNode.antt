@@ -2,7 +2,7 @@
 use Rattle.std.specs.Prelude.{ℕ, zero, suc, [], Result, Ok, Err}
 use Rattle.thp_model.specs.declared.refusal.Refusal.{Refusal}
 use Rattle.thp_model.specs.History.{History}
-use Rattle.thp_node.specs.declared.answers.Done.{Done}
+use Rattle.thp_places.specs.declared.page_call.Done.{Done}
 use Rattle.thp_node.specs.NodeState.{NodeState}
 use Rattle.thp_run.specs.declared.reply.Reply.TheVariants as reply
 use Rattle.thp_run.specs.Answers.{Answer}

@@ -20,7 +20,7 @@ unfoldable pub totals_of : ℕ → Shape → History → NodeTotals
 totals_of n s h = record {
   node = n;
   pages = allocations h;
-  queue = length (queue h);
+  queue = length (queue s h);
   frames_held = frames_held s h;
   frames_given = frames_given h;
   split_page = thp_split_page h;

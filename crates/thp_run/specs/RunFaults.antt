@@ -1,7 +1,7 @@
 -- The faults of a run.
 use Rattle.std.specs.Prelude.{◌≡◌, Bool, true, false}
-use Rattle.thp_run.specs.declared.fault.ReadFault.{ReadFault}
-use Rattle.thp_run.specs.declared.fault.ReadFault.TheVariants as reading
+use Rattle.thp_text.specs.declared.fault.ReadFault.{ReadFault}
+use Rattle.thp_text.specs.declared.fault.ReadFault.TheVariants as reading
 use Rattle.thp_run.specs.declared.fault.RunFault.{RunFault}
 use Rattle.thp_run.specs.declared.fault.RunFault.TheVariants.{Text, OutOfMemory, Read, Write}
 

@@ -5,8 +5,8 @@ use Rattle.thp_model.specs.declared.events.Event.{Event}
 use Rattle.thp_model.specs.declared.shape.Shape.{Shape}
 use Rattle.thp_model.specs.History.{History, events_of}
 use Rattle.thp_model.specs.Legal.{IsLegal}
-use Rattle.thp_run.specs.declared.script.Command.{Command}
-use Rattle.thp_run.specs.declared.script.Script.{Script}
+use Rattle.thp_text.specs.declared.script.Command.{Command}
+use Rattle.thp_text.specs.declared.script.Script.{Script}
 use Rattle.thp_run.specs.Answers.{Answer, Answers}
 
 -- A step of a caller: its node, how many of the node's events it comes after, its own events, which stand right behind

@@ -3,7 +3,7 @@ use Rattle.std.specs.Prelude.{◌≡◌, ℕ, ◌<◌, ◌≤◌, List, ◌++◌
 use Rattle.thp_model.specs.declared.events.Event.{Event}
 use Rattle.thp_model.specs.History.{History, events_of}
 use Rattle.thp_model.specs.Legal.{IsLegal}
-use Rattle.thp_run.specs.declared.script.Command.{Command}
+use Rattle.thp_text.specs.declared.script.Command.{Command}
 use Rattle.thp_run.specs.Fronts.{Fronts, HasCaller, SameHolding}
 use Rattle.thp_run.specs.Runs.{Step, IsStep, ComesBefore, own_events}
 

@@ -5,10 +5,10 @@ ghost use Rattle.thp_run.specs.Devices.{IsInputOf, WritesFront};
 ghost use Rattle.thp_run.specs.RunFaults.{IsReadingFault};
 
 use crate::fault::RunFault;
-use crate::reading::MAX_INPUT;
 use crate::watched::Watched;
 use std::alloc::Global;
 use std::io::{Read, Write};
+use thp_text::MAX_INPUT;
 
 /// All bytes that a reader gives, or more of them than an input may have.
 ///

@@ -5,11 +5,11 @@ ghost use Rattle.clap.specs.declared.builder.value_parser.ValueParser.TheVariant
 ghost use Rattle.thp_run.specs.CommandLine.{blocks_rule, report_name, report_rule, FailsAsWords, HoldsWords, IsLineWithinLimits, WritesNumber};
 ghost use Rattle.thp_run.specs.OwnCommand.{IsOwnCommand};
 ghost use Rattle.thp_run.specs.Options.{HasValue, IsOption};
-ghost use Rattle.thp_run.specs.declared.settings.Report.{Report};
+ghost use Rattle.thp_text.specs.declared.settings.Report.{Report};
 
-use crate::settings::Report;
 use clap::{Arg, ArgAction, ArgMatches, Command, Error, value_parser};
 use std::alloc::{AllocError, Global};
+use thp_text::Report;
 
 /// What a command line asks for.
 #[derive(Clone, Copy, Debug)]
@@ -21,6 +21,39 @@ pub struct Line {
 }
 
 static REPORTS: [&str; 1] = ["totals"];
+
+/// What `--version` tells behind the program's name.
+const VERSION: &str = "0.1.0";
+
+/// What `--help` says behind the options.
+const AFTER_HELP: &str = "\
+The script is read from standard input, to its end, and the report is written to standard output. A first script:
+
+    setup
+    alloc 0
+    splitpmd 0 0
+    unmap 0 0 0 256
+    scan 0 8
+
+The line 'setup' comes first; each line behind it is a command on a NODE, which is 0. A PAGE is the number of an
+allocation, counted from 0. Empty lines and lines that begin with '#' say nothing.
+
+Commands:
+  alloc NODE                    allocate a page, mapped whole
+  mapwhole NODE PAGE            map the page whole once more
+  unmapwhole NODE PAGE          take one mapping of the whole page away
+  map NODE PAGE FIRST COUNT     map COUNT subpages once more, from FIRST on
+  unmap NODE PAGE FIRST COUNT   take one mapping of each of COUNT subpages away, from FIRST on
+  splitpmd NODE PAGE            split the page's PMD mapping
+  pin NODE PAGE                 pin the page
+  unpin NODE PAGE               take one pin away
+  scan NODE COUNT               let the shrinker take up to COUNT pages, 0 to 128, and split them
+  close NODE                    close the node
+
+Exit status:
+  0  the report, this help or the version was written
+  2  the script or the command line is at fault
+  3  memory was refused, or a read or a write failed";
 
 fn blocks_option<'a>(alloc: Global) -> Arg<'a>
     ensures { IsOption result blocks_rule }
@@ -78,6 +111,8 @@ fn command<'a>(alloc: Global) -> Result<Command<'a>, AllocError>
 {
     Command::new(alloc, "thpsplit")
         .about("Splits transparent huge pages by a script, and tells what became of them")
+        .version(VERSION)
+        .after_help(AFTER_HELP)
         .arg(blocks_option(alloc))?
         .arg(report_option(alloc))
 }

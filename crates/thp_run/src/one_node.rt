@@ -6,12 +6,11 @@ ghost use Rattle.thp_run.specs.OneNode.{unit_answer, change_answer};
 use crate::nodes::Nodes;
 use crate::reply::Reply;
 use crate::report::NodeTotals;
-use crate::script::Op;
-use crate::settings::Settings;
 use crate::steps::Steps;
 use std::alloc::{AllocError, Global};
 use thp_model::{Event, PageId, Refusal, Shape, What};
 use thp_node::{Done, NewFault, Node};
+use thp_text::{Op, Settings};
 
 /// One node.
 #[derive(Drop)]
@@ -32,20 +31,30 @@ impl Steps for OneNode {
             },
             Op::MapWhole { page } => unit(self.node.map_whole(caller, PageId(page))),
             Op::UnmapWhole { page } => change(self.node.unmap_whole(caller, PageId(page))),
-            Op::Map { page, first, count } => {
-                unit(self.node.map_sub(caller, PageId(page), first, count))
+            Op::Map { first, count, page } => {
+                unit(
+                    self.node
+                        .map_sub(caller, PageId(page), first as u32, count as u32),
+                )
             }
-            Op::Unmap { page, first, count } => {
-                change(self.node.unmap_sub(caller, PageId(page), first, count))
+            Op::Unmap { first, count, page } => {
+                change(
+                    self.node
+                        .unmap_sub(caller, PageId(page), first as u32, count as u32),
+                )
             }
             Op::SplitPmd { page } => unit(self.node.split_pmd(caller, PageId(page))),
             Op::Pin { page } => unit(self.node.pin(caller, PageId(page))),
             Op::Unpin { page } => change(self.node.unpin(caller, PageId(page))),
             Op::Close => unit(self.node.close(caller)),
-            Op::Scan { count } => match self.node.scan(caller, count) {
+            Op::Scan { count } => match self.node.scan(caller, count as u32) {
                 Ok(reply) => Ok(Reply::Scan(reply)),
                 Err(refusal) => Err(refusal),
             },
+            // these aren't in the vocabulary that a run reads
+            Op::Count | Op::Take { .. } | Op::SplitNext | Op::PutBack => {
+                Err(Refusal::OutOfMemory)
+            }
         }
     }
 }
@@ -55,6 +64,7 @@ impl Nodes for OneNode {
         let shape = Shape {
             blocks: settings.blocks,
             order: 9,
+            underused: None,
         };
         match Node::new(alloc, shape) {
             Ok(node) => Ok(OneNode { node }),

@@ -2,22 +2,23 @@
 ghost use Rattle.std.specs.Prelude.{◌≡◌, ◌≤◌, IfErr, IfOk, List, false, map};
 ghost use Rattle.std.specs.List.{range_with_len};
 ghost use Rattle.thp_run.specs.Fronts.{Fronts};
+ghost use Rattle.thp_run.specs.NewNodes.{IsServed};
 ghost use Rattle.thp_run.specs.Programs.{Ends, IsReport};
 ghost use Rattle.thp_run.specs.Reports.{totals_of, totals_text};
-ghost use Rattle.thp_run.specs.Scripts.{script_of, TellsFault};
+ghost use Rattle.thp_text.specs.declared.vocabulary.Vocabulary.TheVariants.{SetupOnly};
+ghost use Rattle.thp_text.specs.Scripts.{script_of, TellsFault};
 
 use crate::device::{read_input, write_text};
-use crate::fault::{ReadFault, RunFault};
+use crate::fault::RunFault;
 use crate::gate::Gate;
 use crate::nodes::Nodes;
 use crate::one_node::OneNode;
-use crate::reading::read_script;
 use crate::report::totals_text;
-use crate::settings::Settings;
 use crate::steps::work;
 use crate::watched::Watched;
 use std::alloc::{AllocError, Global};
 use std::io::{Read, Write};
+use thp_text::{ReadFault, Settings, Vocabulary, read_script_of};
 
 /// The report on what became of the nodes.
 fn report_on<N: Nodes>(alloc: Global, count: u32, nodes: &N) -> Result<Vec<u8>, AllocError>
@@ -37,10 +38,11 @@ fn report_of<N: Nodes + Drop>(
     settings: &Settings,
     input: &[u8],
 ) -> Result<Vec<u8>, ReadFault>
+    requires { IsServed settings.now }
     ensures text { IfOk result (λ text. IsReport settings.now input.now text.items) }
-    ensures fault { IfErr result (TellsFault (script_of settings.now input.now)) }
+    ensures fault { IfErr result (TellsFault (script_of SetupOnly settings.now input.now)) }
 {
-    let script = read_script(alloc, settings, input)?;
+    let script = read_script_of(alloc, Vocabulary::SetupOnly, settings, input)?;
     let mut nodes = N::new(alloc, settings)?;
     work(script.setup.as_slice(), 0, &mut nodes)?;
     Ok(report_on(alloc, settings.nodes, &nodes)?)
@@ -53,6 +55,7 @@ pub(crate) fn run_on<N: Nodes + Drop, R: Read, W: Write>(
     reader: &mut Watched<R>,
     writer: &mut Watched<W>,
 ) -> Result<(), RunFault>
+    requires served { IsServed settings.now }
     requires reader { reader.old.failed ≡ false }
     requires writer { writer.old.failed ≡ false }
     ensures { Ends settings.now (R.remaining reader.old.device) (W.contents writer.old.device) (W.contents writer.new.device) reader.new.failed writer.new.failed result }
@@ -64,7 +67,7 @@ pub(crate) fn run_on<N: Nodes + Drop, R: Read, W: Write>(
 
 /// Runs the script that the reader gives, and writes the report of the run.
 ///
-/// The run has one node of the settings' blocks and does the section `setup` on the calling thread. Nothing is written
+/// The settings are those that a run serves so far: one node, with pages of order 9. It has the settings' blocks and does the section `setup` on the calling thread. Nothing is written
 /// but the report; where the writer fails, a front of it. The gate isn't passed yet, since there are no workers.
 pub fn run<R: Read, W: Write, G: Gate>(
     alloc: Global,
@@ -73,6 +76,7 @@ pub fn run<R: Read, W: Write, G: Gate>(
     writer: &mut Watched<W>,
     _gate: &G,
 ) -> Result<(), RunFault>
+    requires served { IsServed settings.now }
     requires reader { reader.old.failed ≡ false }
     requires writer { writer.old.failed ≡ false }
     ensures { Ends settings.now (R.remaining reader.old.device) (W.contents writer.old.device) (W.contents writer.new.device) reader.new.failed writer.new.failed result }

@@ -1,5 +1,5 @@
 //! The shrinker's calls: a take, tries, a put-back, and the scan that is made of them.
-ghost use Rattle.std.specs.Prelude.{◌≡◌, ℕ, ◌+◌, ◌*◌, ◌<◌, ◌≤◌, Bool, true, false, ◌||◌, [], ◌∷◌, length, drop, take, slice_get, Option, None, Some, IfOk, IfErr, IfSome, IfNone, OnOk, OnErr};
+ghost use Rattle.std.specs.Prelude.{◌≡◌, ℕ, ◌+◌, ◌*◌, ◌<◌, ◌≤◌, Bool, true, false, ◌||◌, [], ◌∷◌, length, drop, take, slice_get, min, Option, None, Some, IsSome, IfOk, IfErr, IfSome, IfNone, OnOk, OnErr};
 ghost use Rattle.thp_model.specs.History.{by};
 ghost use Rattle.thp_model.specs.Counts.{is_closed};
 ghost use Rattle.thp_model.specs.Legal.{IsLegal};
@@ -7,48 +7,75 @@ ghost use Rattle.thp_model.specs.Places.{queue, flight, no_pages, is_taking, has
 ghost use Rattle.thp_model.specs.Refusals.{refusal};
 ghost use Rattle.thp_model.specs.Refusals as call;
 ghost use Rattle.thp_model.specs.Runs.{take_events, split_next_events, put_back_events, scan_events, next_page, rest_after, still_flying, try_event, return_event};
-ghost use Rattle.thp_node.specs.Batches.{rest, tried, back_reply, scan_reply, IsInFront, FrontsStay, OtherFrontsStay};
+ghost use Rattle.thp_node.specs.Batches.{rest, tried, IsInFront, FrontsStay, OtherFrontsStay, OlderAreInFront};
 ghost use Rattle.thp_node.specs.Calls.{Did, Refused};
+ghost use Rattle.thp_places.specs.Homes.{block_of};
 
 use crate::answers::{BackReply, ScanReply, Tried};
 use crate::batch::Batch;
+use crate::journal::Unsaid;
 use crate::node::Node;
 use thp_model::{PageId, Refusal, What};
 
 impl Node {
-    ghost use Rattle.thp_node.specs.Flying.{IsFlyingAt, IsUnpinnedAt};
+    ghost use Rattle.thp_model.specs.Pages.{is_worth};
+    ghost use Rattle.thp_model.specs.Underused.{is_worth_split};
+    ghost use Rattle.thp_page.specs.Slots.{slot_at};
+    ghost use Rattle.thp_places.specs.Flying.{IsFlyingAt, IsUnpinnedAt};
+    ghost use Rattle.thp_places.specs.PlacesState.{AtSlot};
 
     /// Takes up to `n` pages, the oldest of the queue in order, into a batch of the caller. Refused as `HasBatch`.
     pub fn take(&mut self, caller: u32, n: u32) -> Result<Batch, Refusal>
         requires caller { caller < 64 }
         requires count { n ≤ 128 }
         ensures allowed { OnOk result (refusal self.old.shape self.old.journal (call.take caller) ≡ None) }
-        ensures batch { IfOk result (λ b. b ≡ record { caller = caller; pages = take n (queue self.old.journal); place = 0 }) }
-        ensures recorded { OnOk result (Did self.old self.new caller (take_events self.old.journal caller n)) }
-        ensures refused { IfErr result (Refused self.old self.new (refusal self.old.shape self.old.journal (call.take caller)) (length (take_events self.old.journal caller n))) }
+        ensures batch { IfOk result (λ b. b ≡ record { caller = caller; pages = take n (queue self.old.shape self.old.journal); place = 0 }) }
+        ensures recorded { OnOk result (Did self.old self.new caller (take_events self.old.shape self.old.journal caller n)) }
+        ensures refused { IfErr result (Refused self.old self.new (refusal self.old.shape self.old.journal (call.take caller)) (length (take_events self.old.shape self.old.journal caller n))) }
         ensures front { IfOk result (IsInFront self.new.journal) }
         ensures fronts { OtherFrontsStay caller self.old.journal self.new.journal }
+        // a batch that the caller took before, as long as this take brought back none of its pages
+        ensures older { IfOk result (λ b. OlderAreInFront caller b.pages self.new.journal) }
+    {
+        let count = self.admit_take(caller, n, 1)?;
+        Ok(self.take_oldest(caller, count))
+    }
+
+    // How many pages a take of up to `n` gets, with room in the journal for `each` events of each of them; or why it is
+    // refused.
+    pub(super) fn admit_take(&mut self, caller: u32, n: u32, each: u32) -> Result<u32, Refusal>
+        requires caller { caller < 64 }
+        requires count { n ≤ 128 }
+        requires each { each ≤ 3 }
+        ensures count { IfOk result (λ k. k ≡ min n (length (queue self.old.shape self.old.journal))) }
+        ensures room { IfOk result (λ k. each * k ≤ self.new.room) }
+        ensures free { OnOk result (no_pages (flight self.old.journal caller) ≡ true) }
+        ensures allowed { OnOk result (refusal self.old.shape self.old.journal (call.take caller) ≡ None) }
+        ensures legal { IsLegal self.old.shape self.old.journal }
+        ensures more { self.old.room ≤ self.new.room }
+        ensures same { self.new ≡ record self.old { room = self.new.room } }
+        ensures refused { IfErr result (Refused self.old self.new (refusal self.old.shape self.old.journal (call.take caller)) (each * length (take_events self.old.shape self.old.journal caller n))) }
     {
         if self.journal.flying(caller) != 0 {
             return Err(Refusal::HasBatch);
         }
         let count = n.min(self.blocks.queue().len());
-        if let Err(_) = self.journal.reserve(count as usize) {
+        if let Err(_) = self.journal.reserve((each * count) as usize) {
             return Err(Refusal::OutOfMemory);
         }
-        Ok(self.take_oldest(caller, count))
+        Ok(count)
     }
 
     // Takes the `count` oldest pages, for which there is room.
-    fn take_oldest(&mut self, caller: u32, count: u32) -> Batch
+    pub(super) fn take_oldest(&mut self, caller: u32, count: u32) -> Batch
         requires caller { caller < 64 }
         requires few { count ≤ 128 }
-        requires queued { count ≤ length (queue self.old.journal) }
+        requires queued { count ≤ length (queue self.old.shape self.old.journal) }
         requires room { count ≤ self.old.room }
         requires may_take { no_pages (flight self.old.journal caller) ≡ true }
         requires legal { IsLegal self.old.shape self.old.journal }
-        ensures batch { result ≡ record { caller = caller; pages = take count (queue self.old.journal); place = 0 } }
-        ensures did { Did self.old self.new caller (take_events self.old.journal caller count) }
+        ensures batch { result ≡ record { caller = caller; pages = take count (queue self.old.shape self.old.journal); place = 0 } }
+        ensures did { Did self.old self.new caller (take_events self.old.shape self.old.journal caller count) }
     {
         let mut batch = Batch::new(caller);
         for _taken in 0..count {
@@ -61,23 +88,25 @@ impl Node {
     // Takes the oldest page of the queue.
     fn take_one(&mut self, caller: u32) -> PageId
         requires caller { caller < 64 }
-        requires queued { 0 < length (queue self.old.journal) }
+        requires queued { 0 < length (queue self.old.shape self.old.journal) }
         requires room { 0 < self.old.room }
         requires may_take { (no_pages (flight self.old.journal caller) || is_taking self.old.journal caller) ≡ true }
-        ensures oldest { slice_get (queue self.old.journal) 0 ≡ Some result }
+        requires few { length (flight self.old.journal caller) < 255 }
+        ensures oldest { slice_get (queue self.old.shape self.old.journal) 0 ≡ Some result }
         ensures did { Did self.old self.new caller (by caller (What.Taken result) ∷ []) }
     {
         let page = self.blocks.take_first(caller);
-        self.journal.record(caller, What::Taken { page }, None, 0);
+        self.journal
+            .record(caller, What::Taken { page }, Unsaid::Nothing);
         page
     }
 
-    /// Tries the next page of a batch that is still in the flight of the batch's caller: splits it, or finds it pinned and
-    /// leaves it in the flight. `Done` where no page is left to be tried.
+    /// Tries the next page of a batch that is still in the flight of the batch's caller: lets it go where it isn't worth a
+    /// split, else splits it, or finds it pinned and leaves it in the flight. `Done` where no page is left to be tried.
     ///
     /// A page of the batch that was freed since is passed over, whatever page lies in its block now.
     pub fn split_next(&mut self, batch: &mut Batch) -> Result<Tried, Refusal>
-        ensures tried { IfOk result (λ t. t ≡ tried self.old.journal (next_page self.old.journal batch.old.caller (rest batch.old))) }
+        ensures tried { IfOk result (λ t. t ≡ tried self.old.shape self.old.journal (next_page self.old.journal batch.old.caller (rest batch.old))) }
         ensures recorded { OnOk result (Did self.old self.new batch.old.caller (split_next_events self.old.shape self.old.journal batch.old.caller (rest batch.old))) }
         ensures rest { OnOk result (rest batch.new ≡ rest_after self.old.journal batch.old.caller (rest batch.old)) }
         ensures same_caller { batch.new.caller ≡ batch.old.caller }
@@ -125,6 +154,7 @@ impl Node {
         ensures none { IfNone result (has_page page (flight self.now.journal caller) ≡ false) }
         ensures flies { IfSome result (λ b. has_page page (flight self.now.journal caller) ≡ true) }
         ensures block { IfSome result (IsFlyingAt self.now.table caller page) }
+        ensures home { IfSome result (λ b. block_of self.now.journal page ≡ Some b) }
     {
         match self.blocks.find(page) {
             Some(block) => {
@@ -138,38 +168,65 @@ impl Node {
         }
     }
 
-    // Tries the page of a block, which is in the caller's flight: splits it, or finds it pinned.
+    // Whether the page of a block is worth a split: partly mapped, or underused.
+    fn is_worth(&self, block: u32) -> bool
+        requires { IsSome (slot_at self.now.table block) }
+        ensures page { AtSlot self.now.table block (λ x. result ≡ is_worth self.now.shape.underused x.page) }
+        ensures worth { (c p : ℕ) → IsFlyingAt self.now.table c p block → result ≡ is_worth_split self.now.shape self.now.journal p }
+    {
+        self.blocks.is_worth(block, self.journal.shape().underused)
+    }
+
+    // Tries the page of a block, which is in the caller's flight: lets it go, splits it, or finds it pinned.
     fn try_page(&mut self, caller: u32, block: u32, page: PageId) -> Tried
         requires caller { caller < 64 }
         requires room { 0 < self.old.room }
         requires flies { IsFlyingAt self.old.table caller page block }
-        ensures tried { result ≡ tried self.old.journal (Some page) }
+        ensures tried { result ≡ tried self.old.shape self.old.journal (Some page) }
         ensures did { Did self.old self.new caller (try_event self.old.shape self.old.journal caller page ∷ []) }
     {
-        if self.blocks.pins(block) == 0 {
+        if !self.is_worth(block) {
+            self.let_go(caller, block, page);
+            Tried::Used(page)
+        } else if self.blocks.pins(block) == 0 {
             self.split_page(caller, block, page);
             Tried::Split(page)
         } else {
-            self.journal.record(caller, What::Pinned { page }, None, 0);
+            self.journal
+                .record(caller, What::Pinned { page }, Unsaid::Nothing);
             Tried::Pinned(page)
         }
     }
 
-    // Splits the page of a block, which is in the caller's flight and has no pins.
+    // Lets the page of a block go, which is in the caller's flight and isn't worth a split.
+    fn let_go(&mut self, caller: u32, block: u32, page: PageId)
+        requires caller { caller < 64 }
+        requires room { 0 < self.old.room }
+        requires flies { IsFlyingAt self.old.table caller page block }
+        requires used { AtSlot self.old.table block (λ x. is_worth self.old.shape.underused x.page ≡ false) }
+        ensures did { Did self.old self.new caller (try_event self.old.shape self.old.journal caller page ∷ []) }
+    {
+        self.blocks.drop_out(block);
+        self.journal
+            .record(caller, What::Used { page }, Unsaid::Nothing);
+    }
+
+    // Splits the page of a block, which is in the caller's flight, is worth it and has no pins.
     fn split_page(&mut self, caller: u32, block: u32, page: PageId)
         requires caller { caller < 64 }
         requires room { 0 < self.old.room }
         requires flies { IsFlyingAt self.old.table caller page block }
+        requires worth { AtSlot self.old.table block (λ x. is_worth self.old.shape.underused x.page ≡ true) }
         requires unpinned { IsUnpinnedAt self.old.table block }
         ensures did { Did self.old self.new caller (try_event self.old.shape self.old.journal caller page ∷ []) }
     {
-        let split_pmds = self.blocks.whole(block);
-        let released = self.blocks.split(block);
-        self.journal.record(
-            caller,
-            What::Split { page, released },
-            Some(caller),
-            split_pmds,
-        );
+        let unsaid = Unsaid::OfSplit {
+            mappings: self.blocks.whole(block),
+            partly: self.blocks.is_partly(block),
+        };
+        let give_zero = self.journal.shape().shrinks_underused();
+        let released = self.blocks.split(block, give_zero);
+        self.journal
+            .record(caller, What::Split { page, released }, unsaid);
     }
 }

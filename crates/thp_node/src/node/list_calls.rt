@@ -7,12 +7,13 @@ ghost use Rattle.thp_model.specs.Refusals as call;
 ghost use Rattle.thp_node.specs.Batches.{FrontsStay};
 ghost use Rattle.thp_node.specs.Calls.{Did, DidAlloc, Refused};
 
+use crate::journal::Unsaid;
 use crate::node::Node;
 use thp_model::{PageId, Refusal, What};
 
 impl Node {
-    /// A new page, mapped whole once, in a block of no live page. Its number is the count of allocations before it.
-    /// Refused as `Closed` and `NoBlock`.
+    /// A new page, mapped whole once, in a block of no live page. Its number is the count of allocations before it. It is
+    /// queued where the shrinker looks for underused pages. Refused as `Closed` and `NoBlock`.
     pub fn alloc_page(&mut self, caller: u32) -> Result<PageId, Refusal>
         requires { caller < 64 }
         ensures allowed { OnOk result (refusal self.old.shape self.old.journal call.alloc_page ≡ None) }
@@ -31,9 +32,10 @@ impl Node {
             return Err(Refusal::OutOfMemory);
         }
         let page = PageId(self.journal.next());
-        let block = self.blocks.place(page);
+        let queued = self.journal.shape().shrinks_underused();
+        let block = self.blocks.place(page, queued);
         self.journal
-            .record(caller, What::Alloc { page, block }, None, 0);
+            .record(caller, What::Alloc { page, block }, Unsaid::Nothing);
         Ok(page)
     }
 
@@ -51,7 +53,7 @@ impl Node {
         if let Err(_) = self.journal.reserve(1) {
             return Err(Refusal::OutOfMemory);
         }
-        self.journal.record(caller, What::Close, None, 0);
+        self.journal.record(caller, What::Close, Unsaid::Nothing);
         Ok(())
     }
 }

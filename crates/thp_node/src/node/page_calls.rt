@@ -6,13 +6,13 @@ ghost use Rattle.thp_model.specs.Refusals.{refusal};
 ghost use Rattle.thp_model.specs.Refusals as call;
 ghost use Rattle.thp_node.specs.Batches.{FrontsStay};
 ghost use Rattle.thp_node.specs.Calls.{Did, Refused};
-ghost use Rattle.thp_node.specs.Homes.{block_of};
-ghost use Rattle.thp_node.specs.PageCalls.{gain_call, loss_call, page_call, gain_what, loss_what};
+ghost use Rattle.thp_places.specs.Homes.{block_of};
+ghost use Rattle.thp_places.specs.PageCalls.{gain_call, loss_call, page_call, gain_what, loss_what};
 
-use crate::answers::Done;
+use crate::journal::Unsaid;
 use crate::node::Node;
-use crate::page_call::{Gain, Loss, PageCall};
 use thp_model::{PageId, Refusal, What};
+use thp_places::{Done, Gain, Loss, PageCall};
 
 impl Node {
     /// One more mapping of the whole page, by a PMD entry. Refused as `NoPage`, `IsSplit` and `TooMany`.
@@ -30,7 +30,7 @@ impl Node {
     pub fn unmap_whole(&mut self, caller: u32, page: PageId) -> Result<Done, Refusal>
         requires { caller < 64 }
         ensures allowed { OnOk result (refusal self.old.shape self.old.journal (call.unmap_whole page) ≡ None) }
-        ensures recorded { IfOk result (λ d. Did self.old self.new caller (by caller (What.UnmapWhole page d.outcome d.released) ∷ [])) }
+        ensures recorded { IfOk result (λ d. Did self.old self.new caller (by caller (What.UnmapWhole d.outcome page d.released) ∷ [])) }
         ensures outcome { IfOk result (λ d. d.outcome ≡ outcome self.old.shape self.old.journal self.new.journal page) }
         ensures released { IfOk result (λ d. d.released ≡ released self.old.shape self.old.journal self.new.journal page) }
         ensures refused { IfErr result (Refused self.old self.new (refusal self.old.shape self.old.journal (call.unmap_whole page)) 1) }
@@ -70,7 +70,7 @@ impl Node {
     ) -> Result<Done, Refusal>
         requires { caller < 64 }
         ensures allowed { OnOk result (refusal self.old.shape self.old.journal (call.unmap_sub page first count) ≡ None) }
-        ensures recorded { IfOk result (λ d. Did self.old self.new caller (by caller (What.UnmapSub page first count d.outcome d.released) ∷ [])) }
+        ensures recorded { IfOk result (λ d. Did self.old self.new caller (by caller (What.UnmapSub d.outcome page first count d.released) ∷ [])) }
         ensures outcome { IfOk result (λ d. d.outcome ≡ outcome self.old.shape self.old.journal self.new.journal page) }
         ensures released { IfOk result (λ d. d.released ≡ released self.old.shape self.old.journal self.new.journal page) }
         ensures refused { IfErr result (Refused self.old self.new (refusal self.old.shape self.old.journal (call.unmap_sub page first count)) 1) }
@@ -106,7 +106,7 @@ impl Node {
     pub fn unpin(&mut self, caller: u32, page: PageId) -> Result<Done, Refusal>
         requires { caller < 64 }
         ensures allowed { OnOk result (refusal self.old.shape self.old.journal (call.unpin page) ≡ None) }
-        ensures recorded { IfOk result (λ d. Did self.old self.new caller (by caller (What.Unpin page d.outcome d.released) ∷ [])) }
+        ensures recorded { IfOk result (λ d. Did self.old self.new caller (by caller (What.Unpin d.outcome page d.released) ∷ [])) }
         ensures outcome { IfOk result (λ d. d.outcome ≡ outcome self.old.shape self.old.journal self.new.journal page) }
         ensures released { IfOk result (λ d. d.released ≡ released self.old.shape self.old.journal self.new.journal page) }
         ensures refused { IfErr result (Refused self.old self.new (refusal self.old.shape self.old.journal (call.unpin page)) 1) }
@@ -115,7 +115,36 @@ impl Node {
         self.lose(caller, page, Loss::Unpin)
     }
 
-    // A call that gives a page mappings or a pin.
+    /// Data is written to each of the `count` subpages from `first` on, which are no longer zero-filled. Refused as `NoPage`,
+    /// `BadRange`, `IsSplit` and `NotMapped` where one of them isn't mapped.
+    pub fn write(
+        &mut self,
+        caller: u32,
+        page: PageId,
+        first: u32,
+        count: u32,
+    ) -> Result<(), Refusal>
+        requires { caller < 64 }
+        ensures allowed { OnOk result (refusal self.old.shape self.old.journal (call.write page first count) ≡ None) }
+        ensures recorded { OnOk result (Did self.old self.new caller (by caller (What.Write page first count) ∷ [])) }
+        ensures refused { IfErr result (Refused self.old self.new (refusal self.old.shape self.old.journal (call.write page first count)) 1) }
+        ensures fronts { FrontsStay self.old.journal self.new.journal }
+    {
+        self.gain(caller, page, Gain::Write { first, count })
+    }
+
+    /// Zeros are written to each of the `count` subpages from `first` on, which are zero-filled then. Refused as `write` is.
+    pub fn zero(&mut self, caller: u32, page: PageId, first: u32, count: u32) -> Result<(), Refusal>
+        requires { caller < 64 }
+        ensures allowed { OnOk result (refusal self.old.shape self.old.journal (call.zero_fill page first count) ≡ None) }
+        ensures recorded { OnOk result (Did self.old self.new caller (by caller (What.Zero page first count) ∷ [])) }
+        ensures refused { IfErr result (Refused self.old self.new (refusal self.old.shape self.old.journal (call.zero_fill page first count)) 1) }
+        ensures fronts { FrontsStay self.old.journal self.new.journal }
+    {
+        self.gain(caller, page, Gain::Zero { first, count })
+    }
+
+    // A call that gives a page mappings or a pin, or fills subpages of it.
     fn gain(&mut self, caller: u32, page: PageId, gain: Gain) -> Result<(), Refusal>
         requires { caller < 64 }
         ensures allowed { OnOk result (refusal self.old.shape self.old.journal (gain_call gain page) ≡ None) }
@@ -126,7 +155,7 @@ impl Node {
         let block = self.admit(page, PageCall::Gain(gain))?;
         self.blocks.gain(block, gain);
         self.journal
-            .record(caller, gain.what(page), None, gain.split_pmds());
+            .record(caller, gain.what(page), Unsaid::Nothing);
         Ok(())
     }
 
@@ -143,7 +172,8 @@ impl Node {
         let block = self.admit(page, PageCall::Loss(loss))?;
         let closed = self.journal.is_closed();
         let (done, left) = self.blocks.lose(block, loss, closed);
-        self.journal.record(caller, loss.what(page, &done), left, 0);
+        self.journal
+            .record(caller, loss.what(page, &done), Unsaid::FreedFrom(left));
         Ok(done)
     }
 

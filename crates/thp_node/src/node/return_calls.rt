@@ -1,104 +1,125 @@
 //! The calls by which pages leave a batch together: a put-back, and the scan that is a take, tries and a put-back.
-ghost use Rattle.std.specs.Prelude.{◌≡◌, ℕ, ◌*◌, ◌<◌, ◌≤◌, [], ◌∷◌, length, map, slice_get, None, Some, IfOk, IfErr, OnOk};
+ghost use Rattle.std.specs.Prelude.{◌≡◌, not, ◌&&◌, ℕ, ◌*◌, ◌<◌, ◌≤◌, [], ◌∷◌, length, map, take, count_by, slice_get, None, Some, IfOk, IfErr, OnOk};
 ghost use Rattle.thp_model.specs.Legal.{IsLegal};
 ghost use Rattle.thp_model.specs.Places.{flight};
 ghost use Rattle.thp_model.specs.Refusals.{refusal};
 ghost use Rattle.thp_model.specs.Refusals as call;
-ghost use Rattle.thp_model.specs.Runs.{take_events, put_back_events, scan_events, still_flying, try_event, return_event};
-ghost use Rattle.thp_node.specs.Batches.{back_reply, scan_reply, IsInFront, FrontsStay, OtherFrontsStay};
+ghost use Rattle.thp_model.specs.Runs.{take_events, put_back_events, scan_events, still_flying, try_event, return_event, goes_back};
+ghost use Rattle.thp_node.specs.Batches.{back_reply, scan_reply, IsInFront, FrontsStay};
 ghost use Rattle.thp_node.specs.Calls.{Did, Refused};
+ghost use Rattle.thp_places.specs.Homes.{block_of};
+ghost use Rattle.thp_node.specs.Scanning.{used_count};
 
-use crate::answers::{BackReply, ScanReply};
+use crate::answers::{BackReply, ScanReply, Tried};
 use crate::batch::Batch;
+use crate::journal::Unsaid;
 use crate::node::Node;
+use arrayvec::ArrayVec;
 use thp_model::{PageId, Refusal, What};
 
 impl Node {
-    ghost use Rattle.thp_node.specs.Flying.{IsFlyingAt};
-    ghost use Rattle.thp_node.specs.Scanning.{events_behind};
+    ghost use Rattle.thp_places.specs.Flying.{IsFlyingAt};
+    ghost use Rattle.thp_node.specs.Returning.{BeginsIn, return_first, OneBack};
+    ghost use Rattle.thp_node.specs.Scanning.{events_behind, is_used};
 
-    /// Returns the pages of a batch that are still in the flight of the batch's caller, in the batch's order: to the tail of
-    /// the queue, or nowhere where the node is closed. With no memory for that it hands the batch back.
+    /// Returns the pages of a batch that are still in the flight of the batch's caller, in the batch's order: those that are
+    /// partly mapped to the tail of the queue, others nowhere, and none on a closed node. With no memory for that it hands
+    /// the batch back.
     ///
     /// A page of the batch that was freed or split since is passed over.
     /// Those still in flight have to come first in the caller's flight: so they do behind `take`, and every call leaves it so.
     pub fn put_back(&mut self, batch: Batch) -> Result<BackReply, (Batch, Refusal)>
         requires front { IsInFront self.old.journal batch }
-        ensures reply { IfOk result (λ r. r ≡ back_reply self.old.journal (still_flying self.old.journal batch.caller batch.pages)) }
-        ensures recorded { OnOk result (Did self.old self.new batch.caller (put_back_events self.old.journal batch.caller batch.pages)) }
-        ensures refused { IfErr result (λ e. Refused self.old self.new None (length (put_back_events self.old.journal batch.caller batch.pages)) e.1) }
+        ensures reply { IfOk result (λ r. r ≡ back_reply self.old.shape self.old.journal (still_flying self.old.journal batch.caller batch.pages)) }
+        ensures recorded { OnOk result (Did self.old self.new batch.caller (put_back_events self.old.shape self.old.journal batch.caller batch.pages)) }
+        ensures refused { IfErr result (λ e. Refused self.old self.new None (length (put_back_events self.old.shape self.old.journal batch.caller batch.pages)) e.1) }
         ensures handed_back { IfErr result (λ e. e.0 ≡ batch) }
         ensures fronts { FrontsStay self.old.journal self.new.journal }
     {
-        let count = self.count_flying(batch.caller(), batch.pages());
-        if let Err(_) = self.journal.reserve(count as usize) {
+        let blocks = self.flying_blocks(batch.caller(), batch.pages());
+        if let Err(_) = self.journal.reserve(blocks.len()) {
             return Err((batch, Refusal::OutOfMemory));
         }
-        let closed = self.journal.is_closed();
-        self.return_all(&batch);
-        if closed {
-            Ok(BackReply {
-                back: 0,
-                dropped: count,
-            })
-        } else {
-            Ok(BackReply {
-                back: count,
-                dropped: 0,
-            })
-        }
+        let count = blocks.len() as u32;
+        let back = self.return_all(batch.caller(), &blocks);
+        Ok(BackReply {
+            back,
+            dropped: count - back,
+        })
     }
 
-    // How many pages of a batch are in a caller's flight.
-    fn count_flying(&self, caller: u32, pages: &[PageId]) -> u32
+    // The blocks of those pages of a batch that are in a caller's flight, in the batch's order.
+    fn flying_blocks(&self, caller: u32, pages: &[PageId]) -> ArrayVec<u32, 128>
         requires { length pages.now ≤ 128 }
-        ensures { result ≡ length (still_flying self.now.journal caller pages.now) }
+        ensures blocks { map (block_of self.now.journal) (still_flying self.now.journal caller pages.now) ≡ map (λ b. Some b) result.items }
+        ensures count { length result.items ≡ length (still_flying self.now.journal caller pages.now) }
+        ensures few { length result.items ≤ 128 }
     {
-        let mut count = 0;
+        let mut blocks = ArrayVec::new();
         for &page in pages {
-            if let Some(_) = self.flying_block(caller, page) {
-                count += 1;
-            }
-        }
-        count
-    }
-
-    // Returns the pages of a batch that are in flight, for which there is room.
-    fn return_all(&mut self, batch: &Batch)
-        requires legal { IsLegal self.old.shape self.old.journal }
-        requires front { IsInFront self.old.journal batch.now }
-        requires room { length (still_flying self.old.journal batch.now.caller batch.now.pages) ≤ self.old.room }
-        ensures did { Did self.old self.new batch.now.caller (put_back_events self.old.journal batch.now.caller batch.now.pages) }
-    {
-        let caller = batch.caller();
-        for &page in batch.pages() {
             if let Some(block) = self.flying_block(caller, page) {
-                self.return_page(caller, block, page);
+                blocks.push(block);
             }
         }
+        blocks
     }
 
-    // Returns the page of a block, which is the first of the caller's flight.
-    fn return_page(&mut self, caller: u32, block: u32, page: PageId)
+    // Returns the first pages of a caller's flight, which lie in these blocks and for which there is room. Answers how many
+    // went back to the queue.
+    fn return_all(&mut self, caller: u32, blocks: &[u32]) -> u32
+        requires caller { caller < 64 }
+        requires legal { IsLegal self.old.shape self.old.journal }
+        requires front { BeginsIn self.old.journal caller blocks.now }
+        requires room { length blocks.now ≤ self.old.room }
+        requires few { length blocks.now ≤ 128 }
+        ensures back { result ≡ count_by (goes_back self.old.shape self.old.journal) (take (length blocks.now) (flight self.old.journal caller)) }
+        ensures did { Did self.old self.new caller (return_first self.old.shape self.old.journal caller (length blocks.now)) }
+    {
+        let mut back = 0;
+        for &block in blocks {
+            back += u32::from(self.return_first(caller, block));
+        }
+        back
+    }
+
+    // Returns the first page of a caller's flight, which lies in this block. Answers whether it went back to the queue.
+    fn return_first(&mut self, caller: u32, block: u32) -> bool
+        requires caller { caller < 64 }
+        requires room { 0 < self.old.room }
+        requires front { BeginsIn self.old.journal caller (block ∷ []) }
+        ensures back { OneBack self.old.shape self.old.journal caller result }
+        ensures did { Did self.old self.new caller (return_first self.old.shape self.old.journal caller 1) }
+    {
+        let page = self.blocks.number(block);
+        self.return_page(caller, block, page)
+    }
+
+    // Returns the page of a block, which is the first of the caller's flight. Answers whether it went back to the queue.
+    fn return_page(&mut self, caller: u32, block: u32, page: PageId) -> bool
         requires caller { caller < 64 }
         requires room { 0 < self.old.room }
         requires flies { IsFlyingAt self.old.table caller page block }
         requires first { slice_get (flight self.old.journal caller) 0 ≡ Some page }
-        ensures did { Did self.old self.new caller (return_event self.old.journal caller page ∷ []) }
+        ensures back { result ≡ goes_back self.old.shape self.old.journal page }
+        ensures did { Did self.old self.new caller (return_event self.old.shape self.old.journal caller page ∷ []) }
     {
-        if self.journal.is_closed() {
-            self.blocks.drop_out(block);
-            self.journal
-                .record(caller, What::Dropped { page }, Some(caller), 0);
-        } else {
+        let closed = self.journal.is_closed();
+        let partly = self.blocks.is_partly(block);
+        let is_back = joins_queue(closed, partly);
+        if is_back {
             self.blocks.enqueue(block);
             self.journal
-                .record(caller, What::Back { page }, Some(caller), 0);
+                .record(caller, What::Back { page }, Unsaid::Nothing);
+        } else {
+            self.blocks.drop_out(block);
+            self.journal
+                .record(caller, What::Dropped { page }, Unsaid::Nothing);
         }
+        is_back
     }
 
-    /// Takes up to `n` pages, the oldest of the queue in order, tries each of them, and returns those that are pinned: to the
-    /// tail of the queue, or nowhere where the node is closed. Refused as `HasBatch`.
+    /// Takes up to `n` pages, the oldest of the queue in order, tries each of them, and returns those that are found pinned as
+    /// `put_back` does. Refused as `HasBatch`.
     ///
     /// It makes room for three events for each page at first, and changes nothing where the memory for that isn't there.
     pub fn scan(&mut self, caller: u32, n: u32) -> Result<ScanReply, Refusal>
@@ -107,20 +128,12 @@ impl Node {
         ensures allowed { OnOk result (refusal self.old.shape self.old.journal (call.scan caller) ≡ None) }
         ensures recorded { OnOk result (Did self.old self.new caller (scan_events self.old.shape self.old.journal caller n)) }
         ensures reply { IfOk result (λ r. r ≡ scan_reply (scan_events self.old.shape self.old.journal caller n)) }
-        ensures refused { IfErr result (Refused self.old self.new (refusal self.old.shape self.old.journal (call.scan caller)) (3 * length (take_events self.old.journal caller n))) }
-        ensures fronts { OtherFrontsStay caller self.old.journal self.new.journal }
+        ensures refused { IfErr result (Refused self.old self.new (refusal self.old.shape self.old.journal (call.scan caller)) (3 * length (take_events self.old.shape self.old.journal caller n))) }
+        ensures fronts { FrontsStay self.old.journal self.new.journal }
     {
-        if self.journal.flying(caller) != 0 {
-            return Err(Refusal::HasBatch);
-        }
-        let count = n.min(self.blocks.queue().len());
-        if let Err(_) = self.journal.reserve(3 * count as usize) {
-            return Err(Refusal::OutOfMemory);
-        }
-        match self.take(caller, n) {
-            Ok(batch) => Ok(self.scan_batch(batch)),
-            Err(_) => unreachable!(),
-        }
+        let count = self.admit_take(caller, n, 3)?;
+        let batch = self.take_oldest(caller, count);
+        Ok(self.scan_batch(batch))
     }
 
     // Tries each page of a batch that was just taken, and returns those that are pinned, for which there is room.
@@ -134,38 +147,59 @@ impl Node {
     {
         let mut batch = batch;
         let taken = batch.pages().len() as u32;
-        self.try_all(&mut batch);
+        let used = self.try_all(&mut batch);
         match self.put_back(batch) {
             Ok(BackReply { back, dropped }) => {
-                // those that weren't split are the pinned ones
+                // those that are still there are the pinned ones
                 let pinned = back + dropped;
                 ScanReply {
                     taken,
-                    split: taken - pinned,
+                    split: taken - used - pinned,
                     pinned,
                     back,
                     dropped,
+                    used,
                 }
             }
             Err(_) => unreachable!(),
         }
     }
 
-    // Tries each page of a batch that was just taken, for which there is room.
-    fn try_all(&mut self, batch: &mut Batch)
+    // Tries each page of a batch that was just taken, for which there is room. Answers how many were found in use.
+    fn try_all(&mut self, batch: &mut Batch) -> u32
         requires legal { IsLegal self.old.shape self.old.journal }
         requires flies { flight self.old.journal batch.old.caller ≡ batch.old.pages }
         requires untried { batch.old.place ≡ 0 }
         requires room { length batch.old.pages ≤ self.old.room }
+        ensures used { result ≡ count_by (is_used self.old.shape self.old.journal) batch.old.pages }
         ensures did { Did self.old self.new batch.old.caller (map (try_event self.old.shape self.old.journal batch.old.caller) batch.old.pages) }
         ensures same_caller { batch.new.caller ≡ batch.old.caller }
         ensures same_pages { batch.new.pages ≡ batch.old.pages }
     {
+        let mut used = 0;
         for _tried in 0..batch.pages().len() {
             match self.split_next(batch) {
-                Ok(_) => {}
+                Ok(tried) => used += found_used(tried),
                 Err(_) => unreachable!(),
             }
         }
+        used
+    }
+}
+
+// Whether a page joins the queue again when it leaves its batch: it is partly mapped, and the node isn't closed.
+fn joins_queue(closed: bool, partly: bool) -> bool
+    ensures { result ≡ (not closed && partly) }
+{
+    !closed && partly
+}
+
+// 1 for a try that found its page in use, else 0.
+fn found_used(tried: Tried) -> u32
+    ensures { result ≡ used_count tried }
+{
+    match tried {
+        Tried::Used(_) => 1,
+        _ => 0,
     }
 }

@@ -10,10 +10,10 @@ use Rattle.thp_check.proofs.checking.check.Goals as goal
 pub admit-requires-clause-small : goal.admit-requires-clause-small
 admit-requires-clause-small c = omega (arith, few_pages c.args.shape c.args.events.now c.loop-place.place c.loop-place.replay c.loop-place.invariant)
 
-pub returns-in-Ok-false-clause-illegal : goal.returns-in-Ok-false-clause-illegal
-returns-in-Ok-false-clause-illegal c =
+pub returns-then-not-admit-clause-illegal : goal.returns-then-not-admit-clause-illegal
+returns-then-not-admit-clause-illegal c =
     first_misfit c.args.shape c.args.events.now c.loop-place.place c.index-events-place.result c.loop-place-test.true c.index-events-place.is c.loop-place.invariant.kept.node.legal
-    (failed c.in-Ok-false.field-0 _ _ c.in-Ok-false.field-0-test (c.in-Ok-false.ensures c.args.shape (take c.loop-place.place c.args.events.now) c.loop-place.invariant))
+    (failed c.admit.result _ _ c.if-not-admit.true (c.admit.ensures c.args.shape (take c.loop-place.place c.args.events.now) c.loop-place.invariant))
 
 pub loop-place-preserved : goal.loop-place-preserved
 loop-place-preserved c =
@@ -21,4 +21,4 @@ loop-place-preserved c =
     let e : Event = c.index-events-place.result in
     let P : List Event → Type 0 = λ h. Means c.args.shape h c.admit.new.self in
     subst P (sym (step_of c.args.events.now c.loop-place.place e c.loop-place-test.true c.index-events-place.is))
-    (passed c.in-Ok-true.field-0 _ _ c.in-Ok-true.field-0-test (c.in-Ok-true.ensures c.args.shape before c.loop-place.invariant)).1
+    (passed c.admit.result _ _ c.if-not-admit.false (c.admit.ensures c.args.shape before c.loop-place.invariant)).1

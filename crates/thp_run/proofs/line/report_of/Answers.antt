@@ -3,8 +3,8 @@ use Rattle.std.specs.Prelude.{IfNone, IfSome, IsSome, option_map, unwrap_or}
 use Rattle.clap.specs.Words.{found_of}
 use Rattle.clap.proofs.CallerLemmas.{some_of_text}
 use Rattle.thp_run.specs.CommandLine.{report_name}
-use Rattle.thp_run.specs.declared.settings.Report.{Report}
-use Rattle.thp_run.specs.declared.settings.Report.TheVariants.{Totals}
+use Rattle.thp_text.specs.declared.settings.Report.{Report}
+use Rattle.thp_text.specs.declared.settings.Report.TheVariants.{Totals}
 use Rattle.thp_run.proofs.LineLaws.{first_value-value, only_name}
 use Rattle.thp_run.proofs.line.report_of.Goals as goal
 

@@ -1,6 +1,6 @@
 use Rattle.std.proofs.Common.{◌∷◌, ◌++◌, [], add-one, get_or}
 use Rattle.std.proofs.Math.Seq.{take-suc}
-use Rattle.thp_run.specs.declared.script.Op.TheVariants.{Alloc}
+use Rattle.thp_text.specs.declared.script.Op.TheVariants.{Alloc}
 use Rattle.thp_run.proofs.StepLaws.{next_step, work_more}
 use Rattle.thp_run.proofs.steps.work.Goals as goal
 

@@ -1,15 +1,27 @@
-use Rattle.std.proofs.Common.{◌≡◌, ◌∙◌, ℕ, ◌%◌, List, [], ◌∷◌, ◌++◌, ap, ap₂, cond, nat_eq, get_or, arith}
-use Rattle.std.specs.Prelude.{slice_set}
-use Rattle.thp_check.proofs.PairLists.{on_ok, in_joined, any_default}
-use Rattle.thp_check.specs.Flights.{pages_in}
+use Rattle.std.proofs.Common.{◌%◌, ℕ, List, ◌∷◌, ◌++◌, [], Contains, length, ap, ◌∙◌, subst, arith}
+use Rattle.thp_check.specs.Flights.{FlightsState}
+use Rattle.thp_check.proofs.FlightLists.{listless, read_list, joined_linked, joined_blocks}
 use Rattle.thp_check.proofs.flights.Flights.join.Goals as goal
 
-pub returns : goal.returns
-returns c = on_ok c.join.result _ _ (λ joined d.
-    let ls = c.self.inside.lists.items in
-    let there : c.index_mut.result.now ≡ get_or ls (c.args.caller % 64) [] =
-    c.index_mut.ensures.value ∙ any_default ls c.list_of.result c.index_mut.result.now [] (omega (arith, c.list_of.ensures.inside, c.self.invariant)) ∙ ap (λ n. get_or ls n []) c.list_of.ensures.value in
-    in_joined ls (slice_set ls c.list_of.result c.join.new.self) c.args.caller c.args.page d c.self.invariant
-    (ap₂ (λ n (fs : List (ℕ × ℕ)). slice_set ls n fs) c.list_of.ensures.value (joined ∙ ap (λ (fs : List (ℕ × ℕ)). fs ++ (c.args.caller, c.args.page) ∷ []) there))
-    ∙ ap (λ (ms : List (List (ℕ × ℕ))). cond (nat_eq c.args.caller d) (pages_in ms d ++ c.args.page ∷ []) (pages_in ms d)) c.self.view_is)
-    c.join.ensures
+pub push_back-requires-clause-absent : goal.push_back-requires-clause-absent
+push_back-requires-clause-absent c = λ i.
+    let P : List ℕ → Type 0 = λ xs. Contains xs c.args.block in
+    listless c.self.inside.callers.items c.self.inside.lists.items c.self.inside.links.pairs.items c.self.invariant c.args.block c.args.self.now c.self.view_is c.requires.absent (c.args.caller % 64) (subst P (read_list c.self.inside.lists.items c.list_of.result c.args.caller c.index_mut-list.result.now c.index_mut-list.result.now c.self.invariant.count c.list_of.ensures.inside c.list_of.ensures.value c.index_mut-list.ensures.value) i)
+
+pub invariant_of-self : goal.invariant_of-self
+invariant_of-self c =
+    joined_linked c.self.inside.callers.items c.self.inside.lists.items c.self.inside.links.pairs.items c.self.invariant c.args.block c.args.caller
+    (omega (arith, c.requires.inside, ap (λ (f : FlightsState). length f.callers) c.self.view_is))
+    (listless c.self.inside.callers.items c.self.inside.lists.items c.self.inside.links.pairs.items c.self.invariant c.args.block c.args.self.now c.self.view_is c.requires.absent)
+    c.list_of.result c.push_back.new.self c.list_of.ensures.value
+    (c.push_back.ensures.list ∙ ap (λ (xs : List ℕ). xs ++ c.args.block ∷ []) (read_list c.self.inside.lists.items c.list_of.result c.args.caller c.index_mut-list.result.now c.index_mut-list.result.now c.self.invariant.count c.list_of.ensures.inside c.list_of.ensures.value c.index_mut-list.ensures.value))
+    c.push_back.new.table.pairs.items c.push_back.ensures.stands c.push_back.ensures.outside
+
+pub returns-clause-joined : goal.returns-clause-joined
+returns-clause-joined c =
+    joined_blocks c.self.inside.callers.items c.self.inside.lists.items c.self.inside.links.pairs.items c.self.invariant c.args.block c.args.caller
+    (omega (arith, c.requires.inside, ap (λ (f : FlightsState). length f.callers) c.self.view_is))
+    (listless c.self.inside.callers.items c.self.inside.lists.items c.self.inside.links.pairs.items c.self.invariant c.args.block c.args.self.now c.self.view_is c.requires.absent)
+    c.list_of.result c.push_back.new.self c.list_of.ensures.value
+    (c.push_back.ensures.list ∙ ap (λ (xs : List ℕ). xs ++ c.args.block ∷ []) (read_list c.self.inside.lists.items c.list_of.result c.args.caller c.index_mut-list.result.now c.index_mut-list.result.now c.self.invariant.count c.list_of.ensures.inside c.list_of.ensures.value c.index_mut-list.ensures.value))
+    c.args.self.now c.self.view_is

@@ -1,15 +1,27 @@
-use Rattle.std.proofs.Common.{◌≡◌, ◌∙◌, ℕ, ◌%◌, List, [], ap, ap₂, sym, get_or, arith}
-use Rattle.std.specs.Prelude.{slice_set}
-use Rattle.thp_model.specs.Places.{leaves}
-use Rattle.thp_check.proofs.PairLists.{in_left, any_default}
-use Rattle.thp_check.specs.Flights.{pages_in, flight_left}
+use Rattle.std.proofs.Common.{ℕ, List, Contains, ap, sym, ◌∙◌, subst}
+use Rattle.thp_links.specs.Indices.{without}
+use Rattle.thp_links.specs.Standing.{SameOutside}
+use Rattle.thp_check.specs.Flights.{blocks_in, flight_left}
+use Rattle.thp_check.proofs.FlightLists.{listed, read_list, left_linked, left_blocks}
 use Rattle.thp_check.proofs.flights.Flights.leave.Goals as goal
 
-pub returns-in-Some : goal.returns-in-Some
-returns-in-Some c = λ d.
-    let ls = c.self.inside.lists.items in
-    let there : c.index_mut.result.now ≡ get_or ls (c.in-Some.caller % 64) [] =
-    c.index_mut.ensures.value ∙ any_default ls c.list_of.result c.index_mut.result.now [] (omega (arith, c.list_of.ensures.inside, c.self.invariant)) ∙ ap (λ n. get_or ls n []) c.list_of.ensures.value in
-    in_left ls (slice_set ls c.list_of.result c.leave.new.self) c.in-Some.caller c.args.page d c.self.invariant
-    (ap₂ (λ n (fs : List (ℕ × ℕ)). slice_set ls n fs) c.list_of.ensures.value (c.leave.ensures ∙ ap (leaves c.in-Some.caller c.args.page) there))
-    ∙ ap₂ (λ o (ms : List (List (ℕ × ℕ))). flight_left o c.args.page d (pages_in ms d)) (sym c.in-Some.is) c.self.view_is
+pub remove-requires-clause-present : goal.remove-requires-clause-present
+remove-requires-clause-present c =
+    let P : List ℕ → Type 0 = λ xs. Contains xs c.args.block in
+    subst P (sym (read_list c.self.inside.lists.items c.list_of.result c.in-Some.caller c.index_mut-list.result.now c.index_mut-list.result.now c.self.invariant.count c.list_of.ensures.inside c.list_of.ensures.value c.index_mut-list.ensures.value)) (listed c.self.inside.callers.items c.self.inside.lists.items c.self.inside.links.pairs.items c.self.invariant c.args.block c.in-Some.caller c.args.self.now c.self.view_is (c.requires c.in-Some.caller c.in-Some.is)).0
+
+pub invariant_of-self : goal.invariant_of-self
+invariant_of-self c =
+    let O : List ℕ → Type 0 = λ xs. SameOutside xs c.self.inside.links.pairs.items c.remove.new.table.pairs.items in
+    let there = listed c.self.inside.callers.items c.self.inside.lists.items c.self.inside.links.pairs.items c.self.invariant c.args.block c.in-Some.caller c.args.self.now c.self.view_is (c.requires c.in-Some.caller c.in-Some.is) in
+    left_linked c.self.inside.callers.items c.self.inside.lists.items c.self.inside.links.pairs.items c.self.invariant c.args.block c.in-Some.caller there.0 there.1 c.list_of.result c.remove.new.self c.list_of.ensures.value
+    (c.remove.ensures.list ∙ ap (without c.args.block) (read_list c.self.inside.lists.items c.list_of.result c.in-Some.caller c.index_mut-list.result.now c.index_mut-list.result.now c.self.invariant.count c.list_of.ensures.inside c.list_of.ensures.value c.index_mut-list.ensures.value))
+    c.remove.new.table.pairs.items c.remove.ensures.stands (subst O (read_list c.self.inside.lists.items c.list_of.result c.in-Some.caller c.index_mut-list.result.now c.index_mut-list.result.now c.self.invariant.count c.list_of.ensures.inside c.list_of.ensures.value c.index_mut-list.ensures.value) c.remove.ensures.outside)
+
+pub returns-in-Some-clause-left : goal.returns-in-Some-clause-left
+returns-in-Some-clause-left c = λ d.
+    let there = listed c.self.inside.callers.items c.self.inside.lists.items c.self.inside.links.pairs.items c.self.invariant c.args.block c.in-Some.caller c.args.self.now c.self.view_is (c.requires c.in-Some.caller c.in-Some.is) in
+    left_blocks c.self.inside.callers.items c.self.inside.lists.items c.self.inside.links.pairs.items c.self.invariant c.args.block c.in-Some.caller there.0 there.1 c.list_of.result c.remove.new.self c.list_of.ensures.value
+    (c.remove.ensures.list ∙ ap (without c.args.block) (read_list c.self.inside.lists.items c.list_of.result c.in-Some.caller c.index_mut-list.result.now c.index_mut-list.result.now c.self.invariant.count c.list_of.ensures.inside c.list_of.ensures.value c.index_mut-list.ensures.value))
+    c.args.self.now c.self.view_is d
+    ∙ ap (λ o. flight_left o c.args.block d (blocks_in c.args.self.now d)) (sym c.in-Some.is)

@@ -1,12 +1,8 @@
-use Rattle.std.proofs.Common.{◌≡◌, ◌∙◌, ℕ, List, length, ap, arith}
-use Rattle.std.proofs.lemmas.List.{length-replicate}
-use Rattle.thp_check.proofs.PairLists.{no_pairs, in_empty}
+use Rattle.std.proofs.Common.{◌∙◌, List, ℕ, ap}
+use Rattle.thp_check.specs.Flights.{blocks_in}
+use Rattle.thp_check.proofs.FlightLists.{empty_in}
 use Rattle.thp_check.proofs.flights.Flights.new.Goals as goal
 
-pub invariant_of-result : goal.invariant_of-result
-invariant_of-result c =
-    let end : c.loop-list._list ≡ 64 = omega arith in
-    ap (λ (ls : List (List (ℕ × ℕ))). length ls) c.loop-list.invariant ∙ length-replicate c.loop-list._list no_pairs ∙ end
-
-pub returns : goal.returns
-returns c = λ d. in_empty c.loop-list.lists.items c.loop-list._list d c.loop-list.invariant
+pub returns-clause-empty : goal.returns-clause-empty
+returns-clause-empty c = λ d.
+    ap (λ (ls : List (List ℕ)). blocks_in (record { callers = c.in_ok-vec.field-0.items; lists = ls }) d) c.loop-list.invariant ∙ empty_in c.in_ok-vec.field-0.items c.loop-list._list d

@@ -19,6 +19,5 @@ place-requires-clause-new c =
 
 pub returns : goal.returns
 returns c = λ n s h m.
-    let w = c.place.ensures in
-    alloc_goes s h n c.args.page c.args.block c.args.self.now _ m c.if-self.false (sym c.page.view_is ∙ c.if-page-self.false) c.if-not-is_free.ensures.inside c.if-not-is_free.ensures.empty
-    w.0 w.1 w.2 refl refl refl
+    alloc_goes s h n c.args.page c.args.block c.shrinks_underused-queued.result c.args.self.now _ m c.if-self.false (sym c.page.view_is ∙ c.if-page-self.false) c.if-not-is_free.ensures.inside
+    c.if-not-is_free.ensures.empty c.shrinks_underused-queued.ensures c.place.ensures refl refl refl refl

@@ -1,19 +1,14 @@
-use Rattle.std.proofs.Common.{◌≡◌, Option, Some, ap, ◌∙◌}
-use Rattle.std.specs.Prelude.{slice_set}
-use Rattle.thp_page.proofs.TableSlots.{slot_at-inside}
-use Rattle.thp_page.specs.Slots.{slot_at, stood}
-use Rattle.thp_page.specs.Table.{Slot, Table}
+use Rattle.std.proofs.Common.{Some, subst}
 use Rattle.thp_page.specs.declared.standing.Standing.TheVariants.{Nowhere}
-use Rattle.thp_node.specs.BlocksState.{BlocksState}
-use Rattle.thp_node.proofs.Relinking.{linked_moved, taken}
+use Rattle.thp_places.specs.PlacesState.{PlacesState, AtSlot, Edits}
+use Rattle.thp_node.proofs.ChainLemmas.{chain_stays}
 use Rattle.thp_node.proofs.blocks.Blocks.drop_out.Goals as goal
 
 pub invariant_of-self : goal.invariant_of-self
 invariant_of-self c =
-    let t = c.self.inside.table in
-    let w = taken _ c.requires.occupied in
-    let at : slot_at t c.args.block ≡ Some w.0 = ap (λ (n : BlocksState). slot_at n.table c.args.block) c.self.view_is ∙ w.1 in
-    linked_moved t c.set_standing.new.self c.self.inside.queue c.self.inside.free c.args.block w.0 (record w.0 { standing = Nowhere }) c.self.invariant at
-    (slot_at-inside t c.args.block w.0 at) (c.requires.outside w.0 w.1) (λ e. cc)
-    (ap (λ (u : Table). u.slots) c.set_standing.ensures ∙ ap (λ (o : Option Slot). slice_set t.slots c.args.block (stood o Nowhere)) at)
-    (ap (λ (u : Table). u.links) c.set_standing.ensures)
+    chain_stays c.args.self.now c.self.inside.places c.drop_out.new.self c.self.inside.free c.args.block c.self.invariant c.self.view_is c.requires.occupied
+    (λ x at. record { slot = record x { standing = Nowhere }; queue = c.self.inside.places.queue; most = 0; edits = c.drop_out.ensures x at })
+
+pub returns : goal.returns
+returns c =
+    subst (λ (n : PlacesState). AtSlot n.table c.args.block (λ x. Edits n c.drop_out.new.self c.args.block (Some (record x { standing = Nowhere })) (n.queue) 0)) c.self.view_is c.drop_out.ensures

@@ -1,16 +1,7 @@
-use Rattle.std.proofs.Common.{◌≡◌, Option, Some, refl, ap, ◌∙◌}
-use Rattle.std.specs.Prelude.{slice_set}
-use Rattle.thp_page.proofs.TableSlots.{slot_at-inside}
-use Rattle.thp_page.specs.Slots.{slot_at, paged}
-use Rattle.thp_page.specs.Table.{Slot}
-use Rattle.thp_node.specs.BlocksState.{BlocksState}
-use Rattle.thp_node.proofs.Relinking.{linked_paged, taken}
+use Rattle.thp_node.proofs.ChainLemmas.{chain_stays}
 use Rattle.thp_node.proofs.blocks.Blocks.gain.Goals as goal
 
 pub invariant_of-self : goal.invariant_of-self
 invariant_of-self c =
-    let t = c.self.inside.table in
-    let w = taken _ c.requires.occupied in
-    let at : slot_at t c.args.block ≡ Some w.0 = ap (λ (n : BlocksState). slot_at n.table c.args.block) c.self.view_is ∙ w.1 in
-    linked_paged t _ c.self.inside.queue c.self.inside.free c.args.block w.0 (record w.0 { page = c.apply.new.page }) c.self.invariant at
-    (slot_at-inside t c.args.block w.0 at) refl (ap (λ (o : Option Slot). slice_set t.slots c.args.block (paged o c.apply.new.page)) at) refl
+    chain_stays c.args.self.now c.self.inside.places c.gain.new.self c.self.inside.free c.args.block c.self.invariant c.self.view_is c.requires.occupied
+    (λ x at. record { slot = record x { page = (c.gain.ensures x at).0 }; queue = c.self.inside.places.queue; most = 0; edits = (c.gain.ensures x at).2 })

@@ -1,71 +1,39 @@
-use Rattle.std.proofs.Common.{◌≡◌, Some, ap, sym, ◌∙◌, subst, arith}
-use Rattle.thp_model.specs.declared.events.Outcome.{Outcome}
-use Rattle.thp_model.specs.declared.events.Outcome.TheVariants as outcome
-use Rattle.thp_page.specs.Slots.{slot_at}
-use Rattle.thp_page.specs.Table.{Slot}
-use Rattle.thp_node.specs.BlocksState.{BlocksState, Edits, Reduced, slot_after, queue_after, left_by}
-use Rattle.thp_node.proofs.Relinking.{taken, edited_slot, some_of, same_slot, if_at, edits_none, edits_settled}
-use Rattle.thp_node.proofs.PageUses.{queued_nowhere}
+use Rattle.std.proofs.Common.{None, length, ap, arith, length-set}
+use Rattle.thp_page.proofs.TableSlots.{slot_at-inside}
+use Rattle.thp_places.proofs.FreeChains.{free_chain_kept, not_free}
+use Rattle.thp_places.proofs.Relinking.{edited_slot}
+use Rattle.thp_node.proofs.ChainLemmas.{chain_stays, chain_pushed, freed_there, loss_keeps}
 use Rattle.thp_node.proofs.blocks.Blocks.lose.Goals as goal
-use Rattle.thp_node.proofs.blocks.Blocks.lose.Goals.{in-Stays, in-Queued, in-Freed}
 
-pub enqueue-requires-clause-occupied : goal.enqueue-requires-clause-occupied
-enqueue-requires-clause-occupied c =
-    let w = taken _ c.requires.occupied in
-    let red = c.reduce-done.ensures w.0 w.1 in
-    some_of _ (record w.0 { page = red.page }) (edited_slot c.args.self.now c.reduce-done.new.self c.args.block w.0 _ _ 0 w.1 red.edits)
+pub push_free-requires-clause-chain : goal.push_free-requires-clause-chain
+push_free-requires-clause-chain c =
+    let w = freed_there c.args.loss c.args.closed c.args.self.now c.self.inside.places c.lose-done.new.self c.args.block c.lose-done.result.0 c.lose-done.result.1 c.self.view_is c.requires.occupied c.lose-done.ensures c.in-Freed.is in
+    let old = c.self.inside.places in
+    free_chain_kept old c.lose-done.new.self c.self.inside.free c.args.block None w.queue 6 c.self.invariant.chain w.edits (not_free old.table c.self.inside.free c.args.block w.slot c.self.invariant.chain w.at)
 
-pub release-requires : goal.release-requires
-release-requires c =
-    let w = taken _ c.requires.occupied in
-    let red = c.reduce-done.ensures w.0 w.1 in
-    some_of _ (record w.0 { page = red.page }) (edited_slot c.args.self.now c.reduce-done.new.self c.args.block w.0 _ _ 0 w.1 red.edits)
+pub push_free-requires-clause-inside : goal.push_free-requires-clause-inside
+push_free-requires-clause-inside c =
+    let w = freed_there c.args.loss c.args.closed c.args.self.now c.self.inside.places c.lose-done.new.self c.args.block c.lose-done.result.0 c.lose-done.result.1 c.self.view_is c.requires.occupied c.lose-done.ensures c.in-Freed.is in
+    let old = c.self.inside.places in
+    omega (arith, slot_at-inside old.table c.args.block w.slot w.at, ap length w.edits.slots, length-set old.table.slots c.args.block None)
 
-pub enqueue-requires-clause-outside : goal.enqueue-requires-clause-outside
-enqueue-requires-clause-outside c = λ y e q.
-    let w = taken _ c.requires.occupied in
-    let red = c.reduce-done.ensures w.0 w.1 in
-    let same : y ≡ record w.0 { page = red.page } =
-    same_slot _ (record w.0 { page = red.page }) y (edited_slot c.args.self.now c.reduce-done.new.self c.args.block w.0 _ _ 0 w.1 red.edits) e in
-    queued_nowhere w.0.page red.page c.args.closed w.0.standing (sym c.in-Queued.is ∙ red.outcome_is) (sym (ap (λ (s : Slot). s.standing) same) ∙ q)
+pub push_free-requires-clause-empty : goal.push_free-requires-clause-empty
+push_free-requires-clause-empty c =
+    let w = freed_there c.args.loss c.args.closed c.args.self.now c.self.inside.places c.lose-done.new.self c.args.block c.lose-done.result.0 c.lose-done.result.1 c.self.view_is c.requires.occupied c.lose-done.ensures c.in-Freed.is in
+    edited_slot c.self.inside.places c.lose-done.new.self c.args.block w.slot None w.queue 6 w.at w.edits
 
-pub returns : goal.returns
-returns c = λ x e.
-    let old = c.args.self.now in
-    let mid = c.reduce-done.new.self in
-    let b = c.args.block in
-    let red : Reduced c.args.loss c.args.closed x old mid b c.reduce-done.result = c.reduce-done.ensures x e in
-    let y : Slot = record x { page = red.page } in
-    let there : slot_at mid.table b ≡ Some y = edited_slot old mid b x _ _ 0 e red.edits in
-    let standing : c.standing-standing.result ≡ x.standing =
-    if_at (slot_at c.self.inside.table b) x (λ (s : Slot). c.standing-standing.result ≡ s.standing) (ap (λ (n : BlocksState). slot_at n.table b) c.self.view_is ∙ e) c.standing-standing.ensures in
-    let E : BlocksState → Outcome → Type 0 = λ n o. Edits old n b (slot_after o y) (queue_after o b old.queue) 8 in
-    elim c.match-done.branch [
-      | in-Stays w ↦
-          record {
-            page = red.page;
-            how = red.how;
-            outcome_is = red.outcome_is;
-            released_is = red.released_is;
-            left_is = w.left-is ∙ ap (λ o. left_by o x.standing) (sym w.in-Stays.is);
-            edits = subst (λ o. E c.match-done.self o) (sym w.in-Stays.is) (subst (λ n. E n outcome.Stays) (sym w.self-is) (edits_settled old mid mid b y outcome.Stays 0 red.edits (edits_none mid b y there) (omega arith)));
-          }
-      | in-Queued w ↦
-          record {
-            page = red.page;
-            how = red.how;
-            outcome_is = red.outcome_is;
-            released_is = red.released_is;
-            left_is = w.left-is ∙ ap (λ o. left_by o x.standing) (sym w.in-Queued.is);
-            edits = subst (λ o. E c.match-done.self o) (sym w.in-Queued.is) (subst (λ n. E n outcome.Queued) (sym w.self-is) (edits_settled old mid w.enqueue.new.self b y outcome.Queued 4 red.edits (w.enqueue.ensures y there) (omega arith)));
-          }
-      | in-Freed w ↦
-          record {
-            page = red.page;
-            how = red.how;
-            outcome_is = red.outcome_is;
-            released_is = red.released_is;
-            left_is = w.left-is ∙ w.batch_of-left.ensures ∙ ap (λ s. left_by outcome.Freed s) standing ∙ ap (λ o. left_by o x.standing) (sym w.in-Freed.is);
-            edits = subst (λ o. E c.match-done.self o) (sym w.in-Freed.is) (subst (λ n. E n outcome.Freed) (sym w.self-is) (edits_settled old mid w.release.new.self b y outcome.Freed 8 red.edits w.release.ensures (omega arith)));
-          }
-    ]
+pub push_free-requires-clause-absent : goal.push_free-requires-clause-absent
+push_free-requires-clause-absent c =
+    let w = freed_there c.args.loss c.args.closed c.args.self.now c.self.inside.places c.lose-done.new.self c.args.block c.lose-done.result.0 c.lose-done.result.1 c.self.view_is c.requires.occupied c.lose-done.ensures c.in-Freed.is in
+    not_free c.self.inside.places.table c.self.inside.free c.args.block w.slot c.self.invariant.chain w.at
+
+pub invariant_of-self : goal.invariant_of-self
+invariant_of-self c =
+    let w = freed_there c.args.loss c.args.closed c.args.self.now c.self.inside.places c.lose-done.new.self c.args.block c.lose-done.result.0 c.lose-done.result.1 c.self.view_is c.requires.occupied c.lose-done.ensures c.in-Freed.is in
+    chain_pushed c.self.inside.places c.lose-done.new.self c.push_free.new.self c.self.inside.free c.push_free.new.chain c.args.block w.slot w.queue 6 c.self.invariant w.at w.edits
+    c.push_free.ensures.list c.push_free.ensures.chain c.push_free.ensures.same
+
+pub invariant_of-self-in_default : goal.invariant_of-self-in_default
+invariant_of-self-in_default c =
+    chain_stays c.args.self.now c.self.inside.places c.lose-done.new.self c.self.inside.free c.args.block c.self.invariant c.self.view_is c.requires.occupied
+    (λ x at. loss_keeps c.args.loss c.args.closed x c.self.inside.places c.lose-done.new.self c.args.block c.lose-done.result.0 c.lose-done.result.1 (c.lose-done.ensures x at) c.in_default.not-Freed)

@@ -1,12 +1,32 @@
-use Rattle.std.proofs.Common.{ℕ, ◌-◌, List, ◌∷◌, sym, ◌∙◌, subst, arith, inl, inr}
+use Rattle.std.proofs.Common.{ℕ, ◌-◌, List, Option, None, ◌∷◌, get_or, length, refl, ap, sym, ◌∙◌, subst, arith, inl, inr, rules}
 use Rattle.std.specs.List.{Contains}
-use Rattle.thp_links.proofs.Members.{Contains-head, Contains-behind, Contains-cons_cases}
 use Rattle.std.proofs.lemmas.Bool.Decides.{eqb_tells}
-use Rattle.thp_node.proofs.Relinking.{linked_new}
+use Rattle.thp_links.proofs.Members.{Contains-nil, Contains-head, Contains-behind, Contains-cons_cases}
+use Rattle.thp_page.specs.Table.{Slot}
 use Rattle.thp_node.proofs.blocks.Blocks.new.Goals as goal
 
-pub push-requires-clause-absent : goal.push-requires-clause-absent
-push-requires-clause-absent c = λ m. let low = c.loop-block.invariant.above (c.loop-block.block - 1) m in omega arith
+pub loop-block-init : goal.loop-block-init
+loop-block-init c =
+    let none = λ (b : ℕ) (i : Contains c.new-free.result b). Contains-nil b (subst (λ xs. Contains xs b) c.new-free.ensures i) in
+    record {
+      chain = record { stands = search rules; empty = λ b i. absurd (none b i) };
+      above = λ b i. absurd (none b i);
+      all = λ b l m. absurd (omega arith);
+      order = refl;
+      slots = refl;
+      queue = refl;
+    }
+
+pub push_free-requires-clause-inside : goal.push_free-requires-clause-inside
+push_free-requires-clause-inside c =
+    omega (arith, c.loop-block-test.true, c.loop-block.auto.block, ap length c.loop-block.invariant.slots, c.in_ok-places.ensures.size)
+
+pub push_free-requires-clause-empty : goal.push_free-requires-clause-empty
+push_free-requires-clause-empty c =
+    ap (λ (xs : List (Option Slot)). get_or xs (c.loop-block.block - 1) None) c.loop-block.invariant.slots ∙ c.in_ok-places.ensures.empty (c.loop-block.block - 1)
+
+pub push_free-requires-clause-absent : goal.push_free-requires-clause-absent
+push_free-requires-clause-absent c = λ m. let low = (c.loop-block.invariant.above (c.loop-block.block - 1) m).0 in omega arith
 
 pub loop-block-preserved : goal.loop-block-preserved
 loop-block-preserved c =
@@ -14,27 +34,28 @@ loop-block-preserved c =
     let f = c.loop-block.free in
     let inv = c.loop-block.invariant in
     record {
-      chain = c.push.ensures.stands;
+      chain = c.push_free.ensures.chain;
       above = λ b m.
-          let P : List ℕ → Type 0 = λ xs. Contains xs b in
-          elim (Contains-cons_cases (i - 1) f b (subst P c.push.ensures.list m)) [
-            | inl e ↦ omega arith
-            | inr n ↦ let low = inv.above b n in omega arith
+          elim (Contains-cons_cases (i - 1) f b (subst (λ xs. Contains xs b) c.push_free.ensures.list m)) [
+            | inl e ↦ (omega arith, omega (arith, e, c.loop-block-test.true, c.loop-block.auto.block))
+            | inr n ↦ let low = inv.above b n in (omega arith, low.1)
           ];
       all = λ b l h.
-          let P : List ℕ → Type 0 = λ xs. Contains xs b in
-          subst P (sym c.push.ensures.list)
+          subst (λ xs. Contains xs b) (sym c.push_free.ensures.list)
           (elim (eqb_tells b (i - 1)) [
             | inl y ↦ let Q : ℕ → Type 0 = λ z. Contains ((i - 1) ∷ f) z in subst Q (sym y.1) (Contains-head (i - 1) f)
-            | inr y ↦ Contains-behind (i - 1) f b (inv.all b (omega (arith, y.1)) (omega (arith, c.push.ensures.outside.same_length)))
+            | inr y ↦ Contains-behind (i - 1) f b (inv.all b (omega (arith, y.1)) h)
           ]);
-      size = c.push.ensures.outside.same_length ∙ inv.size;
-      order = c.push.ensures.rest.order ∙ inv.order;
-      slots = c.push.ensures.rest.slots ∙ inv.slots;
+      order = c.push_free.ensures.same.order ∙ inv.order;
+      slots = c.push_free.ensures.same.slots ∙ inv.slots;
+      queue = c.push_free.ensures.same.queue_is ∙ inv.queue;
     }
 
 pub invariant_of-result : goal.invariant_of-result
 invariant_of-result c =
     let inv = c.loop-block.invariant in
-    linked_new c.loop-block.table c.new-2.result c.loop-block.free c.args.shape.blocks c.new-2.ensures (inv.slots ∙ c.in_ok-table.ensures.empty) inv.size inv.chain
-    (λ b l. inv.all b (omega arith) l)
+    record {
+      chain = inv.chain;
+      inside = λ b i. omega (arith, (inv.above b i).1, ap length inv.slots, c.in_ok-places.ensures.size);
+      all = λ b below none. inv.all b (omega (arith, c.loop-block-test.false)) (omega (arith, below, ap length inv.slots, c.in_ok-places.ensures.size));
+    }

@@ -1,58 +1,8 @@
-use Rattle.std.proofs.Common.{◌≡◌, Some, ap, ◌∙◌, subst, arith}
-use Rattle.std.specs.Prelude.{slice_set}
-use Rattle.thp_model.specs.Pages.{PageState, PageSplit, gives_frames}
-use Rattle.thp_page.proofs.TableSlots.{slot_at-inside}
-use Rattle.thp_page.specs.Slots.{slot_at}
-use Rattle.thp_page.specs.Table.{Table}
 use Rattle.thp_page.specs.declared.standing.Standing.TheVariants.{Nowhere}
-use Rattle.thp_node.specs.BlocksState.{BlocksState}
-use Rattle.thp_node.proofs.Relinking.{linked_moved, taken, stood_slot, stood_paged, page_there}
+use Rattle.thp_node.proofs.ChainLemmas.{chain_stays}
 use Rattle.thp_node.proofs.blocks.Blocks.split.Goals as goal
-
-pub split-requires-clause-whole : goal.split-requires-clause-whole
-split-requires-clause-whole c =
-    let t = c.self.inside.table in
-    let b = c.args.block in
-    let w = taken _ c.requires.occupied in
-    let at : slot_at t b ≡ Some w.0 = ap (λ (n : BlocksState). slot_at n.table b) c.self.view_is ∙ w.1 in
-    ap (λ (p : PageState). p.split) (page_there c.set_standing.new.self b (record w.0 { standing = Nowhere }) c.in-Some.page.now (stood_slot t c.set_standing.new.self b w.0 Nowhere at c.set_standing.ensures) c.in-Some.ensures.value)
-    ∙ (c.requires.allowed w.0 w.1).0
-
-pub split-requires-clause-unpinned : goal.split-requires-clause-unpinned
-split-requires-clause-unpinned c =
-    let t = c.self.inside.table in
-    let b = c.args.block in
-    let w = taken _ c.requires.occupied in
-    let at : slot_at t b ≡ Some w.0 = ap (λ (n : BlocksState). slot_at n.table b) c.self.view_is ∙ w.1 in
-    ap (λ (p : PageState). p.pins) (page_there c.set_standing.new.self b (record w.0 { standing = Nowhere }) c.in-Some.page.now (stood_slot t c.set_standing.new.self b w.0 Nowhere at c.set_standing.ensures) c.in-Some.ensures.value)
-    ∙ (c.requires.allowed w.0 w.1).1
 
 pub invariant_of-self : goal.invariant_of-self
 invariant_of-self c =
-    let t = c.self.inside.table in
-    let b = c.args.block in
-    let w = taken _ c.requires.occupied in
-    let at : slot_at t b ≡ Some w.0 = ap (λ (n : BlocksState). slot_at n.table b) c.self.view_is ∙ w.1 in
-    linked_moved t _ c.self.inside.queue c.self.inside.free b w.0 (record w.0 { page = c.split.new.self; standing = Nowhere }) c.self.invariant at
-    (slot_at-inside t b w.0 at) (c.requires.allowed w.0 w.1).2 (λ e. cc)
-    (stood_paged t c.set_standing.new.self b w.0 Nowhere c.split.new.self at c.set_standing.ensures)
-    (ap (λ (u : Table). u.links) c.set_standing.ensures)
-
-pub returns : goal.returns
-returns c = λ x e.
-    let t = c.self.inside.table in
-    let b = c.args.block in
-    let at : slot_at t b ≡ Some x = ap (λ (n : BlocksState). slot_at n.table b) c.self.view_is ∙ e in
-    let page : c.in-Some.page.now ≡ x.page =
-    page_there c.set_standing.new.self b (record x { standing = Nowhere }) c.in-Some.page.now (stood_slot t c.set_standing.new.self b x Nowhere at c.set_standing.ensures) c.in-Some.ensures.value in
-    let P : PageState → Type 0 = λ p. PageSplit p c.split.new.self in (
-      c.split.new.self,
-      subst P page c.split.ensures.counts,
-      c.split.ensures.released ∙ ap (λ (p : PageState). gives_frames p c.split.new.self) page,
-      record {
-        slots = stood_paged t c.set_standing.new.self b x Nowhere c.split.new.self at c.set_standing.ensures ∙ ap (λ (n : BlocksState). slice_set n.table.slots b (Some (record x { page = c.split.new.self; standing = Nowhere }))) c.self.view_is;
-        order = ap (λ (u : Table). u.order) c.set_standing.ensures ∙ ap (λ (n : BlocksState). n.table.order) c.self.view_is;
-        queue_is = ap (λ (n : BlocksState). n.queue) c.self.view_is;
-        work = omega (arith, ap (λ (u : Table). u.accesses) c.set_standing.ensures, ap (λ (n : BlocksState). n.table.accesses) c.self.view_is);
-      },
-    )
+    chain_stays c.args.self.now c.self.inside.places c.split.new.self c.self.inside.free c.args.block c.self.invariant c.self.view_is c.requires.occupied
+    (λ x at. record { slot = record x { page = (c.split.ensures x at).0; standing = Nowhere }; queue = c.self.inside.places.queue; most = 0; edits = (c.split.ensures x at).3 })

@@ -7,15 +7,17 @@ use Rattle.thp_model.specs.History.{History, by}
 use Rattle.thp_model.specs.Legal.{Fits}
 use Rattle.thp_model.specs.Refusals.{refusal}
 use Rattle.thp_model.specs.Refusals as call
+use Rattle.thp_model.specs.Underused.{shrinks_underused}
 use Rattle.thp_page.specs.Slots.{slot_at}
 use Rattle.thp_node.specs.contracts.node.Node.{the_view}
-use Rattle.thp_node.specs.BlocksState.{HasFree}
-use Rattle.thp_node.specs.Holding.{IsNode}
+use Rattle.thp_places.specs.PlacesState.{HasFree}
+use Rattle.thp_places.specs.Holding.{IsNode}
 use Rattle.thp_node.specs.Journals.{JournalState}
 use Rattle.thp_node.specs.NodeState.{NodeState}
-use Rattle.thp_node.proofs.Closing.{refused_alloc, refused_full, allowed_alloc, next_is_new}
-use Rattle.thp_node.proofs.Homing.{legal_homed}
-use Rattle.thp_node.proofs.ListEvents.{placed_fits, placed_node}
+use Rattle.thp_places.proofs.Closing.{refused_alloc, refused_full, allowed_alloc, next_is_new}
+use Rattle.thp_places.proofs.Homing.{legal_homed}
+use Rattle.thp_places.proofs.ListEvents.{placed_fits, placed_node}
+use Rattle.thp_node.proofs.Losing.{node_relinked}
 use Rattle.thp_node.proofs.Fronts.{fronts_same, fronts_grown}
 use Rattle.thp_node.proofs.node.Node.alloc_page.Goals as goal
 
@@ -83,8 +85,10 @@ invariant_of-self-2 c =
     let fits : Fits j.shape j.events (by c.args.caller w) =
     placed_fits j.shape j.events c.args.caller c.next.result c.place-block.result b.table b.queue homed c.self.invariant allowed number c.place-block.ensures.inside c.place-block.ensures.free in
     let put = c.place-block.ensures.placed in
+    let switch : c.shrinks_underused-queued.result ≡ shrinks_underused j.shape = c.shrinks_underused-queued.ensures ∙ ap shrinks_underused (c.shape.ensures.value ∙ c.in_default.ensures.shape) in
     let node : IsNode j.shape (j.events ++ by c.args.caller w ∷ []) c.place-block.new.self.table c.place-block.new.self.queue =
-    placed_node j.shape j.events c.args.caller c.next.result c.place-block.result put.0 b c.place-block.new.self homed c.self.invariant fits c.place-block.ensures.inside put.1 put.2 in
+    placed_node j.shape j.events c.args.caller c.next.result c.place-block.result homed fits c.shrinks_underused-queued.result put.between c.place-block.new.self
+    (node_relinked j.shape j.events b put.between 2 put.relinks c.self.invariant) (omega (arith, c.place-block.ensures.inside, ap length put.relinks.slots)) switch put.placed in
     let N : Shape → History → Type 0 = λ s h. IsNode s h c.place-block.new.self.table c.place-block.new.self.queue in
     let shape : c.record.new.self.shape ≡ j.shape = c.record.ensures.shape ∙ c.in_default.ensures.shape in
     let events : c.record.new.self.events ≡ j.events ++ by c.args.caller w ∷ [] = c.record.ensures.events ∙ ap (λ h. h ++ by c.args.caller w ∷ []) c.in_default.ensures.events in

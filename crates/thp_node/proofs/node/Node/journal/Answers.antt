@@ -4,7 +4,7 @@ use Rattle.thp_model.specs.History.{History}
 use Rattle.thp_model.specs.Legal.{IsLegal}
 use Rattle.thp_model.specs.Shapes.{IsShape}
 use Rattle.thp_node.specs.NodeState.{NodeState}
-use Rattle.thp_node.proofs.JournalFacts.{stands_once, all_stand_whole, takes_oldest, leaves_freed_alone, allocates_once, nothing_enters, has_frames_once, keeps_frames, holds_while_live, lives_apart, others_free, flights_go_on, queue_goes_on}
+use Rattle.thp_node.proofs.JournalFacts.{stands_once, all_stand_whole, takes_oldest, leaves_freed_alone, allocates_once, nothing_enters, has_frames_once, keeps_frames, holds_while_live, lives_apart, others_free, flights_go_on, queue_goes_on, none_is_underused}
 use Rattle.thp_node.proofs.node.Node.journal.Goals as goal
 
 legal : (c : goal.After-events) → IsLegal c.args.self.now.shape c.args.self.now.journal
@@ -54,3 +54,6 @@ returns-clause-flights c = flights_go_on c.args.self.now.shape c.args.self.now.j
 
 pub returns-clause-queue : goal.returns-clause-queue
 returns-clause-queue c = queue_goes_on c.args.self.now.shape c.args.self.now.journal (legal c)
+
+pub returns-clause-off : goal.returns-clause-off
+returns-clause-off c = none_is_underused c.args.self.now.shape c.args.self.now.journal (legal c)

@@ -5,13 +5,13 @@ use Rattle.thp_model.specs.History.{History, by}
 use Rattle.thp_model.specs.Frames.{outcome, released}
 use Rattle.thp_model.specs.Legal.{Fits}
 use Rattle.thp_model.specs.Refusals.{refusal}
-use Rattle.thp_node.specs.declared.page_call.PageCall.TheVariants as either
-use Rattle.thp_node.specs.Holding.{IsNode}
-use Rattle.thp_node.specs.Homes.{block_of}
-use Rattle.thp_node.specs.Journals.{leaves_of}
+use Rattle.thp_places.specs.declared.page_call.PageCall.TheVariants as either
+use Rattle.thp_places.specs.Holding.{IsNode}
+use Rattle.thp_places.specs.Homes.{block_of}
+use Rattle.thp_node.specs.Journals.{unsaid_of}
 use Rattle.thp_node.specs.NodeState.{NodeState}
-use Rattle.thp_node.specs.PageCalls.{loss_call, loss_what}
-use Rattle.thp_node.proofs.Admitting.{ready}
+use Rattle.thp_places.specs.PageCalls.{loss_call, loss_what}
+use Rattle.thp_places.proofs.Admitting.{ready}
 use Rattle.thp_node.proofs.CallLemmas.{did_one}
 use Rattle.thp_node.proofs.Losing.{Losing, losing}
 use Rattle.thp_node.proofs.Fronts.{fronts_same, fronts_grown, loss_takes_none}
@@ -55,8 +55,8 @@ record-requires-clause-fits c =
     let P : What → Type 0 = λ w. Fits j.shape j.events (by c.args.caller w) in
     subst P (sym c.what.ensures) (before c).fits
 
-pub record-requires-clause-left : goal.record-requires-clause-left
-record-requires-clause-left c = (before c).left_is ∙ ap (leaves_of c.self.inside.journal.events c.args.caller) (sym c.what.ensures)
+pub record-requires-clause-unsaid : goal.record-requires-clause-unsaid
+record-requires-clause-unsaid c = (before c).unsaid_is ∙ ap (unsaid_of c.self.inside.journal.shape c.self.inside.journal.events) (sym c.what.ensures)
 
 events : (c : goal.After-record) → c.record.new.self.events ≡ c.self.inside.journal.events ++ by c.args.caller (loss_what c.args.loss c.args.page c.lose-done.result.0.outcome c.lose-done.result.0.released) ∷ []
 events c = c.record.ensures.events ∙ ap (λ v. c.self.inside.journal.events ++ by c.args.caller v ∷ []) c.what.ensures

@@ -1,21 +1,63 @@
-use Rattle.std.proofs.Common.{◌≡◌, ℕ, List, ◌++◌, ap, ◌∙◌}
+use Rattle.std.proofs.Common.{◌-◌, length, map, Some, Option, ℕ, sym, ap, ap₂, ◌∙◌, subst, arith}
 use Rattle.thp_model.specs.History.{History}
-use Rattle.thp_model.specs.Runs.{put_back_events}
-use Rattle.thp_node.specs.Batches.{FrontsStay}
+use Rattle.thp_model.specs.Runs.{still_flying}
+use Rattle.thp_places.specs.Homes.{block_of}
 use Rattle.thp_node.specs.NodeState.{NodeState}
-use Rattle.thp_node.proofs.Fronts.{fronts_same, fronts_grown, return_takes_none}
+use Rattle.thp_node.specs.Returning.{BeginsIn}
+use Rattle.thp_node.proofs.Fronts.{fronts_grown, return_takes_none}
+use Rattle.thp_node.proofs.ReturnLemmas.{batch_begins, batch_did, batch_reply, the_reply}
 use Rattle.thp_node.proofs.node.Node.put_back.Goals as goal
 
--- returns leave other batches in front
-returned : (h k m : History) (c : ℕ) (ps : List ℕ) → k ≡ h → m ≡ k ++ put_back_events k c ps → FrontsStay h m
-returned h k m c ps e g = λ b f. fronts_grown k m (put_back_events k c ps) g (λ d. return_takes_none d k c ps) b (fronts_same h k e b f)
+pub return_all-back-requires-clause-front : goal.return_all-back-requires-clause-front
+return_all-back-requires-clause-front c =
+    let h : History = c.args.self.now.journal in
+    let same = c.in_default.ensures.events ∙ ap (λ (n : NodeState). n.journal) c.self.view_is in
+    let caller = c.args.batch.caller in
+    let begins : BeginsIn h caller c.deref.result.now =
+    batch_begins h caller (still_flying h caller c.args.batch.pages) c.requires.front.others c.deref.result.now c.requires.front.front
+    (ap₂ (λ x ps. map (block_of h) (still_flying h x ps)) (sym c.caller.ensures.value) (sym c.pages.ensures.value) ∙ c.flying_blocks-blocks.ensures.blocks
+    ∙ ap (map (λ n. let o : Option ℕ = Some n in o)) (sym c.deref.ensures.0)) in
+    subst (λ k. BeginsIn k c.caller-2.result c.deref.result.now) (sym same) (subst (λ x. BeginsIn h x c.deref.result.now) (sym c.caller-2.ensures.value) begins)
 
-pub returns-then-closed-clause-fronts : goal.returns-then-closed-clause-fronts
-returns-then-closed-clause-fronts c =
-    returned c.args.self.now.journal c.reserve.new.self.events c.return_all.new.self.journal c.args.batch.caller c.args.batch.pages
-    (c.in_default.ensures.events ∙ ap (λ (n : NodeState). n.journal) c.self.view_is) c.return_all.ensures.did.journal
+pub returns-clause-recorded : goal.returns-clause-recorded
+returns-clause-recorded c =
+    let h : History = c.args.self.now.journal in
+    batch_did c.args.self.now _ c.return_all-back.new.self c.caller-2.result (length c.deref.result.now) c.args.batch
+    (c.in_default.ensures.shape ∙ ap (λ (n : NodeState). n.shape) c.self.view_is)
+    (c.in_default.ensures.events ∙ ap (λ (n : NodeState). n.journal) c.self.view_is)
+    (omega (arith, c.in_default.ensures.room, ap (λ (n : NodeState). n.room) c.self.view_is))
+    (ap (λ (n : NodeState). n.table.accesses) c.self.view_is)
+    c.caller-2.ensures.value c.requires.front
+    (ap length c.deref.ensures.0 ∙ c.flying_blocks-blocks.ensures.count ∙ ap₂ (λ x ps. length (still_flying h x ps)) c.caller.ensures.value c.pages.ensures.value)
+    c.return_all-back.ensures.did
 
-pub returns-else-closed-clause-fronts : goal.returns-else-closed-clause-fronts
-returns-else-closed-clause-fronts c =
-    returned c.args.self.now.journal c.reserve.new.self.events c.return_all.new.self.journal c.args.batch.caller c.args.batch.pages
-    (c.in_default.ensures.events ∙ ap (λ (n : NodeState). n.journal) c.self.view_is) c.return_all.ensures.did.journal
+pub overflow_sub-result : goal.overflow_sub-result
+overflow_sub-result c =
+    let h : History = c.args.self.now.journal in
+    omega (
+      arith,
+      (batch_reply c.args.self.now.shape c.reserve.new.self.shape h c.reserve.new.self.events c.caller-2.result (length c.deref.result.now) c.return_all-back.result c.args.batch
+          (c.in_default.ensures.shape ∙ ap (λ (n : NodeState). n.shape) c.self.view_is)
+          (c.in_default.ensures.events ∙ ap (λ (n : NodeState). n.journal) c.self.view_is)
+          c.caller-2.ensures.value c.requires.front
+          (ap length c.deref.ensures.0 ∙ c.flying_blocks-blocks.ensures.count ∙ ap₂ (λ x ps. length (still_flying h x ps)) c.caller.ensures.value c.pages.ensures.value)
+          c.return_all-back.ensures.back).0,
+      ap length c.deref.ensures.0,
+      c.len-count.ensures.value,
+    )
+
+pub returns-clause-reply : goal.returns-clause-reply
+returns-clause-reply c =
+    let h : History = c.args.self.now.journal in
+    ap (λ n. the_reply c.return_all-back.result (n - c.return_all-back.result)) (c.len-count.ensures.value ∙ sym (ap length c.deref.ensures.0))
+    ∙ (batch_reply c.args.self.now.shape c.reserve.new.self.shape h c.reserve.new.self.events c.caller-2.result (length c.deref.result.now) c.return_all-back.result c.args.batch
+    (c.in_default.ensures.shape ∙ ap (λ (n : NodeState). n.shape) c.self.view_is)
+    (c.in_default.ensures.events ∙ ap (λ (n : NodeState). n.journal) c.self.view_is)
+    c.caller-2.ensures.value c.requires.front
+    (ap length c.deref.ensures.0 ∙ c.flying_blocks-blocks.ensures.count ∙ ap₂ (λ x ps. length (still_flying h x ps)) c.caller.ensures.value c.pages.ensures.value)
+    c.return_all-back.ensures.back).1
+
+pub returns-clause-fronts : goal.returns-clause-fronts
+returns-clause-fronts c =
+    fronts_grown c.args.self.now.journal _ _ (returns-clause-recorded c).journal
+    (λ d. return_takes_none d c.args.self.now.shape c.args.self.now.journal c.args.batch.caller c.args.batch.pages)

@@ -1,7 +1,12 @@
-use Rattle.std.proofs.Common.{take}
-use Rattle.thp_model.specs.Runs.{put_back_events}
+use Rattle.std.proofs.Common.{◌≡◌, count_by, take}
+use Rattle.thp_model.specs.Places.{flight}
+use Rattle.thp_model.specs.Runs.{goes_back}
 use Rattle.thp_node.specs.Calls.{Did}
+use Rattle.thp_node.specs.Returning.{return_first}
 use Rattle.thp_node.proofs.node.Node.return_all.Given as goal
 
-abbrev pub invariant-loop-page : goal.invariant-loop-page
-invariant-loop-page l = Did l.fn.self l.self l.fn.batch.caller (put_back_events l.fn.self.journal l.fn.batch.caller (take l.page-index l.fn.batch.pages))
+abbrev pub invariant-loop-block : goal.invariant-loop-block
+invariant-loop-block l = record {
+  did : Did l.fn.self l.self l.fn.caller (return_first l.fn.self.shape l.fn.self.journal l.fn.caller l.block-index);
+  back : l.back ≡ count_by (goes_back l.fn.self.shape l.fn.self.journal) (take l.block-index (flight l.fn.self.journal l.fn.caller));
+}

@@ -1,32 +1,55 @@
-use Rattle.std.proofs.Common.{length, ap}
+use Rattle.std.proofs.Common.{length, ap, arith}
 use Rattle.thp_node.proofs.ScanLemmas.{no_refusal, tried_front, tried_room, tried_returned, tried_reply}
 use Rattle.thp_node.proofs.node.Node.scan_batch.Goals as goal
 
 pub put_back-requires : goal.put_back-requires
 put_back-requires c = record {
-  front = tried_front c.args.self.now c.try_all.new.self c.try_all.new.batch c.args.batch.caller c.args.batch.pages c.requires.legal c.requires.flies
-      c.try_all.ensures.did c.try_all.ensures.same_caller c.try_all.ensures.same_pages;
+  front = tried_front c.args.self.now c.try_all-used.new.self c.try_all-used.new.batch c.args.batch.caller c.args.batch.pages c.requires.legal c.requires.flies
+      c.try_all-used.ensures.did c.try_all-used.ensures.same_caller c.try_all-used.ensures.same_pages;
 }
 
 pub overflow_sub-result : goal.overflow_sub-result
 overflow_sub-result c =
-    (tried_reply c.args.self.now c.try_all.new.self c.try_all.new.batch c.args.batch.caller c.args.batch.pages c.requires.legal c.requires.flies
-    c.try_all.ensures.did c.try_all.ensures.same_caller c.try_all.ensures.same_pages
-    c.in-Ok.field-0 (length c.pages.result.now) c.in-Ok.ensures.reply (ap length c.pages.ensures.value)).0
+    omega (
+      arith,
+      (tried_reply c.args.self.now c.try_all-used.new.self c.try_all-used.new.batch c.args.batch.caller c.args.batch.pages c.requires.legal c.requires.flies
+          c.try_all-used.ensures.did c.try_all-used.ensures.same_caller c.try_all-used.ensures.same_pages
+          c.in-Ok.field-0 (length c.pages.result.now) c.try_all-used.result c.in-Ok.ensures.reply (ap length c.pages.ensures.value) c.try_all-used.ensures.used).0,
+    )
+
+pub overflow_sub-result-in-Ok : goal.overflow_sub-result-in-Ok
+overflow_sub-result-in-Ok c =
+    omega (
+      arith,
+      (tried_reply c.args.self.now c.try_all-used.new.self c.try_all-used.new.batch c.args.batch.caller c.args.batch.pages c.requires.legal c.requires.flies
+          c.try_all-used.ensures.did c.try_all-used.ensures.same_caller c.try_all-used.ensures.same_pages
+          c.in-Ok.field-0 (length c.pages.result.now) c.try_all-used.result c.in-Ok.ensures.reply (ap length c.pages.ensures.value) c.try_all-used.ensures.used).0,
+    )
+
+pub overflow_add-pinned : goal.overflow_add-pinned
+overflow_add-pinned c =
+    omega (
+      arith,
+      (tried_reply c.args.self.now c.try_all-used.new.self c.try_all-used.new.batch c.args.batch.caller c.args.batch.pages c.requires.legal c.requires.flies
+          c.try_all-used.ensures.did c.try_all-used.ensures.same_caller c.try_all-used.ensures.same_pages
+          c.in-Ok.field-0 (length c.pages.result.now) c.try_all-used.result c.in-Ok.ensures.reply (ap length c.pages.ensures.value) c.try_all-used.ensures.used).0,
+      ap length c.pages.ensures.value,
+      c.pages.ensures.few,
+    )
 
 pub unreachable-requires : goal.unreachable-requires
 unreachable-requires c =
-    no_refusal c.try_all.new.self c.put_back.new.self _ _ c.in-Err.ensures.refused
-    (tried_room c.args.self.now c.try_all.new.self c.try_all.new.batch c.args.batch.caller c.args.batch.pages c.requires.legal c.requires.flies
-    c.try_all.ensures.did c.try_all.ensures.same_caller c.try_all.ensures.same_pages c.requires.room)
+    no_refusal c.try_all-used.new.self c.put_back.new.self _ _ c.in-Err.ensures.refused
+    (tried_room c.args.self.now c.try_all-used.new.self c.try_all-used.new.batch c.args.batch.caller c.args.batch.pages c.requires.legal c.requires.flies
+    c.try_all-used.ensures.did c.try_all-used.ensures.same_caller c.try_all-used.ensures.same_pages c.requires.room)
 
 pub returns-clause-reply : goal.returns-clause-reply
 returns-clause-reply c =
-    (tried_reply c.args.self.now c.try_all.new.self c.try_all.new.batch c.args.batch.caller c.args.batch.pages c.requires.legal c.requires.flies
-    c.try_all.ensures.did c.try_all.ensures.same_caller c.try_all.ensures.same_pages
-    c.in-Ok.field-0 (length c.pages.result.now) c.in-Ok.ensures.reply (ap length c.pages.ensures.value)).1
+    (tried_reply c.args.self.now c.try_all-used.new.self c.try_all-used.new.batch c.args.batch.caller c.args.batch.pages c.requires.legal c.requires.flies
+    c.try_all-used.ensures.did c.try_all-used.ensures.same_caller c.try_all-used.ensures.same_pages
+    c.in-Ok.field-0 (length c.pages.result.now) c.try_all-used.result c.in-Ok.ensures.reply (ap length c.pages.ensures.value) c.try_all-used.ensures.used).1
 
 pub returns-clause-did : goal.returns-clause-did
 returns-clause-did c =
-    tried_returned c.args.self.now c.try_all.new.self c.try_all.new.batch c.args.batch.caller c.args.batch.pages c.requires.legal c.requires.flies
-    c.try_all.ensures.did c.try_all.ensures.same_caller c.try_all.ensures.same_pages c.put_back.new.self c.in-Ok.ensures.recorded
+    tried_returned c.args.self.now c.try_all-used.new.self c.try_all-used.new.batch c.args.batch.caller c.args.batch.pages c.requires.legal c.requires.flies
+    c.try_all-used.ensures.did c.try_all-used.ensures.same_caller c.try_all-used.ensures.same_pages c.put_back.new.self c.in-Ok.ensures.recorded

@@ -24,7 +24,7 @@ returns-in_default-clause-tried c =
     let next : next_page h c.args.batch.now.caller (rest c.args.batch.now) ≡ Some c.in-Some.page =
     ap₂ (next_page h) (sym c.caller-caller.ensures.value) (sym c.rest.ensures) ∙ c.in-Some.ensures.page in
     let same : c.reserve.new.self.events ≡ h = c.in_default.ensures.events ∙ ap (λ (n : NodeState). n.journal) c.self.view_is in
-    tried_after c.reserve.new.self.events h _ _ c.in-Some.page c.try_page.result c.try_page.ensures.tried (search) same next
+    tried_after c.reserve.new.self.shape c.args.self.now.shape c.reserve.new.self.events h _ _ c.in-Some.page c.try_page.result c.try_page.ensures.tried (search) (c.in_default.ensures.shape ∙ ap (λ (n : NodeState). n.shape) c.self.view_is) same next
 
 pub returns-in_default-clause-recorded : goal.returns-in_default-clause-recorded
 returns-in_default-clause-recorded c =

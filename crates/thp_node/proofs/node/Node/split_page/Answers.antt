@@ -1,12 +1,15 @@
-use Rattle.std.proofs.Common.{◌≡◌, ◌∷◌, [], ◌++◌, ap, sym, ◌∙◌, subst, arith}
+use Rattle.std.proofs.Common.{◌≡◌, true, ◌∷◌, [], ◌++◌, ap, ap₂, sym, ◌∙◌, subst, arith}
 use Rattle.thp_model.specs.declared.events.Event.{Event}
 use Rattle.thp_model.specs.declared.events.What.TheVariants.{Split}
+use Rattle.thp_model.specs.Pages.{is_worth}
+use Rattle.thp_model.specs.Underused.{shrinks_underused}
 use Rattle.thp_model.specs.History.{by}
 use Rattle.thp_model.specs.Runs.{try_event}
 use Rattle.thp_node.specs.Calls.{Did}
+use Rattle.thp_node.specs.declared.journal.Unsaid.TheVariants.{OfSplit}
 use Rattle.thp_node.specs.contracts.node.Node.{the_view}
 use Rattle.thp_node.specs.NodeState.{NodeState}
-use Rattle.thp_node.proofs.BatchRuns.{flies_inside, unpinned_inside, node_recorded, ready_there, whole_there, SplitOff, split_off}
+use Rattle.thp_node.proofs.BatchRuns.{flies_inside, unpinned_inside, node_recorded, slot_inside, ready_there, whole_there, partly_there, SplitOff, split_off}
 use Rattle.thp_node.proofs.CallLemmas.{did_one}
 use Rattle.thp_node.proofs.node.Node.split_page.Goals as goal
 use Rattle.thp_node.proofs.node.Node.split_page.Goals.{After-split-released}
@@ -16,8 +19,9 @@ off : (c : After-split-released) → SplitOff c.self.inside.journal.shape c.self
 off c =
     let j = c.self.inside.journal in
     let w = flies_inside _ c.args.self.now c.args.caller c.args.page c.args.block c.self.view_is c.requires.flies in
-    split_off j.shape j.events c.args.caller c.args.page c.args.block c.self.inside.blocks c.self.invariant w c.split-released.new.self c.split-released.result c.split-released.ensures
-    (unpinned_inside _ c.args.self.now c.args.block c.self.view_is c.requires.unpinned w.slot w.at)
+    split_off j.shape j.events c.args.caller c.args.page c.args.block c.self.inside.blocks c.self.invariant w c.split-released.new.self c.split-released.result c.shrinks_underused-give_zero.result
+    (c.shrinks_underused-give_zero.ensures ∙ ap shrinks_underused c.shape.ensures.value) c.split-released.ensures
+    (slot_inside _ c.args.self.now c.args.block (λ s x. is_worth s.underused x.page ≡ true) c.self.view_is c.requires.worth w.slot w.at) (unpinned_inside _ c.args.self.now c.args.block c.self.view_is c.requires.unpinned w.slot w.at)
 
 pub split-released-requires-clause-allowed : goal.split-released-requires-clause-allowed
 split-released-requires-clause-allowed c =
@@ -29,11 +33,12 @@ split-released-requires-clause-allowed c =
 pub record-requires-clause-fits : goal.record-requires-clause-fits
 record-requires-clause-fits c = (off (goal.at.record-requires-clause-fits c).After-split-released).fits
 
-pub record-requires-clause-split_pmds : goal.record-requires-clause-split_pmds
-record-requires-clause-split_pmds c =
+pub record-requires-clause-unsaid : goal.record-requires-clause-unsaid
+record-requires-clause-unsaid c =
     let j = c.self.inside.journal in
     let w = flies_inside _ c.args.self.now c.args.caller c.args.page c.args.block c.self.view_is c.requires.flies in
-    c.whole-split_pmds.ensures w.slot w.at ∙ sym (whole_there j.shape j.events c.args.caller c.args.page c.args.block c.self.inside.blocks c.self.invariant w)
+    ap₂ (λ n z. OfSplit n z) (c.whole.ensures w.slot w.at ∙ sym (whole_there j.shape j.events c.args.caller c.args.page c.args.block c.self.inside.blocks c.self.invariant w))
+    (c.is_partly.ensures w.slot w.at ∙ sym (partly_there j.shape j.events c.args.caller c.args.page c.args.block c.self.inside.blocks c.self.invariant w))
 
 pub invariant_of-self : goal.invariant_of-self
 invariant_of-self c =

@@ -1,69 +1,40 @@
-use Rattle.std.proofs.Common.{◌≡◌, rules, length, refl, ap, sym, ◌∙◌, inl, inr, arith}
-use Rattle.thp_model.specs.Legal.{IsLegal}
-use Rattle.thp_model.specs.Places.{queue, flight}
-use Rattle.thp_model.specs.Refusals.{refusal}
-use Rattle.thp_model.specs.Refusals as call
-use Rattle.thp_node.specs.contracts.node.Node.{the_view}
-use Rattle.thp_node.specs.Journals.{JournalState}
+use Rattle.std.proofs.Common.{◌≡◌, ap, sym, ◌∙◌}
+use Rattle.thp_model.specs.Places.{flight}
+use Rattle.thp_model.proofs.TakeRuns.{none_length}
+use Rattle.thp_node.specs.Batches.{OlderAreInFront}
 use Rattle.thp_node.specs.NodeState.{NodeState}
-use Rattle.thp_node.proofs.BatchRuns.{refused_take, unrefused_take, queue_length, take_length}
-use Rattle.thp_node.proofs.Fronts.{fronts_same, fronts_did, front_whole}
-use Rattle.thp_node.proofs.ScanLemmas.{scan_flies}
+use Rattle.thp_node.proofs.Fronts.{fronts_did, front_whole, older_in_front}
+use Rattle.thp_node.proofs.ScanLemmas.{took_admitted, batch_admitted, scan_flies}
 use Rattle.thp_node.proofs.node.Node.take.Goals as goal
 
-pub returns-then-flying-ne0-clause-refused : goal.returns-then-flying-ne0-clause-refused
-returns-then-flying-ne0-clause-refused c =
-    let j = c.self.inside.journal in
-    record {
-      same = refl;
-      cause = inl (ap (λ (n : NodeState). refusal n.shape n.journal (call.take c.args.caller)) (sym c.self.view_is) ∙ refused_take j.shape j.events c.args.caller (omega (arith, c.flying.ensures)));
-    }
+pub returns-clause-recorded : goal.returns-clause-recorded
+returns-clause-recorded c =
+    let e = c.in_ok-count.ensures in
+    took_admitted c.args.self.now c.admit_take.new.self c.take_oldest.new.self c.args.caller c.args.n c.in_ok-count.count e.same e.count e.more c.take_oldest.ensures.did
 
-pub returns-in-Err-clause-refused : goal.returns-in-Err-clause-refused
-returns-in-Err-clause-refused c =
-    let j = c.self.inside.journal in
-    let b = c.self.inside.blocks in
-    record {
-      same = ap (λ (k : JournalState). the_view (record { journal = k; blocks = b })) c.in-Err.ensures.err ∙ c.self.view_is;
-      cause = inr (
-        ap (λ (n : NodeState). refusal n.shape n.journal (call.take c.args.caller)) (sym c.self.view_is) ∙ unrefused_take j.shape j.events c.args.caller (omega (arith, c.flying.ensures)),
-        refl,
-        omega (
-          arith,
-          c.in-Err.ensures.full,
-          c.min-count.ensures,
-          c.len.ensures,
-          ap length c.queue.ensures.value,
-          ap (λ (n : NodeState). n.room) c.self.view_is,
-          take_length c.args.self.now.journal c.args.caller c.args.n,
-          ap (λ (n : NodeState). length (queue n.journal)) c.self.view_is,
-          queue_length j.shape j.events b.table b.queue c.self.invariant,
-        ),
-      );
-    }
+pub returns-clause-batch : goal.returns-clause-batch
+returns-clause-batch c =
+    let e = c.in_ok-count.ensures in
+    batch_admitted c.args.self.now c.admit_take.new.self c.take_oldest.new.self c.args.caller c.args.n c.in_ok-count.count e.same e.count c.take_oldest.result c.take_oldest.ensures.batch
 
-pub returns-clause-allowed : goal.returns-clause-allowed
-returns-clause-allowed c =
-    let j = c.self.inside.journal in
-    ap (λ (n : NodeState). refusal n.shape n.journal (call.take c.args.caller)) (sym c.self.view_is) ∙ unrefused_take j.shape j.events c.args.caller (omega (arith, c.flying.ensures))
-
-pub returns-in-Err-clause-fronts : goal.returns-in-Err-clause-fronts
-returns-in-Err-clause-fronts c =
-    λ b apart f. fronts_same c.args.self.now.journal _ (ap (λ (n : NodeState). n.journal) (returns-in-Err-clause-refused c).same) b f
-
--- the journal is the same once room is reserved
-events_kept : (c : goal.After-take_oldest) → c.reserve.new.self.events ≡ c.args.self.now.journal
-events_kept c = c.in_default.ensures.events ∙ ap (λ (n : NodeState). n.journal) c.self.view_is
-
-pub returns-clause-fronts : goal.returns-clause-fronts
-returns-clause-fronts c =
-    λ b apart f. fronts_did _ c.take_oldest.new.self c.args.caller _ c.take_oldest.ensures.did b apart (fronts_same c.args.self.now.journal c.reserve.new.self.events (events_kept c) b f)
+-- the batch is its caller's whole flight
+whole : (c : goal.After-take_oldest) → flight c.take_oldest.new.self.journal c.take_oldest.result.caller ≡ c.take_oldest.result.pages
+whole c =
+    let e = c.in_ok-count.ensures in
+    let a : NodeState = c.args.self.now in
+    let m : NodeState = c.admit_take.new.self in
+    let b : NodeState = c.take_oldest.new.self in
+    scan_flies a b c.take_oldest.result c.args.caller c.args.n e.legal (none_length (flight a.journal c.args.caller) e.free)
+    (took_admitted a m b c.args.caller c.args.n c.in_ok-count.count e.same e.count e.more c.take_oldest.ensures.did)
+    (batch_admitted a m b c.args.caller c.args.n c.in_ok-count.count e.same e.count c.take_oldest.result c.take_oldest.ensures.batch)
 
 pub returns-clause-front : goal.returns-clause-front
-returns-clause-front c =
-    let k = c.reserve.new.self in
-    let before : NodeState = the_view (record { journal = k; blocks = c.self.inside.blocks }) in
-    let legal : IsLegal k.shape k.events = search rules in
-    let none : length (flight k.events c.args.caller) ≡ 0 = ap (λ h. length (flight h c.args.caller)) c.in_default.ensures.events ∙ omega (arith, c.flying.ensures) in
-    front_whole c.take_oldest.new.self.journal c.take_oldest.result
-    (scan_flies before c.take_oldest.new.self c.take_oldest.result c.args.caller c.min-count.result legal none c.take_oldest.ensures.did c.take_oldest.ensures.batch)
+returns-clause-front c = front_whole c.take_oldest.new.self.journal c.take_oldest.result (whole c)
+
+pub returns-clause-fronts : goal.returns-clause-fronts
+returns-clause-fronts c = fronts_did c.args.self.now c.take_oldest.new.self c.args.caller _ (returns-clause-recorded c)
+
+pub returns-clause-older : goal.returns-clause-older
+returns-clause-older c =
+    let who = ap (λ (b : Rattle.thp_node.specs.Batches.BatchState). b.caller) (returns-clause-batch c) in
+    older_in_front c.take_oldest.new.self.journal c.args.caller c.take_oldest.result.pages (ap (flight c.take_oldest.new.self.journal) (sym who) ∙ whole c)

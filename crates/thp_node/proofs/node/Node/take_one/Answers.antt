@@ -6,8 +6,8 @@ use Rattle.thp_model.specs.Legal.{FitsTaken}
 use Rattle.thp_model.specs.Places.{queue, flight, no_pages, is_taking}
 use Rattle.thp_node.specs.NodeState.{NodeState}
 use Rattle.thp_node.proofs.BatchRuns.{node_recorded}
-use Rattle.thp_node.proofs.Homing.{legal_homed}
-use Rattle.thp_node.proofs.ListEvents.{first_is, taken_fits, taken_node}
+use Rattle.thp_places.proofs.Homing.{legal_homed}
+use Rattle.thp_places.proofs.ListEvents.{first_is, taken_fits, taken_node}
 use Rattle.thp_node.proofs.node.Node.take_one.Goals as goal
 
 pub record-requires-clause-fits : goal.record-requires-clause-fits
@@ -20,7 +20,7 @@ pub invariant_of-self : goal.invariant_of-self
 invariant_of-self c =
     let j = c.self.inside.journal in
     let homed = legal_homed j.shape j.events c.self.invariant.legal in
-    let fits : FitsTaken j.events c.args.caller c.take_first-page.result =
+    let fits : FitsTaken j.shape j.events c.args.caller c.take_first-page.result =
     taken_fits j.shape j.events c.args.caller c.self.inside.blocks c.take_first-page.new.self c.take_first-page.result homed c.self.invariant c.take_first-page.ensures
     (ap (λ (n : NodeState). no_pages (flight n.journal c.args.caller) || is_taking n.journal c.args.caller) c.self.view_is ∙ c.requires.may_take) in
     node_recorded c.record.new.self.shape j.shape c.record.new.self.events j.events (by c.args.caller (Taken c.take_first-page.result)) c.take_first-page.new.self
@@ -30,5 +30,5 @@ invariant_of-self c =
 pub returns-clause-oldest : goal.returns-clause-oldest
 returns-clause-oldest c =
     let j = c.self.inside.journal in
-    ap (λ (n : NodeState). slice_get (queue n.journal) 0) (sym c.self.view_is)
+    ap (λ (n : NodeState). slice_get (queue n.shape n.journal) 0) (sym c.self.view_is)
     ∙ first_is j.shape j.events c.args.caller c.self.inside.blocks c.take_first-page.new.self c.take_first-page.result (legal_homed j.shape j.events c.self.invariant.legal) c.self.invariant c.take_first-page.ensures

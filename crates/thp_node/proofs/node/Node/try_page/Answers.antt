@@ -1,13 +1,14 @@
-use Rattle.std.proofs.Common.{◌≡◌, ◌∷◌, [], ◌++◌, ap, ◌∙◌, subst, arith}
+use Rattle.std.proofs.Common.{◌≡◌, ◌∷◌, [], ◌++◌, ap, sym, ◌∙◌, subst, arith}
 use Rattle.thp_model.specs.declared.events.Event.{Event}
 use Rattle.thp_model.specs.declared.events.What.TheVariants.{Pinned}
 use Rattle.thp_model.specs.History.{by}
 use Rattle.thp_model.specs.Counts.{pins}
+use Rattle.thp_model.specs.Pages.{is_worth}
 use Rattle.thp_model.specs.Runs.{try_event}
 use Rattle.thp_node.specs.contracts.node.Node.{the_view}
 use Rattle.thp_node.specs.Calls.{Did}
 use Rattle.thp_node.specs.NodeState.{NodeState}
-use Rattle.thp_node.proofs.BatchRuns.{flies_inside, node_recorded, pins_there, tried_pinned, FoundPinned, found_pinned}
+use Rattle.thp_node.proofs.BatchRuns.{flies_inside, slot_inside, node_recorded, pins_there, tried_split, tried_pinned, tried_used, FoundPinned, found_pinned}
 use Rattle.thp_node.proofs.CallLemmas.{did_one}
 use Rattle.thp_node.proofs.node.Node.try_page.Goals as goal
 use Rattle.thp_node.proofs.node.Node.try_page.Goals.{Else-pins-eq0}
@@ -17,7 +18,9 @@ pinned : (c : Else-pins-eq0) → FoundPinned c.self.inside.journal.shape c.self.
 pinned c =
     let j = c.self.inside.journal in
     let w = flies_inside _ c.args.self.now c.args.caller c.args.page c.args.block c.self.view_is c.requires.flies in
-    found_pinned j.shape j.events c.args.caller c.args.page c.args.block c.self.inside.blocks c.self.invariant w (omega (arith, c.pins.ensures w.slot w.at, c.if-pins-eq0.false))
+    found_pinned j.shape j.events c.args.caller c.args.page c.args.block c.self.inside.blocks c.self.invariant w
+    (sym (slot_inside _ c.args.self.now c.args.block (λ s x. c.is_worth.result ≡ is_worth s.underused x.page) c.self.view_is c.is_worth.ensures.page w.slot w.at) ∙ c.if-not-is_worth.false)
+    (omega (arith, c.pins.ensures w.slot w.at, c.if-pins-eq0.false))
 
 pub record-requires-clause-fits : goal.record-requires-clause-fits
 record-requires-clause-fits c = (pinned (goal.at.record-requires-clause-fits c).Else-pins-eq0).fits
@@ -28,12 +31,24 @@ invariant_of-self c =
     node_recorded c.record.new.self.shape j.shape c.record.new.self.events j.events (by c.args.caller (Pinned c.args.page)) c.self.inside.blocks
     c.record.ensures.shape c.record.ensures.events (pinned (goal.at.invariant_of-self c).Else-pins-eq0).node
 
+pub returns-then-not-is_worth-clause-tried : goal.returns-then-not-is_worth-clause-tried
+returns-then-not-is_worth-clause-tried c =
+    tried_used c.args.self.now.shape c.args.self.now.journal c.args.page (sym (c.is_worth.ensures.worth c.args.caller c.args.page c.requires.flies) ∙ c.if-not-is_worth.true)
+
+pub returns-then-pins-eq0-clause-tried : goal.returns-then-pins-eq0-clause-tried
+returns-then-pins-eq0-clause-tried c =
+    let j = c.self.inside.journal in
+    let w = flies_inside _ c.args.self.now c.args.caller c.args.page c.args.block c.self.view_is c.requires.flies in
+    let there : pins j.events c.args.page ≡ w.slot.page.pins = pins_there j.shape j.events c.args.caller c.args.page c.args.block c.self.inside.blocks c.self.invariant w in
+    tried_split c.args.self.now.shape c.args.self.now.journal c.args.page (sym (c.is_worth.ensures.worth c.args.caller c.args.page c.requires.flies) ∙ c.if-not-is_worth.false)
+    (omega (arith, there, c.pins.ensures w.slot w.at, c.if-pins-eq0.true, ap (λ (n : NodeState). pins n.journal c.args.page) c.self.view_is))
+
 pub returns-else-pins-eq0-clause-tried : goal.returns-else-pins-eq0-clause-tried
 returns-else-pins-eq0-clause-tried c =
     let j = c.self.inside.journal in
     let w = flies_inside _ c.args.self.now c.args.caller c.args.page c.args.block c.self.view_is c.requires.flies in
     let there : pins j.events c.args.page ≡ w.slot.page.pins = pins_there j.shape j.events c.args.caller c.args.page c.args.block c.self.inside.blocks c.self.invariant w in
-    tried_pinned c.args.self.now.journal c.args.page (omega (arith, there, c.pins.ensures w.slot w.at, c.if-pins-eq0.false, ap (λ (n : NodeState). pins n.journal c.args.page) c.self.view_is))
+    tried_pinned c.args.self.now.shape c.args.self.now.journal c.args.page (sym (c.is_worth.ensures.worth c.args.caller c.args.page c.requires.flies) ∙ c.if-not-is_worth.false) (omega (arith, there, c.pins.ensures w.slot w.at, c.if-pins-eq0.false, ap (λ (n : NodeState). pins n.journal c.args.page) c.self.view_is))
 
 pub returns-else-pins-eq0-clause-did : goal.returns-else-pins-eq0-clause-did
 returns-else-pins-eq0-clause-did c =

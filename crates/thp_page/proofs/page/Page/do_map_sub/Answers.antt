@@ -6,7 +6,7 @@ use Rattle.thp_page.specs.PageView.{state_of, mapped_count}
 use Rattle.thp_page.proofs.PageSizes.{size_most}
 use Rattle.thp_page.proofs.PageRefusals.{allowed_as, map_sub_allowed}
 use Rattle.thp_page.proofs.MappedCounts.{mapped_count-map, mapped_count_le}
-use Rattle.thp_page.proofs.PageChanges.{IsPage-map_sub}
+use Rattle.thp_page.proofs.PageChanges.{IsPage-map_sub, zero_inside-same}
 use Rattle.thp_page.proofs.page.Page.do_map_sub.Goals as goal
 
 -- the page with other own counts
@@ -15,7 +15,7 @@ with_own s own = record s { own = own }
 
 made : (s : PageState) (own : List ℕ) (first count : ℕ) → ((i : ℕ) → get_or own i 0 ≡ own_at s i + cond (covers first count i) 1 0) → RangeMapped first count s (with_own s own)
 unfolding with_own
-made s own first count added = record { order = refl; whole = refl; own = λ i below. added i; pins = refl; split = refl }
+made s own first count added = record { order = refl; whole = refl; own = λ i below. added i; pins = refl; split = refl; partly = refl; kept = record { zero = refl; gave_zero = refl } }
 
 pub map_range-requires-clause-inside : goal.map_range-requires-clause-inside
 map_range-requires-clause-inside c =
@@ -55,4 +55,5 @@ invariant_of-self c =
       mapped =
           ap (λ n. n + c.map_range.result) c.self.invariant.mapped ∙ ap (λ n. mapped_count s + n) c.map_range.ensures.zeros
           ∙ sym (mapped_count-map s (with_own s own) c.args.first c.args.count c.self.invariant.page.most_order refl (map_sub_allowed s 0 c.args.first c.args.count c.self.invariant.page allowed).0 (λ i below. c.map_range.ensures.added i));
+      zero_inside = zero_inside-same s (with_own s own) refl refl c.self.invariant.zero_inside;
     }

@@ -5,7 +5,7 @@ use Rattle.thp_page.specs.PageView.{state_of}
 use Rattle.thp_page.proofs.PageSizes.{size_least}
 use Rattle.thp_page.proofs.PageRefusals.{allowed_as, map_whole_allowed}
 use Rattle.thp_page.proofs.MappedCounts.{mapped_count-same}
-use Rattle.thp_page.proofs.PageChanges.{IsPage-map_whole}
+use Rattle.thp_page.proofs.PageChanges.{IsPage-map_whole, zero_inside-same}
 use Rattle.thp_page.proofs.page.Page.do_map_whole.Goals as goal
 
 pub overflow_add-self : goal.overflow_add-self
@@ -21,6 +21,7 @@ invariant_of-self c =
     record {
       page =
           IsPage-map_whole s t 0 c.self.invariant.page (allowed_as s _ (call.map_whole 0) c.self.view_is c.requires)
-          (record { order = refl; whole = refl; own = λ i below. refl; pins = refl; split = refl });
+          (record { order = refl; whole = refl; own = λ i below. refl; pins = refl; split = refl; partly = refl; kept = record { zero = refl; gave_zero = refl } });
       mapped = c.self.invariant.mapped ∙ sym (mapped_count-same s t refl (λ i below. refl));
+      zero_inside = zero_inside-same s t refl refl c.self.invariant.zero_inside;
     }

@@ -8,7 +8,7 @@ use Rattle.thp_page.proofs.RangeLemmas.{covers_inside, covers_true}
 use Rattle.thp_page.proofs.PageSizes.{size_most}
 use Rattle.thp_page.proofs.PageRefusals.{allowed_as, split_pmd_allowed}
 use Rattle.thp_page.proofs.MappedCounts.{mapped_count-map, mapped_count_le}
-use Rattle.thp_page.proofs.PageChanges.{IsPage-split_pmd}
+use Rattle.thp_page.proofs.PageChanges.{IsPage-split_pmd, zero_inside-same}
 use Rattle.thp_page.proofs.page.Page.do_split_pmd.Goals as goal
 
 -- the page with a whole mapping less, and other own counts
@@ -23,6 +23,8 @@ made s own n mapped long added = record {
   own = λ i below. added i ∙ ap (λ b. own_at s i + cond b 1 0) (covers_inside 0 n i (omega arith) (omega arith));
   pins = refl;
   split = refl;
+  partly = refl;
+  kept = record { zero = refl; gave_zero = refl };
 }
 
 counted : (s : PageState) (own : List ℕ) (n m joined : ℕ) → s.order ≤ 9 → n ≡ size s → ((i : ℕ) → get_or own i 0 ≡ own_at s i + cond (covers 0 n i) 1 0) →
@@ -67,6 +69,7 @@ invariant_of-self c =
           IsPage-split_pmd s (remade s c.map_range.new.own) 0 c.self.invariant.page allowed
           (made s c.map_range.new.own _ (split_pmd_allowed s 0 allowed).1 long c.map_range.ensures.added);
       mapped = counted s c.map_range.new.own _ _ _ c.self.invariant.page.most_order long c.map_range.ensures.added c.self.invariant.mapped c.map_range.ensures.zeros;
+      zero_inside = zero_inside-same s (remade s c.map_range.new.own) refl refl c.self.invariant.zero_inside;
     }
 
 pub returns : goal.returns

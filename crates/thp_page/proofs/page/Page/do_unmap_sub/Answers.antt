@@ -1,25 +1,39 @@
-use Rattle.std.proofs.Common.{◌≡◌, ◌+◌, ◌≤◌, ℕ, List, cond, get_or, nat_eq, nat_lt, None, refl, ap, sym, ◌∙◌, arith, subst, ne_eqb}
+use Rattle.std.proofs.Common.{◌≡◌, ◌+◌, ◌-◌, ◌≤◌, ◌&&◌, ◌||◌, ℕ, Bool, false, List, cond, get_or, nat_eq, nat_lt, None, refl, ap, ap₂, sym, ◌∙◌, arith, subst, ne_eqb}
 use Rattle.thp_model.specs.Sets.{covers}
 use Rattle.thp_model.specs.Refusals as call
-use Rattle.thp_model.specs.Pages.{PageState, size, own_at, page_refusal, RangeMapped, IsPage}
-use Rattle.thp_page.specs.PageView.{state_of, mapped_count}
+use Rattle.thp_model.specs.Pages.{PageState, size, own_at, has_use, drops_use, partly_after, page_refusal, RangeUnmapped, IsPage}
+use Rattle.thp_page.specs.declared.page.Page.TheInside.{Inside}
+use Rattle.thp_page.specs.PageView.{state_of, mapped_count, IsKept}
 use Rattle.thp_page.specs.Changes.{IsChange}
 use Rattle.thp_page.specs.Ranges.{count_in_range}
 use Rattle.thp_page.proofs.PageSizes.{size_most}
 use Rattle.thp_page.proofs.PageRefusals.{allowed_as, unmap_sub_allowed}
 use Rattle.thp_page.proofs.MappedCounts.{mapped_count-unmap}
-use Rattle.thp_page.proofs.PageChanges.{IsPage-unmap_sub}
+use Rattle.thp_page.proofs.PageChanges.{IsPage-unmap_sub, IsPage-partly, has_use-partly, partly_after-partly, kept_partly, zero_inside-same}
 use Rattle.thp_page.proofs.PageUse.{drops_use-range, drops_use-mapped, gives_frames-range, gives_frames-unsplit}
-use Rattle.thp_page.proofs.page.Page.do_unmap_sub.Goals.{then-self-eq0, else-self-eq0, then-self, else-self}
+use Rattle.thp_page.proofs.page.Page.do_unmap_sub.Goals.{then-self-eq0, else-self-eq0, then-unused, else-unused, then-self, else-self}
 use Rattle.thp_page.proofs.page.Page.do_unmap_sub.Goals as goal
 
--- the page with other own counts
+-- the page with other own counts, before it is known whether it is partly mapped then
 with_own : PageState → List ℕ → PageState
 with_own s own = record s { own = own }
 
-made : (s : PageState) (own : List ℕ) (first count : ℕ) → ((i : ℕ) → own_at s i ≡ get_or own i 0 + cond (covers first count i) 1 0) → RangeMapped first count (with_own s own) s
-unfolding with_own
-made s own first count taken = record { order = refl; whole = refl; own = λ i below. taken i; pins = refl; split = refl }
+-- and after
+after : PageState → List ℕ → Bool → PageState
+after s own partly = record s { own = own; partly = partly }
+
+made : (s : PageState) (own : List ℕ) (first count : ℕ) (partly : Bool) → ((i : ℕ) → own_at s i ≡ get_or own i 0 + cond (covers first count i) 1 0) →
+    partly ≡ partly_after s (with_own s own) → RangeUnmapped first count s (after s own partly)
+unfolding with_own after
+made s own first count partly taken e = record {
+  order = refl;
+  whole = refl;
+  own = λ i below. taken i;
+  pins = refl;
+  split = refl;
+  partly = e ∙ sym (partly_after-partly s (with_own s own) partly);
+  kept = record { zero = refl; gave_zero = refl };
+}
 
 inside : (s : PageState) (first count : ℕ) → IsPage s → page_refusal s (call.unmap_sub 0 first count) ≡ None → first + count ≤ 512
 inside s first count page e = omega (arith, (unmap_sub_allowed s 0 first count e).0, size_most s page.most_order)
@@ -47,42 +61,86 @@ overflow_sub-self c =
     let facts = unmap_sub_allowed s 0 c.args.first c.args.count (allowed_as s _ (call.unmap_sub 0 c.args.first c.args.count) c.self.view_is c.requires) in
     omega (arith, counted s c.unmap_range-gone.new.own c.args.first c.args.count _ _ c.self.invariant.page.most_order facts.0 c.unmap_range-gone.ensures.taken c.self.invariant.mapped c.unmap_range-gone.ensures.ones)
 
-pub subpages_with_count-released-requires : goal.subpages_with_count-released-requires
-subpages_with_count-released-requires c =
+pub subpages_with_count-requires : goal.subpages_with_count-requires
+subpages_with_count-requires c =
     let s : PageState = state_of c.self.inside in
     inside s c.args.first c.args.count c.self.invariant.page (allowed_as s _ (call.unmap_sub 0 c.args.first c.args.count) c.self.view_is c.requires)
 
-pub invariant_of-self : goal.invariant_of-self
-unfolding with_own
-invariant_of-self c =
-    let s : PageState = state_of c.self.inside in
-    let own : List ℕ = c.unmap_range-gone.new.own in
-    let facts = unmap_sub_allowed s 0 c.args.first c.args.count (allowed_as s _ (call.unmap_sub 0 c.args.first c.args.count) c.self.view_is c.requires) in
+kept : (p : Inside) (own : List ℕ) (first count m ones : ℕ) → IsKept p → page_refusal (state_of p) (call.unmap_sub 0 first count) ≡ None →
+    ((i : ℕ) → own_at (state_of p) i ≡ get_or own i 0 + cond (covers first count i) 1 0) → ones ≡ count_in_range p.own first count (λ x. nat_eq x 1) → m ≡ p.mapped - ones →
+    IsKept (record p { own = own; mapped = m })
+unfolding with_own after
+kept p own first count m ones k allowed taken e f =
+    let s : PageState = state_of p in
+    let partly : Bool = partly_after s (with_own s own) in
+    let facts = unmap_sub_allowed s 0 first count allowed in
     record {
-      page = IsPage-unmap_sub s (with_own s own) c.args.first c.args.count c.self.invariant.page (made s own c.args.first c.args.count c.unmap_range-gone.ensures.taken);
-      mapped = omega (arith, counted s own c.args.first c.args.count _ _ c.self.invariant.page.most_order facts.0 c.unmap_range-gone.ensures.taken c.self.invariant.mapped c.unmap_range-gone.ensures.ones);
+      page = IsPage-partly (after s own partly) s.partly (IsPage-unmap_sub s (after s own partly) first count k.page (made s own first count partly taken refl));
+      mapped = omega (arith, counted s own first count _ _ k.page.most_order facts.0 taken k.mapped e);
+      zero_inside = zero_inside-same s (with_own s own) refl refl k.zero_inside;
     }
 
-pub returns-clause-change : goal.returns-clause-change
-unfolding with_own
-returns-clause-change c =
+pub invariant_of-self : goal.invariant_of-self
+invariant_of-self c =
+    kept c.self.inside c.unmap_range-gone.new.own c.args.first c.args.count _ _ c.self.invariant (allowed_as (state_of c.self.inside) _ (call.unmap_sub 0 c.args.first c.args.count) c.self.view_is c.requires)
+    c.unmap_range-gone.ensures.taken c.unmap_range-gone.ensures.ones refl
+
+pub invariant_of-self-then-self : goal.invariant_of-self-then-self
+invariant_of-self-then-self c =
+    kept c.self.inside c.unmap_range-gone.new.own c.args.first c.args.count _ _ c.self.invariant (allowed_as (state_of c.self.inside) _ (call.unmap_sub 0 c.args.first c.args.count) c.self.view_is c.requires)
+    c.unmap_range-gone.ensures.taken c.unmap_range-gone.ensures.ones refl
+
+pub invariant_of-self-2 : goal.invariant_of-self-2
+invariant_of-self-2 c =
+    kept_partly (record c.self.inside { own = c.unmap_range-gone.new.own; mapped = c.self.inside.mapped - c.unmap_range-gone.result }) (c.self.inside.partly || c.if-unused.self)
+    (kept c.self.inside c.unmap_range-gone.new.own c.args.first c.args.count _ _ c.self.invariant (allowed_as (state_of c.self.inside) _ (call.unmap_sub 0 c.args.first c.args.count) c.self.view_is c.requires)
+    c.unmap_range-gone.ensures.taken c.unmap_range-gone.ensures.ones refl)
+
+not_both : (a b : Bool) → a ≡ false → a ≡ (a && b)
+not_both a b e = cc
+
+-- whether the page is partly mapped now, as the code tells it
+told : (s : PageState) (own : List ℕ) (unused left joined : Bool) → unused ≡ drops_use s (with_own s own) → left ≡ has_use (with_own s own) → joined ≡ (unused && left) →
+    (s.partly || joined) ≡ partly_after s (with_own s own)
+told s own unused left joined e f g = ap (λ b. s.partly || b) (g ∙ ap₂ (λ a b. a && b) e f)
+
+pub returns : goal.returns
+unfolding with_own after
+returns c =
     let s : PageState = state_of c.self.inside in
     let first : ℕ = c.args.first in
     let count : ℕ = c.args.count in
     let own : List ℕ = c.unmap_range-gone.new.own in
+    let partly : Bool = s.partly || c.if-unused.self in
     let inside = (unmap_sub_allowed s 0 first count (allowed_as s _ (call.unmap_sub 0 first count) c.self.view_is c.requires)).0 in
-    let r : RangeMapped first count (with_own s own) s = made s own first count c.unmap_range-gone.ensures.taken in
-    let P : PageState → Type 0 = λ t. IsChange t (with_own s own) (record { unused = c.if-self-eq0.unused; used_left = c.has_use.result; released = c.if-self.released }) in
-    subst P c.self.view_is (record {
-      unused =
-          elim c.if-self-eq0.branch [
-            | then-self-eq0 w ↦ w.unused-is ∙ ap (λ n. nat_lt 0 n) c.unmap_range-gone.ensures.ones ∙ sym (drops_use-range s (with_own s own) first count c.self.invariant.page.most_order r inside w.if-self-eq0.true)
-            | else-self-eq0 w ↦ w.unused-is ∙ ne_eqb s.whole 0 w.if-self-eq0.false ∙ sym (drops_use-mapped s (with_own s own) (omega arith))
-          ];
-      used_left = c.has_use.ensures;
-      released =
-          elim c.if-self.branch [
-            | then-self w ↦ w.released-is ∙ w.subpages_with_count-released.ensures ∙ sym (gives_frames-range s (with_own s own) first count r inside w.if-self.true (c.self.invariant.page.no_whole w.if-self.true))
-            | else-self w ↦ w.released-is ∙ w.empty-released.ensures ∙ sym (gives_frames-unsplit s (with_own s own) refl w.if-self.false w.if-self.false)
-          ];
-    })
+    let before : Bool = partly_after s (with_own s own) in
+    let unused : c.if-self-eq0.unused ≡ drops_use s (with_own s own) =
+    elim c.if-self-eq0.branch [
+      | then-self-eq0 w ↦
+          w.unused-is ∙ ap (λ n. nat_lt 0 n) c.unmap_range-gone.ensures.ones
+          ∙ sym (drops_use-range s (after s own before) first count c.self.invariant.page.most_order (made s own first count before c.unmap_range-gone.ensures.taken refl) inside w.if-self-eq0.true)
+      | else-self-eq0 w ↦ w.unused-is ∙ ne_eqb s.whole 0 w.if-self-eq0.false ∙ sym (drops_use-mapped s (with_own s own) (omega arith))
+    ] in
+    let joined : c.if-unused.self ≡ (c.if-self-eq0.unused && c.has_use-used_left.result) =
+    elim c.if-unused.branch [
+      | then-unused w ↦ w.self-is ∙ ap (λ b. b && c.has_use-used_left.result) (sym w.if-unused.true)
+      | else-unused w ↦ w.self-is ∙ not_both c.if-self-eq0.unused c.has_use-used_left.result w.if-unused.false
+    ] in
+    let r : RangeUnmapped first count s (after s own partly) =
+    made s own first count partly c.unmap_range-gone.ensures.taken (told s own _ _ c.if-unused.self unused c.has_use-used_left.ensures joined) in
+    let Q : PageState → Type 0 = λ t. RangeUnmapped first count t (after s own partly) in
+    let P : PageState → Type 0 = λ t. IsChange t (after s own partly) (record { unused = c.if-self-eq0.unused; used_left = c.has_use-used_left.result; released = c.if-self.released }) in
+    record {
+      counts = subst Q c.self.view_is r;
+      change = subst P c.self.view_is (record {
+        unused = unused;
+        used_left = c.has_use-used_left.ensures ∙ sym (has_use-partly (with_own s own) partly);
+        released =
+            elim c.if-self.branch [
+              | then-self w ↦
+                  w.released-is ∙ w.without_given-released.ensures
+                  ∙ sym (gives_frames-range s (after s own partly) first count _ r inside w.if-self.true (c.self.invariant.page.no_whole w.if-self.true) w.subpages_with_count.ensures)
+              | else-self w ↦ w.released-is ∙ w.empty-released.ensures ∙ sym (gives_frames-unsplit s (after s own partly) refl w.if-self.false w.if-self.false)
+            ];
+      });
+    }

@@ -4,7 +4,7 @@ use Rattle.thp_model.specs.Pages.{PageState, Pinned}
 use Rattle.thp_page.specs.PageView.{state_of}
 use Rattle.thp_page.proofs.PageRefusals.{allowed_as, unpin_allowed}
 use Rattle.thp_page.proofs.MappedCounts.{mapped_count-same}
-use Rattle.thp_page.proofs.PageChanges.{IsPage-unpin}
+use Rattle.thp_page.proofs.PageChanges.{IsPage-unpin, zero_inside-same}
 use Rattle.thp_page.proofs.page.Page.do_unpin.Goals as goal
 
 -- the page with one pin less
@@ -13,7 +13,7 @@ less s = record s { pins = s.pins - 1 }
 
 pinned : (s : PageState) → 1 ≤ s.pins → Pinned (less s) s
 unfolding less
-pinned s h = record { order = refl; whole = refl; own = λ i below. refl; pins = omega arith; split = refl }
+pinned s h = record { order = refl; whole = refl; own = λ i below. refl; pins = omega arith; split = refl; partly = refl; kept = record { zero = refl; gave_zero = refl } }
 
 pub overflow_sub-self : goal.overflow_sub-self
 overflow_sub-self c =
@@ -28,6 +28,7 @@ invariant_of-self c =
     record {
       page = IsPage-unpin s (less s) 0 c.self.invariant.page allowed (pinned s (unpin_allowed s 0 allowed).1);
       mapped = c.self.invariant.mapped ∙ sym (mapped_count-same s (less s) refl (λ i below. refl));
+      zero_inside = zero_inside-same s (less s) refl refl c.self.invariant.zero_inside;
     }
 
 pub returns : goal.returns

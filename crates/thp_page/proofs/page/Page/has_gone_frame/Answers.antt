@@ -1,25 +1,46 @@
-use Rattle.std.proofs.Common.{◌≡◌, ◌+◌, ◌<◌, ◌&&◌, ◌||◌, not, ℕ, Bool, true, ap, sym, ◌∙◌, arith, nat_eq, nat_lt}
-use Rattle.std.proofs.lemmas.Bool.Decides.{nat_tests}
-use Rattle.thp_model.specs.Sets.{covers}
-use Rattle.thp_model.specs.Pages.{PageState, size, own_at, holds, some_in_range}
-use Rattle.thp_page.specs.PageView.{state_of}
-use Rattle.thp_model.proofs.Below.{some_below-ext}
-use Rattle.thp_page.proofs.PageSizes.{size_most, range_test}
+use Rattle.std.proofs.Common.{◌≡◌, ◌||◌, ◌&&◌, nat_eq, Bool, true, false, refl, ap, sym, ◌∙◌, subst}
+use Rattle.thp_model.specs.Pages.{PageState, own_at, zero_at, some_in_range}
+use Rattle.thp_page.proofs.ZeroSets.{some_gone}
+use Rattle.thp_page.proofs.page.Page.has_gone_frame.Goals.{then-self, else-self}
 use Rattle.thp_page.proofs.page.Page.has_gone_frame.Goals as goal
 
-pub range_has_count-requires : goal.range_has_count-requires
-range_has_count-requires c = omega (arith, size_most (state_of c.self.inside) c.self.invariant.page.most_order, ap size c.self.view_is)
+-- the page isn't mapped whole
+unmapped : (s t : PageState) → s ≡ t → (s.split ≡ true → s.whole ≡ 0) → t.split ≡ true → t.whole ≡ 0
+unmapped s t same none split = subst (λ (u : PageState). u.split ≡ true → u.whole ≡ 0) same none split
 
--- a split page has no whole mapping, so it holds the frames of the subpages with own mappings
-gone : (i n : ℕ) (s : Bool) (whole own : ℕ) → i < n → s ≡ true → whole ≡ 0 → nat_eq own 0 ≡ not (nat_lt i n && (not s || nat_lt 0 (whole + own)))
-gone i n s whole own below e f = grind (arith, nat_tests)
+-- the first of two tests, where both are made in turn
+when : (a b x y : Bool) → a ≡ true → b ≡ x → b ≡ (a && x)
+when true b x y e f = f
+when false b x y e f = absurd (cc)
 
-pub returns : goal.returns
-returns c =
-    let s : PageState = state_of c.self.inside in
-    let split : s.split ≡ true = ap (λ (t : PageState). t.split) c.self.view_is ∙ c.requires.split in
-    c.range_has_count.ensures
-    ∙ sym (range_test (size s) c.args.first c.args.count (λ i. nat_eq (own_at s i) 0) (omega (arith, c.requires.inside, ap size c.self.view_is)) (size_most s c.self.invariant.page.most_order))
-    ∙ some_below-ext (size s) (λ i. covers c.args.first c.args.count i && nat_eq (own_at s i) 0) (λ i. covers c.args.first c.args.count i && not (holds s i))
-    (λ i below. ap (λ b. covers c.args.first c.args.count i && b) (gone i (size s) s.split s.whole (own_at s i) below split (c.self.invariant.page.no_whole split)))
-    ∙ ap (λ t. some_in_range t c.args.first c.args.count (λ i. not (holds t i))) c.self.view_is
+never : (a b x : Bool) → a ≡ false → b ≡ a → b ≡ (a && x)
+never true b x e f = absurd (cc)
+never false b x e f = f
+
+first_true : (a b : Bool) → a ≡ true → a ≡ (a || b)
+first_true a b e = cc
+
+first_false : (a b : Bool) → a ≡ false → b ≡ (a || b)
+first_false a b e = cc
+
+pub returns-then-given : goal.returns-then-given
+returns-then-given c =
+    let t : PageState = c.args.self.now in
+    let given : c.if-self.given ≡ (t.gave_zero && some_in_range t c.args.first c.args.count (zero_at t)) =
+    elim c.if-self.branch [
+      | then-self w ↦ when t.gave_zero c.if-self.given _ true (sym (ap (λ (u : PageState). u.gave_zero) c.self.view_is) ∙ w.if-self.true) (w.given-is ∙ w.has_zero_filled-given.ensures)
+      | else-self w ↦ never t.gave_zero c.if-self.given _ (sym (ap (λ (u : PageState). u.gave_zero) c.self.view_is) ∙ w.if-self.false) (w.given-is ∙ ap (λ (u : PageState). u.gave_zero) c.self.view_is)
+    ] in
+    first_true c.if-self.given (some_in_range t c.args.first c.args.count (λ i. nat_eq (own_at t i) 0)) c.if-given.true
+    ∙ some_gone t c.args.first c.args.count _ _ c.requires.split (unmapped _ t c.self.view_is c.self.invariant.page.no_whole c.requires.split) given refl
+
+pub returns-else-given : goal.returns-else-given
+returns-else-given c =
+    let t : PageState = c.args.self.now in
+    let given : c.if-self.given ≡ (t.gave_zero && some_in_range t c.args.first c.args.count (zero_at t)) =
+    elim c.if-self.branch [
+      | then-self w ↦ when t.gave_zero c.if-self.given _ true (sym (ap (λ (u : PageState). u.gave_zero) c.self.view_is) ∙ w.if-self.true) (w.given-is ∙ w.has_zero_filled-given.ensures)
+      | else-self w ↦ never t.gave_zero c.if-self.given _ (sym (ap (λ (u : PageState). u.gave_zero) c.self.view_is) ∙ w.if-self.false) (w.given-is ∙ ap (λ (u : PageState). u.gave_zero) c.self.view_is)
+    ] in
+    first_false c.if-self.given c.has_unmapped.result c.if-given.false
+    ∙ some_gone t c.args.first c.args.count _ _ c.requires.split (unmapped _ t c.self.view_is c.self.invariant.page.no_whole c.requires.split) given c.has_unmapped.ensures

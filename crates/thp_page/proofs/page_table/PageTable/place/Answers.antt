@@ -1,5 +1,5 @@
-use Rattle.std.proofs.Common.{ap, ◌∙◌, refl, Some}
-use Rattle.thp_model.specs.Pages.{PageState}
+use Rattle.std.proofs.Common.{ap, ◌∙◌, refl, subst, Some}
+use Rattle.thp_model.specs.Pages.{IsFresh, PageState}
 use Rattle.thp_page.specs.declared.standing.Standing.TheVariants.{Nowhere}
 use Rattle.thp_page.specs.Fresh.{fresh_page}
 use Rattle.thp_page.specs.Table.{Table}
@@ -10,10 +10,15 @@ use Rattle.thp_page.proofs.page_table.PageTable.place.Goals as goal
 pub place-requires-clause-empty : goal.place-requires-clause-empty
 place-requires-clause-empty c = no_number c.self.inside.order c.self.inside.numbers c.self.inside.descriptors.items c.self.inside.accesses c.args.block _ c.self.view_is c.self.invariant.numbered c.requires.inside c.requires.empty
 
-pub returns : goal.returns
-returns c =
+pub returns-clause-table : goal.returns-clause-table
+returns-clause-table c =
     let d = c.index_mut-descriptor.result.now in
     both_written c.self.inside.order c.self.inside.numbers _ c.self.inside.descriptors.items c.self.inside.accesses c.args.block c.args.id d
     (record { link = d.link; standing = Nowhere; page = c.fresh-descriptor.result }) _ c.self.view_is c.place.ensures c.index_mut-descriptor.ensures.value refl
     ∙ ap (λ (p : PageState). with_slot c.args.self.now c.args.block (Some (record { id = c.args.id; page = p; standing = Nowhere })))
     (c.fresh-descriptor.ensures.state ∙ ap (λ (u : Table). fresh_page u.order) c.self.view_is)
+
+pub returns-clause-fresh : goal.returns-clause-fresh
+returns-clause-fresh c =
+    subst (λ (u : Table). IsFresh u.order (fresh_page u.order)) c.self.view_is
+    (subst (λ (p : PageState). IsFresh c.self.inside.order p) c.fresh-descriptor.ensures.state c.fresh-descriptor.ensures.fresh)

@@ -1,0 +1,170 @@
+//! Lists in a table of pairs, with values worked out by hand, and two lists in one table.
+ghost use Rattle.std.specs.Prelude.{◌≡◌, ◌+◌, ◌≤◌, ⊤, [], ◌∷◌, ◌++◌, length, slice_get, vec_len, Contains, IfOk, IfSome};
+ghost use Rattle.thp_links.specs.Indices.{Apart, without};
+ghost use Rattle.thp_links.specs.Standing.{Stands, ChainStands};
+
+use crate::counting::calls_counted;
+use std::alloc::{AllocError, Global};
+use std::process::Abort;
+use std::test::Fail;
+use thp_links::{AccessCount, FreeChain, Link, LinkTable, NIL, Queue};
+
+// A table of pairs alone.
+#[derive(Drop)]
+struct Pairs {
+    pairs: Vec<Link>,
+    accesses: AccessCount,
+    ghost small: { vec_len pairs ≤ 4096 },
+}
+
+impl Pairs {
+    fn new(alloc: Global, len: u32) -> Result<Pairs, AllocError>
+        requires { len ≤ 4096 }
+        ensures { IfOk result (λ t. length t.pairs.items ≡ len) }
+    {
+        let alone = Link {
+            prev: NIL,
+            next: NIL,
+        };
+        Ok(Pairs {
+            pairs: vec![in alloc; alone; len as usize]?,
+            accesses: AccessCount::new(),
+        })
+    }
+}
+
+impl LinkTable for Pairs {
+    ghost links = { λ t. t.pairs.items };
+
+    ghost accesses = { λ t. t.accesses };
+
+    ghost same_rest = { λ _ _. ⊤ };
+
+    fn len(&self) -> u32 {
+        self.pairs.len() as u32
+    }
+
+    fn link(&mut self, i: u32) -> Link {
+        self.accesses.step();
+        self.pairs[i as usize]
+    }
+
+    fn set_link(&mut self, i: u32, link: Link) {
+        self.accesses.step();
+        self.pairs[i as usize] = link;
+    }
+
+    ghost same_rest_refl = { λ t. tt };
+
+    ghost same_rest_trans = { λ a b c p q. tt };
+}
+
+// A queue of the indices 2, 0 and 3, in this order.
+fn queue_of_three(table: &mut Pairs) -> Queue
+    requires { length table.old.pairs.items ≡ 4 }
+    ensures list { result ≡ 2 ∷ 0 ∷ 3 ∷ [] }
+    ensures stands { Stands result table.new.pairs.items }
+    ensures size { length table.new.pairs.items ≡ 4 }
+{
+    let mut queue = Queue::new();
+    queue.push_back(table, 2);
+    queue.push_back(table, 0);
+    queue.push_back(table, 3);
+    queue
+}
+
+// A queue of 3 goes through its calls as worked out by hand.
+fn queue_by_hand(rt: &impl Abort, table: &mut Pairs)
+    requires { length table.old.pairs.items ≡ 4 }
+{
+    let mut queue = queue_of_three(table);
+    assert_eq!(rt; queue.len(), 3);
+    queue.remove(table, 0);
+    assert_eq!(rt; queue.pop_front(table), Some(2));
+    assert_eq!(rt; queue.pop_front(table), Some(3));
+    assert_eq!(rt; queue.pop_front(table), None);
+    assert_eq!(rt; queue.front(), None);
+    queue.push_back(table, 0);
+    assert_eq!(rt; queue.front(), Some(0));
+}
+
+// So does a chain.
+fn chain_by_hand(rt: &impl Abort, table: &mut Pairs)
+    requires { length table.old.pairs.items ≡ 4 }
+{
+    let mut chain = FreeChain::new();
+    chain.push(table, 1);
+    chain.push(table, 3);
+    assert_eq!(rt; chain.first(), Some(3));
+    assert_eq!(rt; chain.pop(table), Some(3));
+    assert_eq!(rt; chain.pop(table), Some(1));
+    assert_eq!(rt; chain.pop(table), None);
+}
+
+#[test]
+fn links_by_hand(rt: HostRuntime) -> Result<(), Fail> {
+    queue_by_hand(&rt, &mut Pairs::new(rt.alloc(), 4)?);
+    chain_by_hand(&rt, &mut Pairs::new(rt.alloc(), 4)?);
+    Ok(())
+}
+
+// No call walks the queue.
+#[test]
+fn accesses_counted(rt: HostRuntime) -> Result<(), Fail> {
+    calls_counted(&rt, Pairs::new(rt.alloc(), 3)?, 1);
+    calls_counted(&rt, Pairs::new(rt.alloc(), 4096)?, 2048);
+    Ok(())
+}
+
+// Moves the first free index to the end of the queue, in one table.
+fn enqueue_free<T: LinkTable>(table: &mut T, free: &mut FreeChain, queue: &mut Queue) -> Option<u32>
+    requires queue_stands { Stands queue.old (T.links table.old) }
+    requires free_stands { ChainStands free.old (T.links table.old) }
+    requires apart { Apart queue.old free.old }
+    ensures taken { result ≡ slice_get free.old 0 }
+    ensures queue { IfSome result (λ i. queue.new ≡ queue.old ++ i ∷ []) }
+    ensures queue_stands { Stands queue.new (T.links table.new) }
+    ensures free_stands { ChainStands free.new (T.links table.new) }
+    ensures apart { Apart queue.new free.new }
+    ensures rest { T.same_rest table.old table.new }
+    ensures accesses { T.accesses table.new ≤ T.accesses table.old + 6 }
+{
+    let i = free.pop(table)?;
+    queue.push_back(table, i);
+    Some(i)
+}
+
+// Takes an index out of the queue, and makes it the first free one, in one table.
+fn release<T: LinkTable>(table: &mut T, free: &mut FreeChain, queue: &mut Queue, i: u32)
+    requires queue_stands { Stands queue.old (T.links table.old) }
+    requires free_stands { ChainStands free.old (T.links table.old) }
+    requires apart { Apart queue.old free.old }
+    requires queued { Contains queue.old i }
+    ensures queue { queue.new ≡ without i queue.old }
+    ensures free { free.new ≡ i ∷ free.old }
+    ensures queue_stands { Stands queue.new (T.links table.new) }
+    ensures free_stands { ChainStands free.new (T.links table.new) }
+    ensures apart { Apart queue.new free.new }
+    ensures rest { T.same_rest table.old table.new }
+    ensures accesses { T.accesses table.new ≤ T.accesses table.old + 8 }
+{
+    queue.remove(table, i);
+    free.push(table, i);
+}
+
+// A block goes from the free chain to the queue and back, in one table.
+#[test]
+fn one_table_serves_both(rt: HostRuntime) -> Result<(), Fail> {
+    let mut table = Pairs::new(rt.alloc(), 4)?;
+    let mut free = FreeChain::new();
+    let mut queue = Queue::new();
+    free.push(&mut table, 2);
+    free.push(&mut table, 3);
+    assert_eq!(rt; enqueue_free(&mut table, &mut free, &mut queue), Some(3));
+    assert_eq!(rt; queue.front(), Some(3));
+    assert_eq!(rt; free.first(), Some(2));
+    release(&mut table, &mut free, &mut queue, 3);
+    assert_eq!(rt; queue.front(), None);
+    assert_eq!(rt; free.first(), Some(3));
+    Ok(())
+}

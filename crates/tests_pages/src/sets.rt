@@ -1,0 +1,78 @@
+//! Sets of subpages and shapes, with values counted by hand.
+use thp_model::{Shape, SubSet};
+
+#[test]
+fn ranges_and_full_sets(rt: HostRuntime) {
+    let set = SubSet::range(60, 10);
+    let inside = [
+        (0, false),
+        (59, false),
+        (60, true),
+        (63, true),
+        (64, true),
+        (69, true),
+        (70, false),
+        (511, false),
+    ];
+    for (i, want) in inside {
+        if i < 512 {
+            assert_eq!(rt; set.contains(i), want, "subpage {i}");
+        }
+    }
+    assert_eq!(rt; set.count(), 10);
+    assert_eq!(rt; SubSet::range(0, 512).count(), 512);
+    assert_eq!(rt; SubSet::range(511, 1).count(), 1);
+    assert_eq!(rt; SubSet::full(2), SubSet::range(0, 4));
+    assert_eq!(rt; SubSet::full(9), SubSet::range(0, 512));
+}
+
+#[test]
+fn sets_of_two(rt: HostRuntime) {
+    let (low, high) = (SubSet::range(0, 300), SubSet::range(200, 312));
+    assert_eq!(rt; low.union(high), SubSet::full(9));
+    assert_eq!(rt; low.difference(high), SubSet::range(0, 200));
+    assert!(rt; low.difference(SubSet::full(9)).is_empty());
+    assert!(rt; !low.is_empty());
+    let mut one = SubSet::empty();
+    assert!(rt; one.is_empty());
+    one.insert(300);
+    assert_eq!(rt; one, SubSet::range(300, 1));
+    assert!(rt; one != low);
+}
+
+#[test]
+fn shapes(rt: HostRuntime) {
+    let shape = Shape {
+        blocks: 4096,
+        order: 9,
+        underused: None,
+    };
+    assert!(rt; shape.is_valid());
+    assert_eq!(rt; shape.subpages(), 512);
+    for (blocks, order) in [(0, 9), (4097, 9), (1, 1), (1, 10)] {
+        let shape = Shape {
+            blocks,
+            order,
+            underused: None,
+        };
+        assert!(rt; !shape.is_valid(), "{blocks} blocks of order {order}");
+    }
+}
+
+#[test]
+fn thresholds(rt: HostRuntime) {
+    for (underused, is_valid, is_on) in [
+        (None, true, false),
+        (Some(0), true, true),
+        (Some(3), true, true),
+        (Some(4), false, true),
+    ] {
+        let shape = Shape {
+            blocks: 1,
+            order: 2,
+            underused,
+        };
+        assert_eq!(rt; shape.is_valid(), is_valid);
+        assert_eq!(rt; shape.shrinks_underused(), is_on);
+    }
+}

@@ -1,0 +1,163 @@
+//! Worked rows on zero-filled subpages, of pages of order 2 where nothing else is said.
+use crate::calls::{Answer, Call, change, expect};
+use std::process::Abort;
+use thp_model::{Refusal, SubSet};
+use thp_page::{Change, Page};
+
+// A change after which no subpage is in use, with what it gave back.
+fn last_unmap(released: SubSet) -> Answer {
+    Answer::Changed(Change {
+        unused: true,
+        used_left: false,
+        released,
+    })
+}
+
+// The zero-filled subpages of a page, and whether it is partly mapped.
+fn expect_zeros(rt: &impl Abort, page: &Page, zeros: SubSet, partly: bool) {
+    assert_eq!(rt; page.zero_set(), zeros);
+    assert_eq!(rt; page.zero_count(), zeros.count());
+    assert_eq!(rt; page.is_partly(), partly);
+}
+
+#[test]
+fn zero_filled_subpages(rt: HostRuntime) {
+    let mut page = Page::fresh(2);
+    expect_zeros(&rt, &page, SubSet::range(0, 4), false);
+    expect(&rt, &mut page, &[(Call::Write(0, 3), Answer::Done)]);
+    expect_zeros(&rt, &page, SubSet::range(3, 1), false);
+    expect(&rt, &mut page, &[(Call::Zero(1, 1), Answer::Done)]);
+    let zeros = SubSet::range(1, 1).union(SubSet::range(3, 1));
+    expect_zeros(&rt, &page, zeros, false);
+}
+
+#[test]
+fn zero_filled_subpages_at_order_9(rt: HostRuntime) {
+    let mut page = Page::fresh(9);
+    expect_zeros(&rt, &page, SubSet::range(0, 512), false);
+    let steps = [
+        (Call::Write(60, 452), Answer::Done),
+        (Call::Zero(64, 3), Answer::Done),
+        (Call::Write(65, 1), Answer::Done),
+        (Call::Zero(511, 1), Answer::Done),
+    ];
+    expect(&rt, &mut page, &steps);
+    let low = SubSet::range(0, 60).union(SubSet::range(64, 1));
+    let high = SubSet::range(66, 1).union(SubSet::range(511, 1));
+    expect_zeros(&rt, &page, low.union(high), false);
+}
+
+// A page stays partly mapped, and mappings change nothing of what its subpages hold.
+#[test]
+fn partly_mapped(rt: HostRuntime) {
+    let mut page = Page::fresh(2);
+    let unmapped = [
+        (Call::SplitPmd, Answer::Done),
+        (Call::UnmapSub(0, 1), change(true, true)),
+    ];
+    expect(&rt, &mut page, &unmapped);
+    expect_zeros(&rt, &page, SubSet::range(0, 4), true);
+    let mapped = [(Call::MapSub(0, 1), Answer::Done)];
+    expect(&rt, &mut page, &mapped);
+    expect_zeros(&rt, &page, SubSet::range(0, 4), true);
+}
+
+// Where the last use goes at once, or another mapping is left, the page isn't partly mapped.
+#[test]
+fn not_partly_mapped(rt: HostRuntime) {
+    let mut page = Page::fresh(2);
+    let steps = [
+        (Call::MapWhole, Answer::Done),
+        (Call::UnmapWhole, change(false, true)),
+        (Call::SplitPmd, Answer::Done),
+        (Call::MapSub(1, 1), Answer::Done),
+        (Call::UnmapSub(1, 1), change(false, true)),
+        (Call::UnmapSub(0, 4), last_unmap(SubSet::empty())),
+    ];
+    expect(&rt, &mut page, &steps);
+    expect_zeros(&rt, &page, SubSet::range(0, 4), false);
+}
+
+// A page is worth a split where it is partly mapped, or has more zero-filled subpages than the threshold.
+#[test]
+fn worth_a_split(rt: HostRuntime) {
+    let mut page = Page::fresh(2);
+    expect_worth(&rt, &page, [false, true, true, true]);
+    expect(&rt, &mut page, &[(Call::Write(0, 3), Answer::Done)]);
+    expect_worth(&rt, &page, [false, true, false, false]);
+    let unmapped = [
+        (Call::SplitPmd, Answer::Done),
+        (Call::UnmapSub(0, 1), change(true, true)),
+    ];
+    expect(&rt, &mut page, &unmapped);
+    expect_worth(&rt, &page, [true, true, true, true]);
+}
+
+// Whether a page is worth a split with the switch off, and at the thresholds 0, 1 and 3.
+fn expect_worth(rt: &impl Abort, page: &Page, wants: [bool; 4]) {
+    let thresholds = [None, Some(0), Some(1), Some(3)];
+    for (threshold, want) in thresholds.into_iter().zip(wants) {
+        assert_eq!(rt; page.is_worth(threshold), want, "{threshold:?}");
+    }
+}
+
+// A split gives back unused and zero-filled subpages; the mappings of those stay, and their unmaps give nothing back.
+#[test]
+fn split_gives_zero_filled_frames(rt: HostRuntime) {
+    let mut page = Page::fresh(2);
+    let given = SubSet::range(0, 1).union(SubSet::range(3, 1));
+    let steps = [
+        (Call::Write(0, 3), Answer::Done),
+        (Call::SplitPmd, Answer::Done),
+        (Call::UnmapSub(0, 1), change(true, true)),
+        (Call::Split(true), Answer::GaveBack(given)),
+        (Call::UnmapSub(3, 1), change(true, true)),
+        (Call::MapSub(3, 1), Answer::Refused(Refusal::Gone)),
+        (Call::Write(1, 1), Answer::Refused(Refusal::IsSplit)),
+        (Call::UnmapSub(1, 2), last_unmap(SubSet::range(1, 2))),
+    ];
+    expect(&rt, &mut page, &steps);
+    assert!(rt; !page.has_use());
+}
+
+#[test]
+fn split_of_a_new_page(rt: HostRuntime) {
+    let mut page = Page::fresh(2);
+    let with_zeros = [
+        (Call::Split(true), Answer::GaveBack(SubSet::full(2))),
+        (Call::UnmapSub(0, 4), last_unmap(SubSet::empty())),
+    ];
+    expect(&rt, &mut page, &with_zeros);
+    let mut page = Page::fresh(2);
+    let without_zeros = [
+        (Call::Split(false), Answer::GaveBack(SubSet::empty())),
+        (Call::UnmapSub(0, 4), last_unmap(SubSet::full(2))),
+    ];
+    expect(&rt, &mut page, &without_zeros);
+}
+
+#[test]
+fn write_and_zero_refusals(rt: HostRuntime) {
+    let mut page = Page::fresh(2);
+    let steps = [
+        (Call::Write(0, 0), Answer::Refused(Refusal::BadRange)),
+        (Call::Zero(4, 1), Answer::Refused(Refusal::BadRange)),
+        (Call::Write(3, 2), Answer::Refused(Refusal::BadRange)),
+        (Call::Zero(u32::MAX, 1), Answer::Refused(Refusal::BadRange)),
+        (Call::SplitPmd, Answer::Done),
+        (Call::UnmapSub(0, 1), change(true, true)),
+        (Call::Write(0, 1), Answer::Refused(Refusal::NotMapped)),
+        (Call::Zero(0, 2), Answer::Refused(Refusal::NotMapped)),
+        (Call::Zero(1, 1), Answer::Done),
+        (Call::Write(1, 3), Answer::Done),
+        (Call::Split(true), Answer::GaveBack(SubSet::range(0, 1))),
+    ];
+    expect(&rt, &mut page, &steps);
+    let split = [
+        (Call::Write(4, 1), Answer::Refused(Refusal::BadRange)),
+        (Call::Zero(0, 0), Answer::Refused(Refusal::BadRange)),
+        (Call::Write(0, 1), Answer::Refused(Refusal::IsSplit)),
+        (Call::Zero(1, 1), Answer::Refused(Refusal::IsSplit)),
+    ];
+    expect(&rt, &mut page, &split);
+}

@@ -1,0 +1,154 @@
+-- The chain of free blocks, while pages come, change and go.
+use Rattle.std.proofs.Common.{◌≡◌, ◌≢◌, ℕ, ◌<◌, Bool, List, ◌∷◌, Option, Some, None, IsSome, length, drop, refl, ap, sym, ◌∙◌, subst, arith, inl, inr, get_or, length-set}
+use Rattle.std.specs.Prelude.{slice_get}
+use Rattle.std.specs.List.{Contains}
+use Rattle.std.proofs.lemmas.Bool.Decides.{eqb_tells}
+use Rattle.std.proofs.lemmas.List.{get_or-set_other, get_or-set_same}
+use Rattle.thp_links.specs.Indices.{Distinct}
+use Rattle.thp_links.proofs.Members.{Contains-head, Contains-behind, Contains-cons_cases, Contains-from_first, Contains-from_rest, Contains-nil, Distinct-head, first_and_rest, empty_from_first}
+use Rattle.thp_model.specs.declared.events.Outcome.{Outcome}
+use Rattle.thp_model.specs.declared.events.Outcome.TheVariants as outcome
+use Rattle.thp_page.specs.declared.standing.Standing.TheVariants.{Queued}
+use Rattle.thp_page.specs.Slots.{slot_at}
+use Rattle.thp_page.specs.Table.{Slot, Table}
+use Rattle.thp_page.proofs.TableSlots.{slot_at-inside}
+use Rattle.thp_places.specs.declared.page_call.Done.{Done}
+use Rattle.thp_places.specs.declared.page_call.Loss.{Loss}
+use Rattle.thp_places.specs.FreeChains.{IsFreeChain, Relinks}
+use Rattle.thp_places.specs.PlacesState.{PlacesState, Edits, HasFree, Lost, slot_after, queue_after}
+use Rattle.thp_places.proofs.FreeChains.{free_chain_kept, not_free}
+use Rattle.thp_places.proofs.Relinking.{edited_slot, taken}
+use Rattle.thp_node.specs.Chaining.{HasChain}
+
+-- another block stands as it did
+other_slot : (old new : PlacesState) (b k : ℕ) (o : Option Slot) (q : List ℕ) (n : ℕ) → Edits old new b o q n → (k ≢ b) → slot_at new.table k ≡ slot_at old.table k
+other_slot old new b k o q n e apart = ap (λ xs. get_or xs k None) e.slots ∙ get_or-set_other old.table.slots b k o None apart
+
+-- an edit leaves a chain that hasn't its block, but for the block
+edited_chain : (old new : PlacesState) (f : List ℕ) (b : ℕ) (x : Slot) (o : Option Slot) (q : List ℕ) (n : ℕ) → HasChain old.table f → slot_at old.table b ≡ Some x → Edits old new b o q n →
+    (k : ℕ) → k ≢ b → k < length new.table.slots → slot_at new.table k ≡ None → Contains f k
+edited_chain old new f b x o q n m at e k apart below none =
+    m.all k (omega (arith, ap length e.slots, length-set old.table.slots b o)) (sym (other_slot old new b k o q n e apart) ∙ none)
+
+-- while a block keeps a page the chain stays
+pub chain_edited : (old new : PlacesState) (f : List ℕ) (b : ℕ) (x y : Slot) (q : List ℕ) (n : ℕ) → HasChain old.table f → slot_at old.table b ≡ Some x → Edits old new b (Some y) q n → HasChain new.table f
+chain_edited old new f b x y q n m at e = record {
+  chain = free_chain_kept old new f b (Some y) q n m.chain e (not_free old.table f b x m.chain at);
+  inside = λ k i. omega (arith, m.inside k i, ap length e.slots, length-set old.table.slots b (Some y));
+  all = λ k below none.
+      elim (eqb_tells k b) [
+        | inl z ↦ absurd (some_none (slot_at new.table b) y (edited_slot old new b x (Some y) q n at e) (ap (slot_at new.table) (sym z.1) ∙ none))
+        | inr z ↦ edited_chain old new f b x (Some y) q n m at e k z.1 below none
+      ];
+} where
+  some_none : (o : Option Slot) (y : Slot) → o ≡ Some y → o ≡ None → ⊥
+  some_none o y p q = cc
+
+-- a block that lost its page goes into the chain
+pub chain_pushed : (old mid new : PlacesState) (f g : List ℕ) (b : ℕ) (x : Slot) (q : List ℕ) (n : ℕ) → HasChain old.table f → slot_at old.table b ≡ Some x → Edits old mid b None q n →
+    g ≡ b ∷ f → IsFreeChain new.table g → Relinks mid new 2 → HasChain new.table g
+chain_pushed old mid new f g b x q n m at e list chain r = record {
+  chain = chain;
+  inside = λ k i.
+      let P : List ℕ → Type 0 = λ xs. Contains xs k in
+      elim (Contains-cons_cases b f k (subst P list i)) [
+        | inl z ↦ omega (arith, z, slot_at-inside old.table b x at, ap length e.slots, length-set old.table.slots b None, ap length r.slots)
+        | inr z ↦ omega (arith, m.inside k z, ap length e.slots, length-set old.table.slots b None, ap length r.slots)
+      ];
+  all = λ k below none.
+      let P : List ℕ → Type 0 = λ xs. Contains xs k in
+      subst P (sym list)
+      (elim (eqb_tells k b) [
+        | inl z ↦ let Q : ℕ → Type 0 = λ i. Contains (b ∷ f) i in subst Q (sym z.1) (Contains-head b f)
+        | inr z ↦
+            Contains-behind b f k
+            (edited_chain old mid f b x None q n m at e k z.1 (omega (arith, below, ap length r.slots)) (ap (λ xs. get_or xs k None) (sym r.slots) ∙ none))
+      ]);
+}
+
+-- block b has a page still
+pub record KeepsPage (old new : PlacesState) (b : ℕ) : Type 0 where
+  pub slot : Slot
+  pub queue : List ℕ
+  pub most : ℕ
+  pub edits : Edits old new b (Some slot) queue most
+
+pub chain_stays : (now old new : PlacesState) (f : List ℕ) (b : ℕ) → HasChain old.table f → old ≡ now → IsSome (slot_at now.table b) → ((x : Slot) → slot_at old.table b ≡ Some x → KeepsPage old new b) →
+    HasChain new.table f
+chain_stays now old new f b m is some keeps =
+    let P : PlacesState → Type 0 = λ n. IsSome (slot_at n.table b) in
+    let w = taken (slot_at old.table b) (subst P (sym is) some) in
+    let k : KeepsPage old new b = keeps w.0 w.1 in
+    chain_edited old new f b w.0 k.slot k.queue k.most m w.1 k.edits
+
+-- a loss that freed its page: block b had a page, and has none now
+pub record Freed (old new : PlacesState) (b : ℕ) : Type 0 where
+  pub slot : Slot
+  pub queue : List ℕ
+  pub at : slot_at old.table b ≡ Some slot
+  pub edits : Edits old new b None queue 6
+
+pub freed_there : (loss : Loss) (closed : Bool) (now old new : PlacesState) (b : ℕ) (done : Done) (left : Option ℕ) → old ≡ now → IsSome (slot_at now.table b) →
+    ((x : Slot) → slot_at old.table b ≡ Some x → Lost loss closed x old new b done left) → done.outcome ≡ outcome.Freed → Freed old new b
+freed_there loss closed now old new b done left is some lost e =
+    let P : PlacesState → Type 0 = λ n. IsSome (slot_at n.table b) in
+    let w = taken (slot_at old.table b) (subst P (sym is) some) in
+    let m : Lost loss closed w.0 old new b done left = lost w.0 w.1 in
+    let E : Outcome → Type 0 = λ o. Edits old new b (slot_after o (record w.0 { page = m.page })) (queue_after o b old.queue) 6 in
+    let f : E outcome.Freed = subst E e m.edits in
+    record { slot = w.0; queue = queue_after outcome.Freed b old.queue; at = w.1; edits = f }
+
+-- a loss that didn't
+pub loss_keeps : (loss : Loss) (closed : Bool) (x : Slot) (old new : PlacesState) (b : ℕ) (done : Done) (left : Option ℕ) → Lost loss closed x old new b done left → (done.outcome ≡ outcome.Freed → ⊥) →
+    KeepsPage old new b
+loss_keeps loss closed x old new b done left lost unfreed = go done.outcome unfreed lost.edits where
+  y : Slot
+  y = record x { page = lost.page }
+
+  go : (o : Outcome) → (o ≡ outcome.Freed → ⊥) → Edits old new b (slot_after o y) (queue_after o b old.queue) 6 → KeepsPage old new b
+  go outcome.Stays n e = record { slot = y; queue = queue_after outcome.Stays b old.queue; most = 6; edits = e }
+  go outcome.Queued n e = record { slot = record y { standing = Queued }; queue = queue_after outcome.Queued b old.queue; most = 6; edits = e }
+  go outcome.Freed n e = absurd (n refl)
+
+-- the first block of the chain has no page; where the chain is empty every block has one
+pub chain_some : (t : Table) (f : List ℕ) (b : ℕ) → HasChain t f → slice_get f 0 ≡ Some b → HasFree t
+chain_some t f b m first = let here = Contains-from_first f b first in record { block = b; inside = m.inside b here; empty = m.chain.empty b here }
+
+pub chain_none : (t : Table) (f : List ℕ) → HasChain t f → slice_get f 0 ≡ None → (b : ℕ) → b < length t.slots → IsSome (slot_at t b)
+chain_none t f m none b inside = go (slot_at t b) refl where
+  go : (o : Option Slot) → slot_at t b ≡ o → IsSome o
+  go (Some x) e = refl
+  go None e =
+      let P : List ℕ → Type 0 = λ xs. Contains xs b in
+      absurd (Contains-nil b (subst P (empty_from_first f none) (m.all b inside e)))
+
+-- the first block of the chain goes out of it, and gets a page
+pub chain_placed : (old mid new : PlacesState) (f g : List ℕ) (b : ℕ) (y : Slot) (q : List ℕ) (n : ℕ) → HasChain old.table f → slice_get f 0 ≡ Some b → Distinct f → g ≡ drop 1 f →
+    IsFreeChain mid.table g → Relinks old mid 2 → Edits mid new b (Some y) q n → HasChain new.table g
+chain_placed old mid new f g b y q n m first apart list chain r e = record {
+  chain = free_chain_kept mid new g b (Some y) q n chain e out;
+  inside = λ k i. omega (arith, m.inside k (back k i), ap length e.slots, length-set mid.table.slots b (Some y), ap length r.slots);
+  all = λ k below none.
+      elim (eqb_tells k b) [
+        | inl z ↦ absurd (some_none (slot_at new.table b) y (ap (λ xs. get_or xs b None) e.slots ∙ get_or-set_same mid.table.slots b (Some y) None (omega (arith, m.inside b (Contains-from_first f b first), ap length r.slots))) (ap (slot_at new.table) (sym z.1) ∙ none))
+        | inr z ↦
+            let was : Contains f k =
+            m.all k (omega (arith, ap length e.slots, length-set mid.table.slots b (Some y), ap length r.slots))
+            (ap (λ xs. get_or xs k None) (sym r.slots) ∙ sym (other_slot mid new b k (Some y) q n e z.1) ∙ none) in
+            rest k z.1 (subst (λ xs. Contains xs k) (first_and_rest f b first) was)
+      ];
+} where
+  some_none : (o : Option Slot) (x : Slot) → o ≡ Some x → o ≡ None → ⊥
+  some_none o x p q = cc
+
+  back : (k : ℕ) → Contains g k → Contains f k
+  back k i = Contains-from_rest f k (subst (λ xs. Contains xs k) list i)
+
+  out : Contains g b → ⊥
+  out i = Distinct-head b (drop 1 f) (subst Distinct (first_and_rest f b first) apart) (subst (λ xs. Contains xs b) list i)
+
+  rest : (k : ℕ) → k ≢ b → Contains (b ∷ drop 1 f) k → Contains g k
+  rest k unlike i = elim (Contains-cons_cases b (drop 1 f) k i) [
+    | inl z ↦ absurd (unlike z)
+    | inr z ↦ subst (λ xs. Contains xs k) (sym list) z
+  ]

@@ -1,0 +1,58 @@
+use Rattle.std.proofs.Common.{◌≡◌, ◌*◌, min, length, refl, ap, sym, ◌∙◌, inl, inr, arith}
+use Rattle.thp_model.specs.Places.{queue, flight, no_pages}
+use Rattle.thp_model.specs.Refusals.{refusal}
+use Rattle.thp_model.specs.Refusals as call
+use Rattle.thp_model.specs.Runs.{take_events}
+use Rattle.thp_model.proofs.TakeRuns.{none_flies}
+use Rattle.thp_node.specs.contracts.node.Node.{the_view}
+use Rattle.thp_node.specs.Journals.{JournalState}
+use Rattle.thp_node.specs.NodeState.{NodeState}
+use Rattle.thp_node.proofs.BatchRuns.{refused_take, unrefused_take, queue_length, take_length}
+use Rattle.thp_node.proofs.node.Node.admit_take.Goals as goal
+
+pub returns-then-flying-ne0-clause-refused : goal.returns-then-flying-ne0-clause-refused
+returns-then-flying-ne0-clause-refused c =
+    let j = c.self.inside.journal in
+    record {
+      same = refl;
+      cause = inl (ap (λ (n : NodeState). refusal n.shape n.journal (call.take c.args.caller)) (sym c.self.view_is) ∙ refused_take j.shape j.events c.args.caller (omega (arith, c.flying.ensures)));
+    }
+
+pub returns-clause-allowed : goal.returns-clause-allowed
+returns-clause-allowed c =
+    let j = c.self.inside.journal in
+    ap (λ (n : NodeState). refusal n.shape n.journal (call.take c.args.caller)) (sym c.self.view_is) ∙ unrefused_take j.shape j.events c.args.caller (omega (arith, c.flying.ensures))
+
+pub returns-clause-free : goal.returns-clause-free
+returns-clause-free c =
+    ap (λ (n : NodeState). no_pages (flight n.journal c.args.caller)) (sym c.self.view_is) ∙ none_flies (flight c.self.inside.journal.events c.args.caller) (omega (arith, c.flying.ensures))
+
+pub returns-clause-count : goal.returns-clause-count
+returns-clause-count c =
+    let j = c.self.inside.journal in
+    let b = c.self.inside.blocks in
+    c.min-count.ensures ∙ ap (min c.args.n)
+    (c.len.ensures ∙ ap length c.queue.ensures.value ∙ sym (queue_length j.shape j.events b.table b.queue c.self.invariant) ∙ ap (λ (n : NodeState). length (queue n.shape n.journal)) c.self.view_is)
+
+pub returns-in-Err-clause-refused : goal.returns-in-Err-clause-refused
+returns-in-Err-clause-refused c =
+    let j = c.self.inside.journal in
+    let b = c.self.inside.blocks in
+    let wanted : c.min-count.result ≡ length (take_events c.args.self.now.shape c.args.self.now.journal c.args.caller c.args.n) =
+    omega (
+      arith,
+      c.min-count.ensures,
+      c.len.ensures,
+      ap length c.queue.ensures.value,
+      take_length c.args.self.now.shape c.args.self.now.journal c.args.caller c.args.n,
+      ap (λ (n : NodeState). length (queue n.shape n.journal)) c.self.view_is,
+      queue_length j.shape j.events b.table b.queue c.self.invariant,
+    ) in
+    record {
+      same = ap (λ (k : JournalState). the_view (record { journal = k; blocks = b })) c.in-Err.ensures.err ∙ c.self.view_is;
+      cause = inr (
+        ap (λ (n : NodeState). refusal n.shape n.journal (call.take c.args.caller)) (sym c.self.view_is) ∙ unrefused_take j.shape j.events c.args.caller (omega (arith, c.flying.ensures)),
+        refl,
+        omega (arith, c.in-Err.ensures.full, ap (λ (n : NodeState). n.room) c.self.view_is, ap (λ k. c.args.each * k) wanted),
+      );
+    }

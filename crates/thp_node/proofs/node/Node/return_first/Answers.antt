@@ -1,0 +1,35 @@
+use Rattle.std.proofs.Common.{[], ◌∷◌, Option, map, refl, ap, sym, subst}
+use Rattle.thp_model.specs.Runs.{return_event}
+use Rattle.std.specs.Prelude.{IsSome}
+use Rattle.thp_page.specs.Table.{Slot}
+use Rattle.thp_node.specs.Calls.{Did}
+use Rattle.thp_node.specs.NodeState.{NodeState}
+use Rattle.thp_node.specs.Returning.{BeginsIn}
+use Rattle.thp_node.proofs.ReturnLemmas.{FirstFlies, first_flies, first_leaves}
+use Rattle.thp_node.proofs.node.Node.return_first.Goals as goal
+
+pub number-page-requires : goal.number-page-requires
+number-page-requires c =
+    let j = c.self.inside.journal in
+    let b = c.self.inside.blocks in
+    let w : FirstFlies j.events b.table c.args.caller c.args.block =
+    first_flies j.shape j.events b.table b.queue c.args.caller c.args.block c.self.invariant
+    (subst (λ (n : NodeState). BeginsIn n.journal c.args.caller (c.args.block ∷ [])) (sym c.self.view_is) c.requires.front) in
+    subst (λ (o : Option Slot). IsSome o) (sym w.flies.at) refl
+
+pub return_page-requires-clause-first : goal.return_page-requires-clause-first
+return_page-requires-clause-first c =
+    (first_leaves c.args.self.now _ c.args.caller c.args.block c.number-page.result c.self.view_is c.self.invariant c.requires.front c.number-page.ensures).first
+
+pub return_page-requires-clause-flies : goal.return_page-requires-clause-flies
+return_page-requires-clause-flies c =
+    (first_leaves c.args.self.now _ c.args.caller c.args.block c.number-page.result c.self.view_is c.self.invariant c.requires.front c.number-page.ensures).flies
+
+pub returns : goal.returns
+returns c =
+    let w = first_leaves c.args.self.now _ c.args.caller c.args.block c.number-page.result c.self.view_is c.self.invariant c.requires.front c.number-page.ensures in
+    let n : NodeState = c.args.self.now in
+    record {
+      back = record { page = c.number-page.result; alone = w.alone; goes = c.return_page.ensures.back };
+      did = subst (Did n c.return_page.new.self c.args.caller) (ap (map (return_event n.shape n.journal c.args.caller)) (sym w.alone)) c.return_page.ensures.did;
+    }

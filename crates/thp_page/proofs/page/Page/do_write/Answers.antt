@@ -1,0 +1,33 @@
+use Rattle.std.proofs.Common.{List, Bool, sym, ◌∙◌, arith, subst, refl}
+use Rattle.thp_model.specs.Refusals as call
+use Rattle.thp_model.specs.Pages.{PageState, RangeWritten}
+use Rattle.thp_page.specs.PageView.{state_of}
+use Rattle.thp_page.proofs.PageSizes.{size_most}
+use Rattle.thp_page.proofs.PageRefusals.{allowed_as, write_allowed}
+use Rattle.thp_page.proofs.MappedCounts.{mapped_count-same}
+use Rattle.thp_page.proofs.PageChanges.{IsPage-counts}
+use Rattle.thp_page.proofs.ZeroSets.{written, written_inside}
+use Rattle.thp_page.proofs.page.Page.do_write.Goals as goal
+
+pub range-requires : goal.range-requires
+range-requires c =
+    let s : PageState = state_of c.self.inside in
+    omega (arith, write_allowed s 0 c.args.first c.args.count (allowed_as s _ (call.write 0 c.args.first c.args.count) c.self.view_is c.requires), size_most s c.self.invariant.page.most_order)
+
+pub invariant_of-self : goal.invariant_of-self
+invariant_of-self c =
+    let s : PageState = state_of c.self.inside in
+    let new : List Bool = c.difference-self-inside.result in
+    let r = written s c.args.first c.args.count c.range.result new c.self.invariant.page.most_order c.range.ensures c.difference-self-inside.ensures in
+    record {
+      page = IsPage-counts s (record s { zero = new }) c.self.invariant.page r.kept;
+      mapped = c.self.invariant.mapped ∙ sym (mapped_count-same s (record s { zero = new }) refl (λ i below. refl));
+      zero_inside = written_inside s c.range.result new c.self.invariant.zero_inside c.difference-self-inside.ensures;
+    }
+
+pub returns : goal.returns
+returns c =
+    let s : PageState = state_of c.self.inside in
+    let new : List Bool = c.difference-self-inside.result in
+    subst (λ (t : PageState). RangeWritten c.args.first c.args.count t (record s { zero = new })) c.self.view_is
+    (written s c.args.first c.args.count c.range.result new c.self.invariant.page.most_order c.range.ensures c.difference-self-inside.ensures)

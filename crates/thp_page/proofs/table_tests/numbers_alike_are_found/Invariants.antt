@@ -1,6 +1,0 @@
--- No call changes how many blocks there are.
-use Rattle.std.proofs.Common.{◌≡◌, length}
-use Rattle.thp_page.proofs.table_tests.numbers_alike_are_found.Given as goal
-
-abbrev pub invariant-loop-block : goal.invariant-loop-block
-invariant-loop-block g l = length l.table.links ≡ 4096

@@ -1,0 +1,12 @@
+pub mod Relinking
+pub mod FreeChains
+pub mod PageUses
+pub mod Worth
+pub mod Homing
+pub mod Standings
+pub mod Keeping
+pub mod PageEvents
+pub mod Admitting
+pub mod ListEvents
+pub mod Closing
+pub mod Starting

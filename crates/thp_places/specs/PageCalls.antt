@@ -1,0 +1,83 @@
+-- What a call asks of one page: the call, its event, and what it does to the page.
+use Rattle.std.specs.Prelude.{ℕ, ◌^◌, List, Bool, not, ◌&&◌, nat_eq, nat_lt, if◌then◌else◌}
+use Rattle.thp_model.specs.declared.events.Outcome.{Outcome}
+use Rattle.thp_model.specs.declared.events.Outcome.TheVariants.{Freed, Queued, Stays}
+use Rattle.thp_model.specs.declared.events.What.{What}
+use Rattle.thp_model.specs.declared.events.What.TheVariants as what
+use Rattle.thp_model.specs.Pages.{PageState, WholeMapped, WholeUnmapped, RangeMapped, RangeUnmapped, PmdSplit, Pinned, RangeWritten, RangeZeroed}
+use Rattle.thp_model.specs.Counts.{is_freed}
+use Rattle.thp_model.specs.Refusals.{Call}
+use Rattle.thp_model.specs.Refusals as call
+use Rattle.thp_model.specs.Sets.{set_of}
+use Rattle.thp_page.specs.declared.page.Change.{Change}
+use Rattle.thp_places.specs.declared.page_call.Gain.{Gain}
+use Rattle.thp_places.specs.declared.page_call.Gain.TheVariants as gain
+use Rattle.thp_places.specs.declared.page_call.Loss.{Loss}
+use Rattle.thp_places.specs.declared.page_call.Loss.TheVariants as loss
+use Rattle.thp_places.specs.declared.page_call.PageCall.{PageCall}
+use Rattle.thp_places.specs.declared.page_call.PageCall.TheVariants as either
+
+-- the call of the node
+abbrev pub gain_call : Gain → ℕ → Call
+gain_call gain.MapWhole p = call.map_whole p
+gain_call (gain.MapSub first count) p = call.map_sub p first count
+gain_call gain.SplitPmd p = call.split_pmd p
+gain_call gain.Pin p = call.pin p
+gain_call (gain.Write first count) p = call.write p first count
+gain_call (gain.Zero first count) p = call.zero_fill p first count
+
+abbrev pub loss_call : Loss → ℕ → Call
+loss_call loss.UnmapWhole p = call.unmap_whole p
+loss_call (loss.UnmapSub first count) p = call.unmap_sub p first count
+loss_call loss.Unpin p = call.unpin p
+
+abbrev pub page_call : PageCall → ℕ → Call
+page_call (either.Gain g) p = gain_call g p
+page_call (either.Loss l) p = loss_call l p
+
+-- its event
+abbrev pub gain_what : Gain → ℕ → What
+gain_what gain.MapWhole p = what.MapWhole p
+gain_what (gain.MapSub first count) p = what.MapSub p first count
+gain_what gain.SplitPmd p = what.SplitPmd p
+gain_what gain.Pin p = what.Pin p
+gain_what (gain.Write first count) p = what.Write p first count
+gain_what (gain.Zero first count) p = what.Zero p first count
+
+abbrev pub loss_what : Loss → ℕ → Outcome → List Bool → What
+loss_what loss.UnmapWhole p outcome set = what.UnmapWhole outcome p set
+loss_what (loss.UnmapSub first count) p outcome set = what.UnmapSub outcome p first count set
+loss_what loss.Unpin p outcome set = what.Unpin outcome p set
+
+-- what it does to the page
+abbrev pub Gains : Gain → PageState → PageState → Type 0
+Gains gain.MapWhole old new = WholeMapped old new
+Gains (gain.MapSub first count) old new = RangeMapped first count old new
+Gains gain.SplitPmd old new = PmdSplit old new
+Gains gain.Pin old new = Pinned old new
+Gains (gain.Write first count) old new = RangeWritten first count old new
+Gains (gain.Zero first count) old new = RangeZeroed first count old new
+
+abbrev pub Loses : Loss → PageState → PageState → Type 0
+Loses loss.UnmapWhole old new = WholeUnmapped old new
+Loses (loss.UnmapSub first count) old new = RangeUnmapped first count old new
+Loses loss.Unpin old new = Pinned new old
+
+-- how many PMD mappings it splits
+abbrev pub gain_splits : Gain → ℕ
+gain_splits gain.SplitPmd = 1
+gain_splits g = 0
+
+-- the outcome of a change, by the page after it
+abbrev pub outcome_by : PageState → Change → Bool → Bool → Outcome
+outcome_by new change closed nowhere =
+    if not change.used_left && nat_eq new.pins 0
+    then Freed
+    else
+    if not new.split && (change.unused && (change.used_left && (not closed && nowhere)))
+    then Queued
+    else Stays
+
+-- the frames that a change gives back, by the page after it
+abbrev pub released_after : PageState → Change → Outcome → List Bool
+released_after new change o = if is_freed o && not new.split then set_of (λ i. nat_lt i (2 ^ new.order)) else change.released

@@ -1,0 +1,43 @@
+//! What ends the program without what it was asked for.
+ghost use Rattle.std.specs.Prelude.{◌≡◌};
+ghost use Rattle.thp_run.specs.declared.ending.ProgramFault.TheVariants.{Run};
+ghost use Rattle.thp_run.specs.declared.fault.RunFault.TheVariants.{OutOfMemory};
+
+use crate::fault::RunFault;
+use std::alloc::AllocError;
+
+/// Why the words of a command line can't be had.
+#[derive(Clone, Copy, Debug, PartialEq, Eq)]
+pub enum WordsFault {
+    /// One of them isn't text.
+    NotText,
+    /// Memory was refused.
+    OutOfMemory,
+}
+
+/// Why the program didn't do what it was asked for.
+#[derive(Debug, Drop)]
+pub enum ProgramFault {
+    /// A run, or the writing of a text that was asked for, ended so.
+    Run(RunFault),
+    /// The words of the command line are at fault; the text is `clap`'s.
+    Usage(String),
+    /// A word of the command line isn't text.
+    NoText,
+}
+
+impl From<RunFault> for ProgramFault {
+    ghost from_gives = { λ fault ended. ended ≡ Run fault };
+
+    fn from(fault: RunFault) -> ProgramFault {
+        ProgramFault::Run(fault)
+    }
+}
+
+impl From<AllocError> for ProgramFault {
+    ghost from_gives = { λ _ ended. ended ≡ Run OutOfMemory };
+
+    fn from(_error: AllocError) -> ProgramFault {
+        ProgramFault::Run(RunFault::OutOfMemory)
+    }
+}

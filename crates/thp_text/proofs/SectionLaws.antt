@@ -1,0 +1,113 @@
+-- The commands of each section, as one more command is read.
+use Rattle.std.proofs.Common.{◌≡◌, ℕ, zero, suc, ◌+◌, ◌<◌, ◌==◌, Bool, true, false, cond, List, [], ◌∷◌, ◌++◌, length, map, get_or, set, refl, sym, ◌∙◌, arith}
+use Rattle.std.specs.Prelude.{replicate, All}
+use Rattle.std.specs.List.{range_with_len}
+use Rattle.std.proofs.lemmas.Bool.{eq-eqb, ne_eqb}
+use Rattle.std.proofs.lemmas.List.{append-nil}
+use Rattle.std.proofs.lemmas.List.Elements.{All-nil, All-cons, All-tail}
+use Rattle.thp_text.specs.declared.script.Command.{Command}
+use Rattle.thp_text.specs.declared.settings.Settings.{Settings}
+use Rattle.thp_text.specs.declared.vocabulary.Vocabulary.{Vocabulary}
+use Rattle.thp_text.specs.declared.vocabulary.Vocabulary.TheVariants.{SetupOnly, Whole}
+use Rattle.thp_text.specs.Commands.{IsCommandFor}
+use Rattle.thp_text.specs.Statements.{IsSectionFor}
+use Rattle.thp_text.specs.Scripts.{Placed, commands_in, sections_with, script_with, IsScriptFor, KeepsTo}
+
+cond_push : (b : Bool) (x : Command) (xs ys : List Command) → cond b (x ∷ (xs ++ ys)) (xs ++ ys) ≡ cond b (x ∷ xs) xs ++ ys
+cond_push true x xs ys = refl
+cond_push false x xs ys = refl
+
+-- one more command, in section k or in another
+commands_in-push : (k : ℕ) (ps : List Placed) (p : Placed) → commands_in k (ps ++ p ∷ []) ≡ commands_in k ps ++ cond (p.0 == k) (p.1 ∷ []) []
+commands_in-push k [] p = refl
+commands_in-push k (q ∷ qs) p = rw (commands_in-push k qs p) (cond_push (q.0 == k) q.1 (commands_in k qs) (cond (p.0 == k) (p.1 ∷ []) []))
+
+commands_in-push_other : (k : ℕ) (ps : List Placed) (p : Placed) → (p.0 ≡ k → ⊥) → commands_in k (ps ++ p ∷ []) ≡ commands_in k ps
+commands_in-push_other k ps p other = rw (commands_in-push k ps p, ne_eqb p.0 k other) (append-nil (commands_in k ps))
+
+commands_in-push_here : (k : ℕ) (ps : List Placed) (p : Placed) → p.0 ≡ k → commands_in k (ps ++ p ∷ []) ≡ commands_in k ps ++ p.1 ∷ []
+commands_in-push_here k ps p here = rw (commands_in-push k ps p, eq-eqb p.0 k here) refl
+
+-- the n sections from number a on
+abbrev sections_from : ℕ → ℕ → List Placed → List (List Command)
+sections_from a n ps = map (λ k. commands_in k ps) (range_with_len a n)
+
+from-push_below : (n a : ℕ) (ps : List Placed) (p : Placed) → p.0 < a → sections_from a n (ps ++ p ∷ []) ≡ sections_from a n ps
+from-push_below zero a ps p lt = refl
+from-push_below (suc n) a ps p lt = rw (commands_in-push_other a ps p (λ (e : p.0 ≡ a). absurd (omega arith)), from-push_below n (a + 1) ps p (omega arith)) refl
+
+from-push : (n a i : ℕ) (ps : List Placed) (p : Placed) → a + i ≡ p.0 → i < n → sections_from a n (ps ++ p ∷ []) ≡ set (sections_from a n ps) i (get_or (sections_from a n ps) i [] ++ p.1 ∷ [])
+from-push zero a i ps p e lt = absurd (omega arith)
+from-push (suc n) a zero ps p e lt = rw (commands_in-push_here a ps p (omega arith), from-push_below n (a + 1) ps p (omega arith)) refl
+from-push (suc n) a (suc i) ps p e lt = rw (commands_in-push_other a ps p (λ (f : p.0 ≡ a). absurd (omega arith)), from-push n (a + 1) i ps p (omega arith) (omega arith)) refl
+
+-- a command of section k is added at its end, and the other sections stay
+pub sections_with-push : (workers k : ℕ) (ps : List Placed) (command : Command) → k < workers + 1 → sections_with workers (ps ++ (k, command) ∷ []) ≡ set (sections_with workers ps) k (get_or (sections_with workers ps) k [] ++ command ∷ [])
+unfolding sections_with
+sections_with-push workers k ps command lt = from-push (workers + 1) 0 k ps (k, command) (omega arith) lt
+
+from-length : (n a : ℕ) (ps : List Placed) → length (sections_from a n ps) ≡ n
+from-length zero a ps = refl
+from-length (suc n) a ps = rw (from-length n (a + 1) ps) refl
+
+-- there is one section for each worker, and `setup`
+pub length-sections_with : (workers : ℕ) (ps : List Placed) → length (sections_with workers ps) ≡ workers + 1
+unfolding sections_with
+length-sections_with workers ps = from-length (workers + 1) 0 ps
+
+from-none : (n a : ℕ) → sections_from a n [] ≡ replicate n []
+from-none zero a = refl
+from-none (suc n) a = rw (from-none n (a + 1)) refl
+
+-- before the first command each section is empty
+pub sections_with-none : (workers : ℕ) → sections_with workers [] ≡ replicate (workers + 1) []
+unfolding sections_with
+sections_with-none workers = from-none (workers + 1) 0
+
+-- the first of the sections is `setup`, and the others are the workers'
+pub sections_with-script : (workers : ℕ) (ps : List Placed) → sections_with workers ps ≡ (script_with workers ps).setup ∷ (script_with workers ps).workers
+unfolding sections_with script_with
+sections_with-script workers ps = let one-more : workers + 1 ≡ suc workers = omega arith in rw one-more refl
+
+-- a command of the vocabulary in a section that there is, for a node that there is
+pub record PlacedFor (v : Vocabulary) (s : Settings) (p : Placed) : Type 0 where
+  pub section : IsSectionFor v s p.0
+  pub command : IsCommandFor v s.nodes p.1
+
+module _ (v : Vocabulary) (s : Settings) where
+  all_cond : (b : Bool) (command : Command) (commands : List Command) → IsCommandFor v s.nodes command → All (IsCommandFor v s.nodes) commands → All (IsCommandFor v s.nodes) (cond b (command ∷ commands) commands)
+  all_cond true command commands h all = All-cons (IsCommandFor v s.nodes) command commands h all
+  all_cond false command commands h all = all
+
+  all_in : (k : ℕ) (ps : List Placed) → All (PlacedFor v s) ps → All (IsCommandFor v s.nodes) (commands_in k ps)
+  all_in k [] all = All-nil (IsCommandFor v s.nodes)
+  all_in k (p ∷ ps) all = all_cond (p.0 == k) p.1 (commands_in k ps) (all 0 p (omega arith)).command (all_in k ps (All-tail (PlacedFor v s) p ps all))
+
+  all_from : (n a : ℕ) (ps : List Placed) → All (PlacedFor v s) ps → All (λ (commands : List Command). All (IsCommandFor v s.nodes) commands) (sections_from a n ps)
+  all_from zero a ps all = All-nil (λ (commands : List Command). All (IsCommandFor v s.nodes) commands)
+  all_from (suc n) a ps all = All-cons (λ (commands : List Command). All (IsCommandFor v s.nodes) commands) (commands_in a ps) (sections_from (a + 1) n ps) (all_in a ps all) (all_from n (a + 1) ps all)
+
+module _ (s : Settings) where
+  none_in : (k : ℕ) (ps : List Placed) → (k ≡ 0 → ⊥) → All (PlacedFor SetupOnly s) ps → commands_in k ps ≡ []
+  none_in k [] other all = refl
+  none_in k (p ∷ ps) other all =
+      rw (ne_eqb p.0 k (λ same. other (sym same ∙ (all 0 p (omega arith)).section))) (none_in k ps other (All-tail (PlacedFor SetupOnly s) p ps all))
+
+  -- the sections behind the first have no commands
+  none_from : (n a : ℕ) (ps : List Placed) → 0 < a → All (PlacedFor SetupOnly s) ps → All (λ (commands : List Command). commands ≡ []) (sections_from a n ps)
+  none_from zero a ps later all = All-nil (λ (commands : List Command). commands ≡ [])
+  none_from (suc n) a ps later all = All-cons (λ (commands : List Command). commands ≡ []) (commands_in a ps) (sections_from (a + 1) n ps) (none_in a ps (λ e. absurd (omega arith)) all) (none_from n (a + 1) ps (omega arith) all)
+
+kept_to : (v : Vocabulary) (s : Settings) (n : ℕ) (ps : List Placed) → All (PlacedFor v s) ps → KeepsTo v (sections_from 1 n ps)
+kept_to SetupOnly s n ps all = none_from s n 1 ps (omega arith) all
+kept_to Whole s n ps all = tt
+
+-- where each command is in range, so is each of the script
+pub in_range_script : (v : Vocabulary) (s : Settings) (ps : List Placed) → All (PlacedFor v s) ps → IsScriptFor v s (script_with s.workers ps)
+unfolding script_with
+in_range_script v s ps all = record {
+  setup_commands = all_in v s 0 ps all;
+  worker_commands = all_from v s s.workers 1 ps all;
+  sections = from-length s.workers 1 ps;
+  kept = kept_to v s s.workers ps all;
+}

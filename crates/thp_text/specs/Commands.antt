@@ -1,0 +1,122 @@
+-- The commands of scripts by their words (this project's script format).
+use Rattle.std.specs.Prelude.{◌≡◌, ◌≤◌, ◌<◌, ℕ, ◌-◌, ◌||◌, Bool, ⊤, List, [], ◌∷◌, Result, Ok, Err, codes, ok_or, if◌then◌else◌}
+use Rattle.std.specs.Str.{bytes_eq}
+use Rattle.thp_text.specs.declared.fault.TextKind.{TextKind}
+use Rattle.thp_text.specs.declared.fault.TextKind.TheVariants.{BadWord, BadCount, BadNumber}
+use Rattle.thp_text.specs.declared.script.Command.{Command}
+use Rattle.thp_text.specs.declared.script.Op.{Op}
+use Rattle.thp_text.specs.declared.script.Op.TheVariants.{Alloc, MapWhole, UnmapWhole, Map, Unmap, SplitPmd, Pin, Unpin, Close, Scan, Count, Take, SplitNext, PutBack}
+use Rattle.thp_text.specs.declared.settings.Settings.{Settings}
+use Rattle.thp_text.specs.declared.vocabulary.Vocabulary.{Vocabulary}
+use Rattle.thp_text.specs.declared.vocabulary.Vocabulary.TheVariants.{SetupOnly, Whole}
+use Rattle.thp_text.specs.Readings.{◌>>=◌}
+use Rattle.thp_text.specs.Words.{Text, number_of}
+
+-- the one word that there is
+abbrev pub one_word : List Text → Result Text TextKind
+one_word (a ∷ []) = Ok a
+one_word _ = Err BadCount
+
+-- the two words that there are
+abbrev pub two_words : List Text → Result (Text × Text) TextKind
+two_words (a ∷ b ∷ []) = Ok (a, b)
+two_words _ = Err BadCount
+
+-- the four words that there are
+abbrev pub four_words : List Text → Result (Text × Text × Text × Text) TextKind
+four_words (a ∷ b ∷ c ∷ d ∷ []) = Ok (a, b, c, d)
+four_words _ = Err BadCount
+
+-- a number of at most `most`
+abbrev pub number_up_to : ℕ → Text → Result ℕ TextKind
+number_up_to most word = ok_or (number_of most word) BadNumber
+
+-- a node that there is
+abbrev pub node_number : Settings → Text → Result ℕ TextKind
+node_number s = number_up_to (s.nodes - 1)
+
+-- a command on a node as a whole, behind its name: `NODE`
+unfoldable pub node_command : Op → Settings → List Text → Result Command TextKind
+node_command op s words = do
+  word ← one_word words
+  node ← node_number s word
+  Ok (record { node = node; op = op })
+
+-- a command on a page: `NODE PAGE`
+unfoldable pub page_command : (ℕ → Op) → Settings → List Text → Result Command TextKind
+page_command op s words = do
+  word ← two_words words
+  node ← node_number s word.0
+  page ← number_up_to 18446744073709551615 word.1
+  Ok (record { node = node; op = op page })
+
+-- a command on a range of a page's subpages: `NODE PAGE FIRST COUNT`
+unfoldable pub range_command : (ℕ → ℕ → ℕ → Op) → Settings → List Text → Result Command TextKind
+range_command op s words = do
+  word ← four_words words
+  node ← node_number s word.0
+  page ← number_up_to 18446744073709551615 word.1
+  first ← number_up_to 65535 word.2
+  count ← number_up_to 65535 word.3
+  Ok (record { node = node; op = op page first count })
+
+-- a scan or a take: `NODE COUNT`
+unfoldable pub batch_command : (ℕ → Op) → Settings → List Text → Result Command TextKind
+batch_command op s words = do
+  word ← two_words words
+  node ← node_number s word.0
+  count ← number_up_to 128 word.1
+  Ok (record { node = node; op = op count })
+
+-- the commands that only the whole format has
+unfoldable pub further_command : Settings → Text → List Text → Result Command TextKind
+further_command s name words =
+    if bytes_eq name (codes "count") then node_command Count s words
+    else if bytes_eq name (codes "take") then batch_command (λ count. Take count) s words
+    else if bytes_eq name (codes "splitnext") then node_command SplitNext s words
+    else if bytes_eq name (codes "putback") then node_command PutBack s words
+    else Err BadWord
+
+-- one of their words
+abbrev pub is_further : Text → Bool
+is_further name = bytes_eq name (codes "count") || bytes_eq name (codes "take") || bytes_eq name (codes "splitnext") || bytes_eq name (codes "putback")
+
+-- the commands that are one call of a node each
+unfoldable pub call_command : Settings → Text → List Text → Result Command TextKind
+call_command s name words =
+    if bytes_eq name (codes "alloc") then node_command Alloc s words
+    else if bytes_eq name (codes "mapwhole") then page_command MapWhole s words
+    else if bytes_eq name (codes "unmapwhole") then page_command UnmapWhole s words
+    else if bytes_eq name (codes "map") then range_command (λ page first count. Map first count page) s words
+    else if bytes_eq name (codes "unmap") then range_command (λ page first count. Unmap first count page) s words
+    else if bytes_eq name (codes "splitpmd") then page_command SplitPmd s words
+    else if bytes_eq name (codes "pin") then page_command Pin s words
+    else if bytes_eq name (codes "unpin") then page_command Unpin s words
+    else if bytes_eq name (codes "close") then node_command Close s words
+    else if bytes_eq name (codes "scan") then batch_command (λ count. Scan count) s words
+    else Err BadWord
+
+-- a command by its first word and the others
+abbrev pub command_of : Vocabulary → Settings → Text → List Text → Result Command TextKind
+command_of SetupOnly s name words = call_command s name words
+command_of Whole s name words = if is_further name then further_command s name words else call_command s name words
+
+-- a scan and a take are of as many pages as a batch holds
+abbrev pub FitsBatch : Op → Type 0
+FitsBatch (Scan count) = count ≤ 128
+FitsBatch (Take count) = count ≤ 128
+FitsBatch _ = ⊤
+
+-- the command is one of the vocabulary
+abbrev pub IsKnown : Vocabulary → Op → Type 0
+IsKnown v Count = v ≡ Whole
+IsKnown v (Take count) = v ≡ Whole
+IsKnown v SplitNext = v ≡ Whole
+IsKnown v PutBack = v ≡ Whole
+IsKnown v _ = ⊤
+
+-- a command of the vocabulary, for a node that there is
+pub record IsCommandFor (v : Vocabulary) (nodes : ℕ) (command : Command) : Type 0 where
+  pub node_exists : command.node < nodes
+  pub fits_batch : FitsBatch command.op
+  pub known : IsKnown v command.op

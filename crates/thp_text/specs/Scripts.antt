@@ -1,0 +1,86 @@
+-- Scripts as text: the commands of each section, or the first fault (this project's script format).
+use Rattle.std.specs.Prelude.{◌≡◌, ℕ, ◌+◌, ◌==◌, nat_lt, ⊤, All, List, [], ◌∷◌, ◌++◌, length, map, Option, Some, None, Result, Ok, Err, if◌then◌else◌}
+use Rattle.std.specs.List.{range_with_len}
+use Rattle.thp_text.specs.declared.fault.TextKind.{TextKind}
+use Rattle.thp_text.specs.declared.fault.TextKind.TheVariants.{TooLong}
+use Rattle.thp_text.specs.declared.fault.ReadFault.{ReadFault}
+use Rattle.thp_text.specs.declared.fault.ReadFault.TheVariants.{Text as TextFault, OutOfMemory}
+use Rattle.thp_text.specs.declared.script.Command.{Command}
+use Rattle.thp_text.specs.declared.script.Script.{Script}
+use Rattle.thp_text.specs.declared.settings.Settings.{Settings}
+use Rattle.thp_text.specs.declared.statement.Statement.{Statement}
+use Rattle.thp_text.specs.declared.statement.Statement.TheVariants.{Nothing, Section, Call}
+use Rattle.thp_text.specs.declared.vocabulary.Vocabulary.{Vocabulary}
+use Rattle.thp_text.specs.declared.vocabulary.Vocabulary.TheVariants.{SetupOnly, Whole}
+use Rattle.thp_text.specs.Readings.{◌>>=◌}
+use Rattle.thp_text.specs.Words.{Text, lines_of}
+use Rattle.thp_text.specs.Commands.{IsCommandFor}
+use Rattle.thp_text.specs.Statements.{statement_in, section_after, fault_behind}
+
+-- the line and the kind of a fault
+abbrev pub Fault : Type 0
+Fault = ℕ × TextKind
+
+-- a command, behind the number of its section
+abbrev pub Placed : Type 0
+Placed = ℕ × Command
+
+abbrev pub on_line : {A : Type 0} → ℕ → Result A TextKind → Result A Fault
+on_line line (Ok x) = Ok x
+on_line line (Err kind) = Err (line, kind)
+
+-- the command of a line in its section, if it says one
+abbrev pub placed : Option ℕ → Statement → List Placed
+placed section Nothing = []
+placed section (Section k) = []
+placed None (Call command) = []
+placed (Some k) (Call command) = (k, command) ∷ []
+
+abbrev pub end_of : ℕ → Option TextKind → Result (List Placed) Fault
+end_of line None = Ok []
+end_of line (Some kind) = Err (line, kind)
+
+-- the commands of the lines from number `line` on, which stand in this section
+unfoldable pub commands_from : Vocabulary → Settings → ℕ → Option ℕ → List Text → Result (List Placed) Fault
+commands_from v s line section [] = Ok []
+commands_from v s line section (behind ∷ []) = end_of line (fault_behind behind)
+commands_from v s line section (text ∷ next ∷ texts) = do
+  statement ← on_line line (statement_in v s section text)
+  commands ← commands_from v s (line + 1) (section_after section statement) (next ∷ texts)
+  Ok (placed section statement ++ commands)
+
+-- the commands of one section, in order
+abbrev pub commands_in : ℕ → List Placed → List Command
+commands_in k [] = []
+commands_in k (p ∷ ps) = if p.0 == k then p.1 ∷ commands_in k ps else commands_in k ps
+
+-- all sections: `setup`, and one for each worker
+unfoldable pub sections_with : ℕ → List Placed → List (List Command)
+sections_with workers ps = map (λ k. commands_in k ps) (range_with_len 0 (workers + 1))
+
+-- the script of these commands: section 0 is `setup`, and there is one section for each worker
+unfoldable pub script_with : ℕ → List Placed → Script
+script_with workers ps = record { setup = commands_in 0 ps; workers = map (λ k. commands_in k ps) (range_with_len 1 workers) }
+
+-- The script that a text spells in a vocabulary, or its first fault.
+unfoldable pub script_of : Vocabulary → Settings → Text → Result Script Fault
+script_of v s text =
+    if nat_lt 16777216 (length text) then Err (0, TooLong)
+    else (commands_from v s 1 None (lines_of text) >>= λ ps. Ok (script_with s.workers ps))
+
+-- a fault of reading is the text's first, unless memory was refused
+abbrev pub TellsFault : {A : Type 0} → Result A Fault → ReadFault → Type 0
+TellsFault read (TextFault line kind) = read ≡ Err (line, kind)
+TellsFault read OutOfMemory = ⊤
+
+-- without workers in the vocabulary their sections are empty
+abbrev pub KeepsTo : Vocabulary → List (List Command) → Type 0
+KeepsTo SetupOnly workers = All (λ commands. commands ≡ []) workers
+KeepsTo Whole workers = ⊤
+
+-- each command is one of the vocabulary, for a node that there is, and there is a section for each worker
+pub record IsScriptFor (v : Vocabulary) (s : Settings) (script : Script) : Type 0 where
+  pub setup_commands : All (IsCommandFor v s.nodes) script.setup
+  pub worker_commands : All (λ commands. All (IsCommandFor v s.nodes) commands) script.workers
+  pub sections : length script.workers ≡ s.workers
+  pub kept : KeepsTo v script.workers

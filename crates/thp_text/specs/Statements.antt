@@ -1,0 +1,112 @@
+-- What a line of a script says, and where it may stand (this project's script format).
+use Rattle.std.specs.Prelude.{◌≡◌, ◌==◌, ◌&&◌, ◌≤◌, not, nat_lt, nat_le, ℕ, zero, suc, Bool, true, false, ⊤, List, [], ◌∷◌, length, Option, Some, None, Result, Ok, Err, codes, if◌then◌else◌}
+use Rattle.std.specs.List.{list_all, list_any}
+use Rattle.std.specs.Str.{bytes_eq}
+use Rattle.thp_text.specs.declared.fault.TextKind.{TextKind}
+use Rattle.thp_text.specs.declared.fault.TextKind.TheVariants.{BadByte, Cut, BadWord, BadCount, BadNumber, BadOrder}
+use Rattle.thp_text.specs.declared.settings.Settings.{Settings}
+use Rattle.thp_text.specs.declared.statement.Statement.{Statement}
+use Rattle.thp_text.specs.declared.statement.Statement.TheVariants.{Nothing, Section, Call}
+use Rattle.thp_text.specs.declared.vocabulary.Vocabulary.{Vocabulary}
+use Rattle.thp_text.specs.declared.vocabulary.Vocabulary.TheVariants.{SetupOnly, Whole}
+use Rattle.thp_text.specs.Readings.{◌>>=◌}
+use Rattle.thp_text.specs.Words.{Text, words_of}
+use Rattle.thp_text.specs.Commands.{command_of, number_up_to, one_word, IsCommandFor}
+
+-- `setup`, which is section 0
+abbrev pub setup_of : List Text → Result Statement TextKind
+setup_of [] = Ok (Section 0)
+setup_of _ = Err BadCount
+
+-- sections of workers are numbered from 1 on
+abbrev pub section_of : ℕ → Result ℕ TextKind
+section_of zero = Err BadNumber
+section_of (suc k) = Ok (suc k)
+
+-- the number of a worker that there is
+abbrev pub worker_number : Settings → Text → Result ℕ TextKind
+worker_number s word = number_up_to s.workers word >>= section_of
+
+-- `worker K`, behind its first word
+unfoldable pub worker_of : Settings → List Text → Result Statement TextKind
+worker_of s words = do
+  word ← one_word words
+  k ← worker_number s word
+  Ok (Section k)
+
+abbrev pub call_of : Vocabulary → Settings → Text → List Text → Result Statement TextKind
+call_of v s name words = command_of v s name words >>= λ command. Ok (Call command)
+
+-- the section of a worker, where the vocabulary has workers, or a command
+abbrev pub worker_or_call : Vocabulary → Settings → Text → List Text → Result Statement TextKind
+worker_or_call SetupOnly s name words = call_of SetupOnly s name words
+worker_or_call Whole s name words =
+    if bytes_eq name (codes "worker") then worker_of s words
+    else call_of Whole s name words
+
+-- a section line or a command, by its first word and the others
+unfoldable pub section_or_call : Vocabulary → Settings → Text → List Text → Result Statement TextKind
+section_or_call v s name words =
+    if bytes_eq name (codes "setup") then setup_of words
+    else worker_or_call v s name words
+
+abbrev pub by_words : Vocabulary → Settings → List Text → Result Statement TextKind
+by_words v s [] = Err BadWord
+by_words v s (name ∷ words) = section_or_call v s name words
+
+-- a printable character of ASCII, 0x20 to 0x7E
+abbrev pub is_printable : ℕ → Bool
+is_printable b = nat_le 32 b && nat_le b 126
+
+-- an empty line, or one that begins with `#` (35)
+abbrev pub says_nothing : Text → Bool
+says_nothing [] = true
+says_nothing (b ∷ _) = b == 35
+
+abbrev pub is_empty : Text → Bool
+is_empty word = length word == 0
+
+-- what a whole line says, wherever it stands; the faults are in their order
+unfoldable pub statement_of : Vocabulary → Settings → Text → Result Statement TextKind
+statement_of v s line =
+    if not (list_all is_printable line) then Err BadByte
+    else if says_nothing line then Ok Nothing
+    else if list_any is_empty (words_of line) then Err BadWord
+    else by_words v s (words_of line)
+
+-- The section before a line: none before the first section line, 0 for `setup`, K for `worker K`. Sections ascend,
+-- and each command stands in one.
+abbrev pub may_stand : Option ℕ → Statement → Bool
+may_stand section Nothing = true
+may_stand None (Section k) = true
+may_stand (Some last) (Section k) = nat_lt last k
+may_stand None (Call command) = false
+may_stand (Some last) (Call command) = true
+
+-- the section after the line
+abbrev pub section_after : Option ℕ → Statement → Option ℕ
+section_after section (Section k) = Some k
+section_after section Nothing = section
+section_after section (Call command) = section
+
+-- what a whole line says in its place
+unfoldable pub statement_in : Vocabulary → Settings → Option ℕ → Text → Result Statement TextKind
+statement_in v s section line = do
+  statement ← statement_of v s line
+  if may_stand section statement then Ok statement else Err BadOrder
+
+-- what stands behind the last line feed: nothing, or a line that is cut
+unfoldable pub fault_behind : Text → Option TextKind
+fault_behind [] = None
+fault_behind (b ∷ line) = Some (if list_all is_printable (b ∷ line) then Cut else BadByte)
+
+-- the section `setup`, or, where the vocabulary has workers, that of a worker that there is
+abbrev pub IsSectionFor : Vocabulary → Settings → ℕ → Type 0
+IsSectionFor SetupOnly s k = k ≡ 0
+IsSectionFor Whole s k = k ≤ s.workers
+
+-- a section that there is, or a command of the vocabulary for a node that there is
+abbrev pub IsInRange : Vocabulary → Settings → Statement → Type 0
+IsInRange v s Nothing = ⊤
+IsInRange v s (Section k) = IsSectionFor v s k
+IsInRange v s (Call command) = IsCommandFor v s.nodes command

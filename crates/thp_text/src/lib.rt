@@ -1,0 +1,21 @@
+//! Texts: scripts as values, the grammar that reads them, and the first fault of a text.
+#![tactic(auto)]
+
+mod fault;
+mod input;
+mod operands;
+mod script;
+mod script_reader;
+mod sequence;
+mod settings;
+mod statement;
+mod vocabulary;
+mod words;
+
+pub use fault::{ReadFault, TextKind};
+pub use input::MAX_INPUT;
+pub use script::{Command, Op, Script};
+pub use script_reader::{read_script, read_script_of};
+pub use sequence::Sequence;
+pub use settings::{MAX_NODES, Report, Settings};
+pub use vocabulary::Vocabulary;

@@ -1,0 +1,234 @@
+//! Commands from the words of a line.
+ghost use Rattle.std.specs.Prelude.{◌≡◌, ◌≤◌, ◌<◌, IfOk};
+ghost use Rattle.thp_text.specs.Commands.{batch_command, call_command, command_of, further_command, is_further, node_command, node_number, number_up_to, page_command, range_command};
+ghost use Rattle.thp_text.specs.Operands.{batch_op, page_op, range_op};
+
+use crate::fault::TextKind;
+use crate::script::{Command, Op};
+use crate::settings::Settings;
+use crate::vocabulary::Vocabulary;
+use crate::words::{Words, number};
+
+/// The calls on one page, behind whose name stand a node and the page.
+#[derive(Clone, Copy)]
+enum PageCall {
+    MapWhole,
+    UnmapWhole,
+    SplitPmd,
+    Pin,
+    Unpin,
+}
+
+impl PageCall {
+    fn op(self, page: u64) -> Op
+        ensures { result ≡ page_op self page }
+    {
+        match self {
+            PageCall::MapWhole => Op::MapWhole { page },
+            PageCall::UnmapWhole => Op::UnmapWhole { page },
+            PageCall::SplitPmd => Op::SplitPmd { page },
+            PageCall::Pin => Op::Pin { page },
+            PageCall::Unpin => Op::Unpin { page },
+        }
+    }
+}
+
+/// The calls on a range of a page's subpages, behind whose name stand a node, the page and the range.
+#[derive(Clone, Copy)]
+enum RangeCall {
+    Map,
+    Unmap,
+}
+
+impl RangeCall {
+    fn op(self, page: u64, first: u16, count: u16) -> Op
+        ensures { result ≡ range_op self page first count }
+    {
+        match self {
+            RangeCall::Map => Op::Map { first, count, page },
+            RangeCall::Unmap => Op::Unmap { first, count, page },
+        }
+    }
+}
+
+/// The calls on as many pages as a batch holds, behind whose name stand a node and a number.
+#[derive(Clone, Copy)]
+enum BatchCall {
+    Scan,
+    Take,
+}
+
+impl BatchCall {
+    fn op(self, count: u16) -> Op
+        ensures { result ≡ batch_op self count }
+    {
+        match self {
+            BatchCall::Scan => Op::Scan { count },
+            BatchCall::Take => Op::Take { count },
+        }
+    }
+}
+
+pub(crate) fn number_up_to(most: u64, word: &[u8]) -> Result<u64, TextKind>
+    ensures value { result ≡ number_up_to most word.now }
+    ensures bound { IfOk result (λ n. n ≤ most) }
+{
+    number(most, word).ok_or(TextKind::BadNumber)
+}
+
+fn small_number_up_to(most: u16, word: &[u8]) -> Result<u16, TextKind>
+    ensures value { result ≡ number_up_to most word.now }
+    ensures bound { IfOk result (λ n. n ≤ most) }
+{
+    let value = number_up_to(u64::from(most), word)?;
+    Ok(value as u16)
+}
+
+fn node_number(settings: &Settings, word: &[u8]) -> Result<u32, TextKind>
+    ensures { result ≡ node_number settings.now word.now }
+{
+    let node = number_up_to(u64::from(settings.nodes - 1), word)?;
+    Ok(node as u32)
+}
+
+/// A command on a node as a whole: `NODE`
+#[tactic(auto, unfolding(crate::specs::Commands::node_command))]
+fn node_command(settings: &Settings, op: Op, mut words: Words) -> Result<Command, TextKind>
+    ensures { result ≡ node_command op settings.now words.entry }
+{
+    let (Some(node), None) = (words.next(), words.next()) else {
+        return Err(TextKind::BadCount);
+    };
+    Ok(Command {
+        node: node_number(settings, node)?,
+        op,
+    })
+}
+
+/// A command on a page: `NODE PAGE`
+#[tactic(auto, unfolding(crate::specs::Commands::page_command))]
+fn page_command(settings: &Settings, call: PageCall, mut words: Words) -> Result<Command, TextKind>
+    ensures { result ≡ page_command (page_op call) settings.now words.entry }
+{
+    let (Some(node), Some(page), None) = (words.next(), words.next(), words.next()) else {
+        return Err(TextKind::BadCount);
+    };
+    let node = node_number(settings, node)?;
+    let page = number_up_to(u64::MAX, page)?;
+    Ok(Command {
+        node,
+        op: call.op(page),
+    })
+}
+
+/// A command on a range of a page's subpages: `NODE PAGE FIRST COUNT`
+#[tactic(auto, unfolding(crate::specs::Commands::range_command))]
+fn range_command(
+    settings: &Settings,
+    call: RangeCall,
+    mut words: Words,
+) -> Result<Command, TextKind>
+    ensures { result ≡ range_command (range_op call) settings.now words.entry }
+{
+    let (Some(node), Some(page), Some(first), Some(count), None) = (
+        words.next(),
+        words.next(),
+        words.next(),
+        words.next(),
+        words.next(),
+    ) else {
+        return Err(TextKind::BadCount);
+    };
+    let node = node_number(settings, node)?;
+    let page = number_up_to(u64::MAX, page)?;
+    let first = small_number_up_to(65_535, first)?;
+    let count = small_number_up_to(65_535, count)?;
+    Ok(Command {
+        node,
+        op: call.op(page, first, count),
+    })
+}
+
+/// A scan or a take: `NODE COUNT`
+#[tactic(auto, unfolding(crate::specs::Commands::batch_command))]
+fn batch_command(
+    settings: &Settings,
+    call: BatchCall,
+    mut words: Words,
+) -> Result<Command, TextKind>
+    ensures { result ≡ batch_command (batch_op call) settings.now words.entry }
+{
+    let (Some(node), Some(count), None) = (words.next(), words.next(), words.next()) else {
+        return Err(TextKind::BadCount);
+    };
+    let node = node_number(settings, node)?;
+    let count = small_number_up_to(128, count)?;
+    Ok(Command {
+        node,
+        op: call.op(count),
+    })
+}
+
+/// The commands that only the whole format has.
+#[tactic(auto, unfolding(crate::specs::Commands::further_command))]
+fn further_command(settings: &Settings, name: &[u8], words: Words) -> Result<Command, TextKind>
+    ensures { result ≡ further_command settings.now name.now words.entry }
+{
+    match name {
+        b"count" => node_command(settings, Op::Count, words),
+        b"take" => batch_command(settings, BatchCall::Take, words),
+        b"splitnext" => node_command(settings, Op::SplitNext, words),
+        b"putback" => node_command(settings, Op::PutBack, words),
+        _ => Err(TextKind::BadWord),
+    }
+}
+
+/// Whether only the whole format has a command of this name.
+fn is_further(name: &[u8]) -> bool
+    ensures { result ≡ is_further name.now }
+{
+    name == b"count".as_slice()
+        || name == b"take".as_slice()
+        || name == b"splitnext".as_slice()
+        || name == b"putback".as_slice()
+}
+
+/// The commands that are one call of a node each.
+#[tactic(auto, unfolding(crate::specs::Commands::call_command))]
+fn call_command(settings: &Settings, name: &[u8], words: Words) -> Result<Command, TextKind>
+    ensures { result ≡ call_command settings.now name.now words.entry }
+{
+    match name {
+        b"alloc" => node_command(settings, Op::Alloc, words),
+        b"mapwhole" => page_command(settings, PageCall::MapWhole, words),
+        b"unmapwhole" => page_command(settings, PageCall::UnmapWhole, words),
+        b"map" => range_command(settings, RangeCall::Map, words),
+        b"unmap" => range_command(settings, RangeCall::Unmap, words),
+        b"splitpmd" => page_command(settings, PageCall::SplitPmd, words),
+        b"pin" => page_command(settings, PageCall::Pin, words),
+        b"unpin" => page_command(settings, PageCall::Unpin, words),
+        b"close" => node_command(settings, Op::Close, words),
+        b"scan" => batch_command(settings, BatchCall::Scan, words),
+        _ => Err(TextKind::BadWord),
+    }
+}
+
+/// The command that the first word names, with its operands.
+pub(crate) fn command_of(
+    vocabulary: Vocabulary,
+    settings: &Settings,
+    name: &[u8],
+    words: Words,
+) -> Result<Command, TextKind>
+    ensures { result ≡ command_of vocabulary settings.now name.now words.entry }
+{
+    match vocabulary {
+        Vocabulary::SetupOnly => call_command(settings, name, words),
+        Vocabulary::Whole => {
+            if is_further(name) {
+                return further_command(settings, name, words);
+            }
+            call_command(settings, name, words)
+        }
+    }
+}

@@ -1,0 +1,86 @@
+//! What a run is made of: its nodes, their blocks, its workers and its report.
+ghost use Rattle.std.specs.Prelude.{◌≡◌, ◌↔◌, ◌++◌, IsSome, IfSome, drop, replicate, true};
+ghost use Rattle.std.specs.List.{list_all};
+ghost use Rattle.thp_text.specs.Settings.{is_order, AreOrdersFor, IsWithinLimits};
+
+/// The most nodes of a run.
+pub const MAX_NODES: usize = 8;
+
+/// What a run writes when it is done.
+#[derive(Clone, Copy, Debug, PartialEq, Eq)]
+pub enum Report {
+    /// The totals of each node.
+    Totals,
+}
+
+/// The nodes, blocks and workers of a run, within this project's limits, and its report.
+#[derive(Clone, Copy, Debug)]
+pub struct Settings {
+    /// How many memory nodes there are.
+    pub nodes: u32,
+    /// How many blocks each node has.
+    pub blocks: u32,
+    /// How many workers a script may name.
+    pub workers: u32,
+    /// What is written at the end.
+    pub report: Report,
+    /// The order of the pages of each node, 2 to 9; those beyond the nodes aren't looked at.
+    pub orders: [u32; MAX_NODES],
+    pub ghost within_limits: { IsWithinLimits nodes blocks workers },
+    pub ghost orders_fit: { list_all is_order orders ≡ true },
+}
+
+impl Settings {
+    /// Settings of these numbers, with pages of order 9 on each node, or `None` exactly where one is outside its limits
+    /// (this project's profile).
+    pub fn new(nodes: u32, blocks: u32, workers: u32, report: Report) -> Option<Settings>
+        ensures limits { IsSome result ↔ IsWithinLimits nodes blocks workers }
+        ensures nodes { IfSome result (λ settings. settings.nodes ≡ nodes) }
+        ensures blocks { IfSome result (λ settings. settings.blocks ≡ blocks) }
+        ensures workers { IfSome result (λ settings. settings.workers ≡ workers) }
+        ensures report { IfSome result (λ settings. settings.report ≡ report) }
+        ensures orders { IfSome result (λ settings. settings.orders ≡ replicate 8 9) }
+    {
+        if (1..=8).contains(&nodes) && (1..=4096).contains(&blocks) && (1..=63).contains(&workers) {
+            Some(Settings {
+                nodes,
+                blocks,
+                workers,
+                report,
+                orders: [9; MAX_NODES],
+            })
+        } else {
+            None
+        }
+    }
+
+    /// These settings with an order for each node, or `None` exactly where there aren't as many as nodes, or one isn't 2
+    /// to 9.
+    pub fn with_orders(self, orders: &[u32]) -> Option<Settings>
+        ensures limits { IsSome result ↔ AreOrdersFor self.nodes orders.now }
+        ensures orders { IfSome result (λ settings. settings.orders ≡ orders.now ++ drop self.nodes self.orders) }
+        ensures nodes { IfSome result (λ settings. settings.nodes ≡ self.nodes) }
+        ensures blocks { IfSome result (λ settings. settings.blocks ≡ self.blocks) }
+        ensures workers { IfSome result (λ settings. settings.workers ≡ self.workers) }
+        ensures report { IfSome result (λ settings. settings.report ≡ self.report) }
+    {
+        if orders.len() != self.nodes as usize || !are_orders(orders) {
+            return None;
+        }
+        let mut all = self.orders;
+        all[..orders.len()].copy_from_slice(orders);
+        Some(Settings {
+            nodes: self.nodes,
+            blocks: self.blocks,
+            workers: self.workers,
+            report: self.report,
+            orders: all,
+        })
+    }
+}
+
+fn are_orders(orders: &[u32]) -> bool
+    ensures { result ≡ list_all is_order orders.now }
+{
+    orders.iter().all(|order| (2..=9).contains(order))
+}

@@ -1,0 +1,216 @@
+//! What a line of a script says.
+ghost use Rattle.std.specs.Prelude.{◌≡◌, Err, Ok, if◌then◌else◌};
+ghost use Rattle.std.specs.List.{list_all, list_any};
+ghost use Rattle.thp_text.specs.Words.{words_of};
+ghost use Rattle.thp_text.specs.declared.fault.TextKind.TheVariants.{BadByte, BadWord};
+ghost use Rattle.thp_text.specs.Statements.{by_words, call_of, fault_behind, is_empty, is_printable, may_stand, says_nothing, section_after, section_or_call, setup_of, statement_in, statement_of, worker_of, worker_or_call};
+
+use crate::fault::TextKind;
+use crate::operands::{command_of, number_up_to};
+use crate::script::Command;
+use crate::settings::Settings;
+use crate::vocabulary::Vocabulary;
+use crate::words::Words;
+
+/// What a line says.
+#[derive(Clone, Copy, Debug)]
+pub(crate) enum Statement {
+    /// Nothing: the line is empty or a comment.
+    Nothing,
+    /// A section begins: 0 for `setup`, else the number of its worker.
+    Section(u32),
+    /// A command of the section.
+    Call(Command),
+}
+
+fn setup_of(mut words: Words) -> Result<Statement, TextKind>
+    ensures { result ≡ setup_of words.entry }
+{
+    match words.next() {
+        None => Ok(Statement::Section(0)),
+        Some(_) => Err(TextKind::BadCount),
+    }
+}
+
+/// The section of a worker: `worker K`, K from 1 to the number of workers.
+#[tactic(auto, unfolding(crate::specs::Statements::worker_of))]
+fn worker_of(settings: &Settings, mut words: Words) -> Result<Statement, TextKind>
+    ensures { result ≡ worker_of settings.now words.entry }
+{
+    let (Some(word), None) = (words.next(), words.next()) else {
+        return Err(TextKind::BadCount);
+    };
+    match number_up_to(u64::from(settings.workers), word)? {
+        0 => Err(TextKind::BadNumber),
+        worker => Ok(Statement::Section(worker as u32)),
+    }
+}
+
+fn call_of(
+    vocabulary: Vocabulary,
+    settings: &Settings,
+    name: &[u8],
+    words: Words,
+) -> Result<Statement, TextKind>
+    ensures { result ≡ call_of vocabulary settings.now name.now words.entry }
+{
+    let command = command_of(vocabulary, settings, name, words)?;
+    Ok(Statement::Call(command))
+}
+
+fn worker_or_call(
+    vocabulary: Vocabulary,
+    settings: &Settings,
+    name: &[u8],
+    words: Words,
+) -> Result<Statement, TextKind>
+    ensures { result ≡ worker_or_call vocabulary settings.now name.now words.entry }
+{
+    match vocabulary {
+        Vocabulary::SetupOnly => call_of(Vocabulary::SetupOnly, settings, name, words),
+        Vocabulary::Whole => {
+            if name == b"worker".as_slice() {
+                return worker_of(settings, words);
+            }
+            call_of(Vocabulary::Whole, settings, name, words)
+        }
+    }
+}
+
+#[tactic(auto, unfolding(crate::specs::Statements::section_or_call))]
+fn section_or_call(
+    vocabulary: Vocabulary,
+    settings: &Settings,
+    name: &[u8],
+    words: Words,
+) -> Result<Statement, TextKind>
+    ensures { result ≡ section_or_call vocabulary settings.now name.now words.entry }
+{
+    if name == b"setup".as_slice() {
+        return setup_of(words);
+    }
+    worker_or_call(vocabulary, settings, name, words)
+}
+
+fn by_words(
+    vocabulary: Vocabulary,
+    settings: &Settings,
+    mut words: Words,
+) -> Result<Statement, TextKind>
+    ensures { result ≡ by_words vocabulary settings.now words.entry }
+{
+    match words.next() {
+        Some(name) => section_or_call(vocabulary, settings, name, words),
+        None => Err(TextKind::BadWord),
+    }
+}
+
+fn is_printable(line: &[u8]) -> bool
+    ensures { result ≡ list_all is_printable line.now }
+{
+    line.iter().all(|b| (b' '..=b'~').contains(b))
+}
+
+fn says_nothing(line: &[u8]) -> bool
+    ensures { result ≡ says_nothing line.now }
+{
+    match line {
+        [] => true,
+        [first, ..] => *first == b'#',
+    }
+}
+
+fn has_empty_word(line: &[u8]) -> bool
+    ensures { result ≡ list_any is_empty (words_of line.now) }
+{
+    line.split(|b| *b == b' ').any(|word| word.is_empty())
+}
+
+/// The fault of a line that doesn't read as a statement, for the reason given.
+fn fault_of(line: &[u8], reading: TextKind) -> TextKind
+    ensures { result ≡ (if list_all is_printable line.now then (if list_any is_empty (words_of line.now) then BadWord else reading) else BadByte) }
+{
+    if !is_printable(line) {
+        return TextKind::BadByte;
+    }
+    if has_empty_word(line) {
+        return TextKind::BadWord;
+    }
+    reading
+}
+
+/// What a whole line says. Where it reads as a statement it has neither bad bytes nor empty words, so its bytes are looked
+/// at again only where it doesn't.
+#[tactic(auto, unfolding(crate::specs::Statements::statement_of))]
+fn statement_of(
+    vocabulary: Vocabulary,
+    settings: &Settings,
+    line: &[u8],
+) -> Result<Statement, TextKind>
+    ensures { result ≡ statement_of vocabulary settings.now line.now }
+{
+    if says_nothing(line) {
+        if is_printable(line) {
+            return Ok(Statement::Nothing);
+        }
+        return Err(TextKind::BadByte);
+    }
+    match by_words(vocabulary, settings, Words::of_line(line)) {
+        Ok(statement) => Ok(statement),
+        Err(reading) => Err(fault_of(line, reading)),
+    }
+}
+
+fn may_stand(section: Option<u32>, statement: Statement) -> bool
+    ensures { result ≡ may_stand section statement }
+{
+    match (section, statement) {
+        (_, Statement::Nothing) => true,
+        (None, Statement::Section(_)) => true,
+        (Some(last), Statement::Section(next)) => last < next,
+        (None, Statement::Call(_)) => false,
+        (Some(_), Statement::Call(_)) => true,
+    }
+}
+
+/// The section after a line, from the section before it.
+pub(crate) fn section_after(section: Option<u32>, statement: Statement) -> Option<u32>
+    ensures { result ≡ section_after section statement }
+{
+    match statement {
+        Statement::Section(next) => Some(next),
+        Statement::Nothing | Statement::Call(_) => section,
+    }
+}
+
+/// What a whole line says in its place.
+#[tactic(auto, unfolding(crate::specs::Statements::statement_in))]
+pub(crate) fn statement_in(
+    vocabulary: Vocabulary,
+    settings: &Settings,
+    section: Option<u32>,
+    line: &[u8],
+) -> Result<Statement, TextKind>
+    ensures { result ≡ statement_in vocabulary settings.now section line.now }
+{
+    let statement = statement_of(vocabulary, settings, line)?;
+    if !may_stand(section, statement) {
+        return Err(TextKind::BadOrder);
+    }
+    Ok(statement)
+}
+
+/// The fault of what stands behind the last line feed.
+#[tactic(auto, unfolding(crate::specs::Statements::fault_behind))]
+pub(crate) fn fault_behind(line: &[u8]) -> Option<TextKind>
+    ensures { result ≡ fault_behind line.now }
+{
+    if line.is_empty() {
+        return None;
+    }
+    if is_printable(line) {
+        Some(TextKind::Cut)
+    } else {
+        Some(TextKind::BadByte)
+    }
+}

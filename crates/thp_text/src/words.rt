@@ -1,0 +1,109 @@
+//! Words of a line, and words as numbers.
+ghost use Rattle.std.specs.Prelude.{◌≡◌, ◌≢◌, ◌==◌, ◌∷◌, [], ◌<◌, ◌^◌, ◌≤◌, ◌+◌, ◌*◌, ℕ, true, MatchOption, SomeIff, IfSome, IfNone, length, position};
+ghost use Rattle.std.specs.Fmt.{decimal};
+ghost use Rattle.std.specs.List.{list_all};
+ghost use Rattle.std.specs.Option.{option_copied};
+ghost use Rattle.std.specs.Char.{digit_value, is_ascii_digit};
+ghost use Rattle.std.specs.Str.Parse.{digits_value};
+ghost use Rattle.thp_text.specs.Words.{is_numeral, number_of, pieces_at, pieces_left, words_of};
+
+use std::marker::Model;
+
+fn place_of(byte: u8, text: &[u8]) -> Option<usize>
+    ensures { result ≡ position (λ b. b == byte) text.now }
+{
+    text.iter().position(|b| *b == byte)
+}
+
+/// The text up to the first separator, and what follows that separator, where there is one.
+pub(crate) fn cut_at(separator: u8, text: &[u8]) -> (&[u8], Option<&[u8]>)
+    ensures pieces { pieces_at separator text.now ≡ result.0.now ∷ pieces_left separator (option_copied result.1) }
+    ensures shorter { IfSome result.1 (λ rest. length rest.now < length text.now) }
+{
+    match place_of(separator, text) {
+        Some(place) => (&text[..place], Some(&text[place + 1..])),
+        None => (text, None),
+    }
+}
+
+/// The words of a line that are still to be read.
+#[derive(Drop)]
+pub(crate) struct Words<'a> {
+    // `None` once the last word was read.
+    rest: Option<&'a [u8]>,
+}
+
+impl<'a> Model for Words<'a> {
+    ghost use Rattle.std.specs.Prelude.{ℕ, List};
+    ghost use Rattle.std.specs.Option.{option_copied};
+    ghost use Rattle.thp_text.specs.Words.{pieces_left};
+
+    ghost Value = { List (List ℕ) };
+
+    ghost view = { λ words. pieces_left 32 (option_copied words.rest) };
+}
+
+impl<'a> Words<'a> {
+    pub(crate) fn of_line(line: &'a [u8]) -> Words<'a>
+        ensures { result ≡ words_of line.entry.now }
+    {
+        Words { rest: Some(line) }
+    }
+
+    /// The next word.
+    pub(crate) fn next(&mut self) -> Option<&'a [u8]>
+        ensures { MatchOption result ((self.old ≡ []) × (self.new ≡ [])) (λ word. self.old ≡ word.now ∷ self.new) }
+    {
+        let (word, rest) = cut_at(b' ', self.rest?);
+        self.rest = rest;
+        Some(word)
+    }
+}
+
+fn is_all_digits(word: &[u8]) -> bool
+    ensures { result ≡ list_all is_ascii_digit word.now }
+{
+    word.iter().all(|b| b.is_ascii_digit())
+}
+
+fn is_numeral(word: &[u8]) -> bool
+    ensures { result ≡ is_numeral word.now }
+{
+    is_all_digits(word) && !word.is_empty() && (word[0] != b'0' || word.len() == 1)
+}
+
+/// The number of the digits before this one and this one, where it fits.
+fn with_digit(before: u64, digit: u8) -> Option<u64>
+    requires { is_ascii_digit digit ≡ true }
+    ensures { SomeIff result (before * 10 + digit_value digit < 2 ^ 64) (before * 10 + digit_value digit) }
+{
+    before.checked_mul(10)?.checked_add(u64::from(digit - b'0'))
+}
+
+/// The value of a numeral, where it fits.
+fn value_of(word: &[u8]) -> Option<u64>
+    requires { is_numeral word.now ≡ true }
+    ensures { SomeIff result (digits_value 10 word.now < 2 ^ 64) (digits_value 10 word.now) }
+{
+    let mut value = 0;
+    for digit in word {
+        value = with_digit(value, *digit)?;
+    }
+    Some(value)
+}
+
+/// The number that a word writes in decimal, without a sign or a leading zero, where it is at most `most`.
+pub(crate) fn number(most: u64, word: &[u8]) -> Option<u64>
+    ensures value { result ≡ number_of most word.now }
+    ensures in_range { IfSome result (λ n. n ≤ most) }
+    ensures written { IfSome result (λ n. word.now ≡ decimal n) }
+    ensures refused { IfNone result ((n : ℕ) → n ≤ most → word.now ≢ decimal n) }
+{
+    if !is_numeral(word) {
+        return None;
+    }
+    match value_of(word) {
+        Some(value) if value <= most => Some(value),
+        _ => None,
+    }
+}

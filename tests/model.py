@@ -1,0 +1,273 @@
+"""A plain reading of docs/MODEL.md: what a node does, event by event. It shares no code with the program.
+
+A node is told one event at a time (`Node.alloc`, `Node.unmap_sub`, `Node.taken`, ..); each method does the event, writes its
+journal line and gives its answer, or raises `Refused` with the word of the refusal and changes nothing. An event that no
+call could have recorded at that place raises `Misfit`. The calls of the shrinker are made of such events.
+"""
+
+from collections import Counter
+
+MOST = 65_535
+
+
+class Refused(Exception):
+    """A call is refused; `str()` is the word."""
+
+
+class Misfit(Exception):
+    """No call records this event here."""
+
+
+def set_text(subpages):
+    """A set of subpages as its maximal runs in ascending order."""
+    runs = []
+    for i in sorted(subpages):
+        if runs and runs[-1][1] == i - 1:
+            runs[-1][1] = i
+        else:
+            runs.append([i, i])
+    return ",".join(str(a) if a == b else f"{a}-{b}" for a, b in runs) or "-"
+
+
+class Page:
+    def __init__(self, size):
+        self.whole, self.own, self.pins = 1, [0] * size, 0
+        self.is_split = self.is_partly = False
+        self.zero = set(range(size))
+
+    def total(self, i):
+        return self.whole + self.own[i]
+
+    def used(self):
+        return {i for i in range(len(self.own)) if self.total(i)}
+
+
+class Node:
+    def __init__(self, blocks, order=9, underused=None):
+        self.blocks, self.order, self.underused = blocks, order, underused
+        self.size = 2**order
+        self.live = {}  # pages by number
+        self.allocated = self.given = 0
+        self.queue, self.flights, self.closed = [], {}, False
+        self.counters = Counter()
+        self.journal, self.taker = [], None
+
+    # What the definitions name.
+
+    def held(self, page):
+        if not page.is_split:
+            return set(range(self.size))
+        return page.used() - page.zero if self.underused is not None else page.used()
+
+    def frames_held(self):
+        return sum(len(self.held(page)) for page in self.live.values())
+
+    def flight(self, caller):
+        return self.flights.setdefault(caller, [])
+
+    def worth_splitting(self, page):
+        return page.is_partly or (self.underused is not None and len(page.zero) > self.underused)
+
+    def record(self, caller, *words):
+        self.taker = caller if words[0] == "taken" else None
+        self.journal.append(" ".join(map(str, (caller, *words))))
+
+    # What is asked of one page.
+
+    def page(self, number, whole=False):
+        if number not in self.live:
+            raise Refused("no-page")
+        page = self.live[number]
+        if whole and page.is_split:
+            raise Refused("is-split")
+        return page
+
+    def range(self, first, count):
+        if count == 0 or first + count > self.size:
+            raise Refused("bad-range")
+        return range(first, first + count)
+
+    def alloc(self, caller):
+        if self.closed:
+            raise Refused("closed")
+        if len(self.live) == self.blocks:
+            raise Refused("no-block")
+        number, self.allocated = self.allocated, self.allocated + 1
+        self.live[number] = Page(self.size)
+        if self.underused is not None:
+            self.queue.append(number)
+        self.record(caller, "alloc", number)
+        return f"page {number}"
+
+    def map_whole(self, caller, number):
+        page = self.page(number, whole=True)
+        if any(page.total(i) == MOST for i in range(self.size)):
+            raise Refused("too-many")
+        page.whole += 1
+        self.record(caller, "mapwhole", number)
+        return "ok"
+
+    def map_sub(self, caller, number, first, count):
+        page = self.page(number)
+        subpages = self.range(first, count)
+        if page.is_split and not self.held(page).issuperset(subpages):
+            raise Refused("gone")
+        if any(page.total(i) == MOST for i in subpages):
+            raise Refused("too-many")
+        for i in subpages:
+            page.own[i] += 1
+        self.record(caller, "mapsub", number, first, count)
+        return "ok"
+
+    def split_pmd(self, caller, number):
+        page = self.page(number, whole=True)
+        if page.whole == 0:
+            raise Refused("not-mapped")
+        page.whole -= 1
+        page.own = [own + 1 for own in page.own]
+        self.counters["thp_split_pmd"] += 1
+        self.record(caller, "splitpmd", number)
+        return "ok"
+
+    def pin(self, caller, number):
+        page = self.page(number, whole=True)
+        if page.pins == MOST:
+            raise Refused("too-many")
+        page.pins += 1
+        self.record(caller, "pin", number)
+        return "ok"
+
+    def fill(self, caller, number, first, count, zero):
+        page = self.page(number)
+        subpages = self.range(first, count)
+        self.page(number, whole=True)
+        if any(page.total(i) == 0 for i in subpages):
+            raise Refused("not-mapped")
+        page.zero = page.zero | set(subpages) if zero else page.zero - set(subpages)
+        self.record(caller, "zero" if zero else "write", number, first, count)
+        return "ok"
+
+    def unmap_whole(self, caller, number):
+        page = self.page(number, whole=True)
+        if page.whole == 0:
+            raise Refused("not-mapped")
+        held, used = self.held(page), page.used()
+        page.whole -= 1
+        return self.lost(caller, number, held, used, "unmapwhole", number)
+
+    def unmap_sub(self, caller, number, first, count):
+        page = self.page(number)
+        subpages = self.range(first, count)
+        if any(page.own[i] == 0 for i in subpages):
+            raise Refused("not-mapped")
+        held, used = self.held(page), page.used()
+        for i in subpages:
+            page.own[i] -= 1
+        return self.lost(caller, number, held, used, "unmapsub", number, first, count)
+
+    def unpin(self, caller, number):
+        page = self.page(number, whole=True)
+        if page.pins == 0:
+            raise Refused("not-pinned")
+        page.pins -= 1
+        return self.lost(caller, number, self.held(page), page.used(), "unpin", number)
+
+    def lost(self, caller, number, held, used, *words):
+        """The outcome of an unmap or unpin after its change of counts, and the frames given back."""
+        page, left = self.live[number], self.live[number].used()
+        stands = number in self.queue or any(number in flight for flight in self.flights.values())
+        page.is_partly |= bool(left) and left < used
+        if not left and page.pins == 0:
+            outcome, after = "freed", set()
+            del self.live[number]
+            for pages in (self.queue, *self.flights.values()):
+                if number in pages:
+                    pages.remove(number)
+        else:
+            outcome, after = "stays", self.held(page)
+            if left and left < used and not (page.is_split or self.closed or stands):
+                outcome = "queued"
+                self.queue.append(number)
+                self.counters["thp_deferred_split_page"] += 1
+        self.given += len(held - after)
+        answer = f"{outcome} {set_text(held - after)}"
+        self.record(caller, *words, answer)
+        return answer
+
+    def close(self, caller):
+        if self.closed:
+            raise Refused("closed")
+        self.closed = True
+        self.record(caller, "close")
+        return "ok"
+
+    # The shrinker's events.
+
+    def taken(self, caller):
+        if not self.queue or (self.flight(caller) and self.taker != caller):
+            raise Misfit
+        self.flight(caller).append(self.queue.pop(0))
+        self.record(caller, "taken", self.flight(caller)[-1])
+        return self.flight(caller)[-1]
+
+    def tried(self, caller, number):
+        """Splits a page of the flight, finds it pinned, or finds it in full use."""
+        if number not in self.flight(caller):
+            raise Misfit
+        page = self.live[number]
+        if not self.worth_splitting(page):
+            self.flight(caller).remove(number)
+            self.record(caller, "used", number)
+            return "used"
+        if page.pins:
+            self.counters["thp_split_page_failed"] += 1
+            self.record(caller, "pinned", number)
+            return "pinned"
+        self.counters["thp_split_page"] += 1
+        self.counters["thp_split_pmd"] += page.whole
+        self.counters["thp_underused_split_page"] += not page.is_partly
+        held = self.held(page)
+        page.own, page.whole, page.is_split = [page.total(i) for i in range(self.size)], 0, True
+        released = held - self.held(page)
+        self.given += len(released)
+        self.flight(caller).remove(number)
+        self.record(caller, "split", number, set_text(released))
+        return "split"
+
+    def returned(self, caller):
+        """Puts the first page of the flight back, or drops it."""
+        if not self.flight(caller):
+            raise Misfit
+        number = self.flight(caller).pop(0)
+        back = not self.closed and self.live[number].is_partly
+        if back:
+            self.queue.append(number)
+        self.record(caller, "back" if back else "dropped", number)
+        return "back" if back else "dropped"
+
+    # The shrinker's calls.
+
+    def take(self, caller, most):
+        if self.flight(caller):
+            raise Refused("has-batch")
+        return [self.taken(caller) for _ in range(min(most, len(self.queue)))]
+
+    def scan(self, caller, most):
+        counts = Counter()
+        batch = self.take(caller, most)
+        for number in batch:
+            counts[self.tried(caller, number)] += 1
+        while self.flight(caller):
+            counts[self.returned(caller)] += 1
+        used = f" used {counts['used']}" if self.underused is not None else ""
+        return f"taken {len(batch)} split {counts['split']} pinned {counts['pinned']} back {counts['back']} dropped {counts['dropped']}{used}"
+
+    # Reports.
+
+    def totals(self, number):
+        names = ["thp_split_page", "thp_split_page_failed", "thp_deferred_split_page", "thp_split_pmd"]
+        if self.underused is not None:
+            names.append("thp_underused_split_page")
+        lines = [("node", number), ("pages", self.allocated), ("queue", len(self.queue)), ("frames_held", self.frames_held())]
+        lines += [("frames_given", self.given)] + [(name, self.counters[name]) for name in names]
+        return [f"{name} {value}" for name, value in lines]
