@@ -17,7 +17,7 @@ use Rattle.thp_model.specs.History.{History, by}
 use Rattle.thp_model.specs.Places.{queue}
 use Rattle.thp_model.specs.Refusals.{Call, refusal}
 use Rattle.thp_model.specs.Refusals as call
-use Rattle.thp_node.specs.declared.answers.Done.{Done}
+use Rattle.thp_places.specs.declared.page_call.Done.{Done}
 use Rattle.thp_node.specs.declared.answers.Tried.{Tried}
 use Rattle.thp_node.specs.declared.answers.BackReply.{BackReply}
 use Rattle.thp_node.specs.Batches.{BatchState, IsInFront, rest}
@@ -205,13 +205,13 @@ alloc_done p q bs c page same r =
     held_called p q bs c same (One op.Alloc) (reply.Page page) (DidAlloc p.shape c page) r
     (λ h own d. does_op p.shape h c op.Alloc _ own (reply.Page page) d.allowed (d.block, rw d.number at d.recorded, rw d.number refl))
 
-pub count_done : (p q : PassState) (bs : List (Option BatchState)) (c n : ℕ) → Follows p q → n ≡ length (queue q.front) → HeldAnswered c (One op.Count) (record { pass = p; batches = bs }) (record { pass = q; batches = bs }) (Ok (reply.Count n))
+pub count_done : (p q : PassState) (bs : List (Option BatchState)) (c n : ℕ) → Follows p q → n ≡ length (queue q.shape q.front) → HeldAnswered c (One op.Count) (record { pass = p; batches = bs }) (record { pass = q; batches = bs }) (Ok (reply.Count n))
 count_done p q bs c n f is = record {
   others = f.others.others;
   own = [];
   after = batch_of (record { pass = p; batches = bs }) c;
   acts = acts_followed p q bs c f.same f;
-  does = does_op p.shape (p.front ++ f.others.others) c op.Count _ [] (reply.Count n) refl (refl, rw (is, f.others.goes_on) refl);
+  does = does_op p.shape (p.front ++ f.others.others) c op.Count _ [] (reply.Count n) refl (refl, rw (is, ap (λ (x : PassState). x.shape) f.same, f.others.goes_on) refl);
 }
 
 pub op_failed : (p q : PassState) (bs : List (Option BatchState)) (c : ℕ) (o : Op) (m : ℕ) (fault : CellFault) → q ≡ at_front p q.front → Failed p q (refusal_of_op q.shape q.front o) m fault → HeldDone c (One o) (record { pass = p; batches = bs }) (record { pass = q; batches = bs }) (Err fault)
@@ -392,7 +392,7 @@ unfolding Does
 try_does s h c old new t own caller pages d =
     (rw caller at d.recorded, rw (d.answer, caller) refl, ap Some (open_batch new old old.pages _ pages (rw caller at d.rest_is)))
 
-back_does : (s : Shape) (h : History) (c : ℕ) (b : BatchState) (r : BackReply) (own : List Event) → b.caller ≡ c → DidPutBack b r h own → Does s h c (Some (open_of b)) PutBack own (Ok (reply.Back r)) None
+back_does : (s : Shape) (h : History) (c : ℕ) (b : BatchState) (r : BackReply) (own : List Event) → b.caller ≡ c → DidPutBack s b r h own → Does s h c (Some (open_of b)) PutBack own (Ok (reply.Back r)) None
 unfolding Does
 back_does s h c b r own caller d = (rw caller at d.recorded, rw (d.answer, caller) refl, refl)
 
@@ -445,11 +445,11 @@ module _ (p q : PassState) (bs new : List (Option BatchState)) (c place : ℕ) (
       rw (now, set_twice bs place None (Some b'))
       (held_changed p q bs c place same at lt (Some b') SplitNext (reply.Tried t) (DidTry p.shape b b' t) r' (λ h own d. rw is (try_does p.shape h c b b' t own caller pages d)))
 
-  pub back_held : (b : BatchState) (r : BackReply) → b.caller ≡ c → slice_get bs place ≡ Some (Some b) → new ≡ set bs place None → Called p q b.caller (DidPutBack b r)
+  pub back_held : (b : BatchState) (r : BackReply) → b.caller ≡ c → slice_get bs place ≡ Some (Some b) → new ≡ set bs place None → Called p q b.caller (DidPutBack p.shape b r)
       → HeldAnswered c PutBack (record { pass = p; batches = bs }) (record { pass = q; batches = new }) (Ok (reply.Back r))
   back_held b r caller is now called =
-      let r' : Called p q c (DidPutBack b r) = subst (λ d. Called p q d (DidPutBack b r)) caller called in
-      rw now (held_changed p q bs c place same at lt None PutBack (reply.Back r) (DidPutBack b r) r' (λ h own d. rw is (back_does p.shape h c b r own caller d)))
+      let r' : Called p q c (DidPutBack p.shape b r) = subst (λ d. Called p q d (DidPutBack p.shape b r)) caller called in
+      rw now (held_changed p q bs c place same at lt None PutBack (reply.Back r) (DidPutBack p.shape b r) r' (λ h own d. rw is (back_does p.shape h c b r own caller d)))
 
   put_again : (b b' : BatchState) → slice_get bs place ≡ Some (Some b) → b' ≡ b → new ≡ set (set bs place None) place (Some b') → new ≡ bs
   put_again b b' is e now = now ∙ set_twice bs place None (Some b') ∙ set_same bs place (Some b') (is ∙ ap (λ (x : BatchState). Some (Some x)) (sym e))

@@ -15,6 +15,7 @@ use Rattle.thp_model.specs.History.{History}
 use Rattle.thp_model.specs.Places.{queue}
 use Rattle.thp_model.specs.Refusals.{refusal}
 use Rattle.thp_model.specs.Refusals as call
+use Rattle.thp_model.specs.Underused.{is_worth_split}
 use Rattle.thp_model.specs.Runs.{take_events, next_page, rest_after}
 use Rattle.thp_node.specs.Batches.{tried}
 use Rattle.thp_node.specs.declared.answers.Tried.{Tried}
@@ -29,7 +30,7 @@ use Rattle.thp_work.specs.declared.scanning.Begun.{Begun}
 use Rattle.thp_work.specs.declared.scanning.Progress.{Progress}
 use Rattle.thp_work.specs.declared.scanning.Progress.TheVariants.{On, Ended}
 use Rattle.thp_work.specs.Does.{Open, Reaction, Does, Unless, IsStep, IsFit}
-use Rattle.thp_work.specs.Turns.{Told, Turned, IsBegun, StepReacts, Reacts, first_step, next_step, scan_step, goes_on, scan_goes_on, first_begun, counted, took, try_told, if_done, IsPage, is_split, is_pinned, IsReady, StaysReady}
+use Rattle.thp_work.specs.Turns.{Told, Turned, IsBegun, StepReacts, Reacts, first_step, next_step, scan_step, goes_on, scan_goes_on, first_begun, counted, took, try_told, if_done, IsPage, is_split, is_pinned, is_used, tries_of, IsReady, StaysReady}
 
 abbrev steps_in : Progress → ℕ
 steps_in (On begun) = begun.steps
@@ -44,11 +45,12 @@ first_turned n (Ok (reply.Taken t)) h = record {
 }
 first_turned n (Ok _) h = absurd h
 
--- each page that was tried was split or pinned
-counts_tries : (tries : List Tried) → All IsPage tries → length (filter is_split tries) + length (filter is_pinned tries) ≡ length tries
+-- each page that was tried was split, pinned or in use
+counts_tries : (tries : List Tried) → All IsPage tries → length (filter is_split tries) + length (filter is_pinned tries) + length (filter is_used tries) ≡ length tries
 counts_tries [] all = refl
 counts_tries (try.Split p ∷ tries) all = let more = counts_tries tries (All-tail IsPage (try.Split p) tries all) in omega arith
 counts_tries (try.Pinned p ∷ tries) all = let more = counts_tries tries (All-tail IsPage (try.Pinned p) tries all) in omega arith
+counts_tries (try.Used p ∷ tries) all = let more = counts_tries tries (All-tail IsPage (try.Used p) tries all) in omega arith
 counts_tries (try.Done ∷ tries) all = absurd (All-head IsPage try.Done tries all)
 
 step_is_try : (n steps tries : ℕ) → steps ≡ 1 + tries → scan_step n steps tries ≡ SplitNext
@@ -86,11 +88,18 @@ try_turned n taken tries begun told (Err why) pages count steps counts h = absur
 try_turned n taken tries begun told (Ok (reply.Tried (try.Split p))) pages count steps counts h =
     let splits : length (filter is_split tries) + 1 ≡ length (filter is_split (tries ++ try.Split p ∷ [])) = omega (arith, counts_push is_split tries (try.Split p)) in
     let pins : length (filter is_pinned tries) ≡ length (filter is_pinned (tries ++ try.Split p ∷ [])) = omega (arith, counts_push is_pinned tries (try.Split p)) in
-    page_turned n taken tries begun told (try.Split p) _ pages tt count steps (rw counts (λ i. record { taken = taken; split = splits i; pinned = pins i; back = 0; dropped = 0 }))
+    let uses : length (filter is_used tries) ≡ length (filter is_used (tries ++ try.Split p ∷ [])) = omega (arith, counts_push is_used tries (try.Split p)) in
+    page_turned n taken tries begun told (try.Split p) _ pages tt count steps (rw counts (λ i. record { taken = taken; split = splits i; pinned = pins i; back = 0; dropped = 0; used = uses i }))
 try_turned n taken tries begun told (Ok (reply.Tried (try.Pinned p))) pages count steps counts h =
     let splits : length (filter is_split tries) ≡ length (filter is_split (tries ++ try.Pinned p ∷ [])) = omega (arith, counts_push is_split tries (try.Pinned p)) in
     let pins : length (filter is_pinned tries) + 1 ≡ length (filter is_pinned (tries ++ try.Pinned p ∷ [])) = omega (arith, counts_push is_pinned tries (try.Pinned p)) in
-    page_turned n taken tries begun told (try.Pinned p) _ pages tt count steps (rw counts (λ i. record { taken = taken; split = splits i; pinned = pins i; back = 0; dropped = 0 }))
+    let uses : length (filter is_used tries) ≡ length (filter is_used (tries ++ try.Pinned p ∷ [])) = omega (arith, counts_push is_used tries (try.Pinned p)) in
+    page_turned n taken tries begun told (try.Pinned p) _ pages tt count steps (rw counts (λ i. record { taken = taken; split = splits i; pinned = pins i; back = 0; dropped = 0; used = uses i }))
+try_turned n taken tries begun told (Ok (reply.Tried (try.Used p))) pages count steps counts h =
+    let splits : length (filter is_split tries) ≡ length (filter is_split (tries ++ try.Used p ∷ [])) = omega (arith, counts_push is_split tries (try.Used p)) in
+    let pins : length (filter is_pinned tries) ≡ length (filter is_pinned (tries ++ try.Used p ∷ [])) = omega (arith, counts_push is_pinned tries (try.Used p)) in
+    let uses : length (filter is_used tries) + 1 ≡ length (filter is_used (tries ++ try.Used p ∷ [])) = omega (arith, counts_push is_used tries (try.Used p)) in
+    page_turned n taken tries begun told (try.Used p) _ pages tt count steps (rw counts (λ i. record { taken = taken; split = splits i; pinned = pins i; back = 0; dropped = 0; used = uses i }))
 try_turned n taken tries begun told (Ok (reply.Tried try.Done)) pages count steps counts h = record {
   count = rw (length-append told (try_told try.Done ∷ []), count) refl;
   so_far = inr (record {
@@ -119,12 +128,12 @@ scanning_turned : (n : ℕ) (begun : Begun) (answer : Reaction) (told : List Tol
     → Turned (op.Scan n) (told ++ record { step = next_step (op.Scan n) begun; answer = answer } ∷ []) (scan_goes_on begun answer)
 scanning_turned n begun answer told taken tries false pages count steps counts reacts =
     let made : begun.steps ≡ 1 + length tries = rw (count, steps, append-nil (map try_told tries), length-map tries try_told) (omega arith) in
-    let all : begun.so_far.split + begun.so_far.pinned ≡ length tries = rw counts (counts_tries tries pages) in
+    let all : tries_of begun.so_far ≡ length tries = rw counts (counts_tries tries pages) in
     let next : next_step (op.Scan n) begun ≡ SplitNext = step_is_try n begun.steps _ (omega (arith, made, all)) in
     rw next (try_turned n taken tries begun told answer pages count steps counts (rw next at reacts))
 scanning_turned n begun answer told taken tries true pages count steps counts reacts =
     let made : begun.steps ≡ 2 + length tries = rw (count, steps, length-append (map try_told tries) (try_told try.Done ∷ []), length-map tries try_told) (omega arith) in
-    let all : begun.so_far.split + begun.so_far.pinned ≡ length tries = rw counts (counts_tries tries pages) in
+    let all : tries_of begun.so_far ≡ length tries = rw counts (counts_tries tries pages) in
     let next : next_step (op.Scan n) begun ≡ PutBack = step_is_back n begun.steps _ (omega (arith, made, all)) in
     rw next (back_turned n taken tries begun told answer pages steps counts (rw next at reacts))
 
@@ -199,18 +208,17 @@ fewer_behind : (test : ℕ → Bool) (xs : List ℕ) (p : ℕ) → find test xs 
 fewer_behind test xs p e = omega (arith, length-drop (position_or_len test xs + 1) xs, some_left test xs p e)
 
 -- a try leaves the scan ready
-try_ready : (h : History) (page : Option ℕ) (begun : Begun) (pages left behind : List ℕ) → begun.steps ≡ 1 + (begun.so_far.split + begun.so_far.pinned) → begun.so_far.split + begun.so_far.pinned + length left ≤ 128
-    → length behind ≤ length left → ((p : ℕ) → page ≡ Some p → length behind < length left) → StaysReady (Some (record { pages = pages; left = behind })) (scan_goes_on begun (Ok (reply.Tried (tried h page))))
-try_ready h None begun pages left behind at few less fewer = inr (record { open_batch = record { pages = pages; left = behind }; is = refl; few = omega (arith, few, less); short = omega (arith, at) })
-try_ready h (Some p) begun pages left behind at few less fewer =
+try_ready : (s : Shape) (h : History) (page : Option ℕ) (begun : Begun) (pages left behind : List ℕ) → begun.steps ≡ 1 + tries_of begun.so_far → tries_of begun.so_far + length left ≤ 128
+    → length behind ≤ length left → ((p : ℕ) → page ≡ Some p → length behind < length left) → StaysReady (Some (record { pages = pages; left = behind })) (scan_goes_on begun (Ok (reply.Tried (tried s h page))))
+try_ready s h None begun pages left behind at few less fewer = inr (record { open_batch = record { pages = pages; left = behind }; is = refl; few = omega (arith, few, less); short = omega (arith, at) })
+try_ready s h (Some p) begun pages left behind at few less fewer =
     let gone = fewer p refl in
-    by_cases (nat_eq (pins h p) 0) (omega (arith, few, gone)) (omega (arith, few, gone)) (omega (arith, at)) (omega (arith, at))
+    by_cases (is_worth_split s h p) (nat_eq (pins h p) 0) gone
   where
-    by_cases : (b : Bool) → begun.so_far.split + 1 + begun.so_far.pinned + length behind ≤ 128 → begun.so_far.split + (begun.so_far.pinned + 1) + length behind ≤ 128
-        → begun.steps + 1 ≤ 2 + (begun.so_far.split + 1) + begun.so_far.pinned → begun.steps + 1 ≤ 2 + begun.so_far.split + (begun.so_far.pinned + 1)
-        → StaysReady (Some (record { pages = pages; left = behind })) (scan_goes_on begun (Ok (reply.Tried (cond b (try.Split p) (try.Pinned p)))))
-    by_cases true split pinned short-split short-pinned = inr (record { open_batch = record { pages = pages; left = behind }; is = refl; few = split; short = short-split })
-    by_cases false split pinned short-split short-pinned = inr (record { open_batch = record { pages = pages; left = behind }; is = refl; few = pinned; short = short-pinned })
+    by_cases : (worth free : Bool) → length behind < length left → StaysReady (Some (record { pages = pages; left = behind })) (scan_goes_on begun (Ok (reply.Tried (cond worth (cond free (try.Split p) (try.Pinned p)) (try.Used p)))))
+    by_cases true true gone = inr (record { open_batch = record { pages = pages; left = behind }; is = refl; few = omega (arith, few, gone); short = omega (arith, at) })
+    by_cases true false gone = inr (record { open_batch = record { pages = pages; left = behind }; is = refl; few = omega (arith, few, gone); short = omega (arith, at) })
+    by_cases false free gone = inr (record { open_batch = record { pages = pages; left = behind }; is = refl; few = omega (arith, few, gone); short = omega (arith, at) })
 
 -- what a step of a scan is answered, and how it leaves the scan
 abbrev Fares : Step → Begun → Reaction → Option Open → Type 0
@@ -221,17 +229,17 @@ unfolding Does
 take_fares s h c n (Some b) begun own answer after le first does = rw does.1 (tt, tt)
 take_fares s h c n None begun own answer after le first does = by_refusal (refusal s h (call.take c)) does
   where
-    by_refusal : (why : Option Refusal) → Unless why own answer None after ((own ≡ take_events h c n) × (answer ≡ Ok (reply.Taken (length (take n (queue h))))) × (after ≡ Some (record { pages = take n (queue h); left = take n (queue h) })))
+    by_refusal : (why : Option Refusal) → Unless why own answer None after ((own ≡ take_events s h c n) × (answer ≡ Ok (reply.Taken (length (take n (queue s h))))) × (after ≡ Some (record { pages = take n (queue s h); left = take n (queue s h) })))
         → Fares (Take n) begun answer after
     by_refusal (Some why) d = rw d.1 (tt, tt)
     by_refusal None d =
-        rw (d.1, d.2, first refl) (tt, inr (record { open_batch = record { pages = take n (queue h); left = take n (queue h) }; is = refl; few = omega (arith, length-take n (queue h), le); short = omega arith }))
+        rw (d.1, d.2, first refl) (tt, inr (record { open_batch = record { pages = take n (queue s h); left = take n (queue s h) }; is = refl; few = omega (arith, length-take n (queue s h), le); short = omega arith }))
 
-next_fares : (s : Shape) (h : History) (c : ℕ) (b : Open) (begun : Begun) (own : List Event) (answer : Reaction) (after : Option Open) → begun.steps ≡ 1 + (begun.so_far.split + begun.so_far.pinned) → begun.so_far.split + begun.so_far.pinned + length b.left ≤ 128
+next_fares : (s : Shape) (h : History) (c : ℕ) (b : Open) (begun : Begun) (own : List Event) (answer : Reaction) (after : Option Open) → begun.steps ≡ 1 + tries_of begun.so_far → tries_of begun.so_far + length b.left ≤ 128
     → Does s h c (Some b) SplitNext own answer after → Fares SplitNext begun answer after
 unfolding Does
 next_fares s h c b begun own answer after at few does =
-    rw (does.1, does.2) (tt, try_ready h (next_page h c b.left) begun b.pages b.left (rest_after h c b.left) at few (left_behind _ b.left) (λ p e. fewer_behind _ b.left p e))
+    rw (does.1, does.2) (tt, try_ready s h (next_page h c b.left) begun b.pages b.left (rest_after h c b.left) at few (left_behind _ b.left) (λ p e. fewer_behind _ b.left p e))
 
 back_fares : (s : Shape) (h : History) (c : ℕ) (b : Open) (begun : Begun) (own : List Event) (answer : Reaction) (after : Option Open) → Does s h c (Some b) PutBack own answer after → Fares PutBack begun answer after
 unfolding Does
@@ -246,15 +254,15 @@ scan_fares s h c n batch begun own answer after le ready does =
           let fares : Fares (Take n) first_begun answer after = take_fares s h c n batch first_begun own answer after le (λ e. refl) at in
           rw first fares
       | inr holds ↦
-          let tries : ℕ = begun.so_far.split + begun.so_far.pinned in
+          let tries : ℕ = tries_of begun.so_far in
           let at : Does s h c (Some holds.open_batch) (scan_step n begun.steps tries) own answer after = rw holds.is at does in
           by_place holds.open_batch holds.few (begun.steps == 0) (begun.steps == 1 + tries) refl at
     ]
   where
-    by_place : (b : Open) → begun.so_far.split + begun.so_far.pinned + length b.left ≤ 128 → (first next : Bool) → (begun.steps == 1 + (begun.so_far.split + begun.so_far.pinned)) ≡ next → Does s h c (Some b) (cond first (Take n) (cond next SplitNext PutBack)) own answer after
+    by_place : (b : Open) → tries_of begun.so_far + length b.left ≤ 128 → (first next : Bool) → (begun.steps == 1 + tries_of begun.so_far) ≡ next → Does s h c (Some b) (cond first (Take n) (cond next SplitNext PutBack)) own answer after
         → Fares (cond first (Take n) (cond next SplitNext PutBack)) begun answer after
     by_place b few true next e d = take_fares s h c n (Some b) begun own answer after le (λ f. absurd (cc)) d
-    by_place b few false true e d = next_fares s h c b begun own answer after (eqb-true begun.steps (1 + (begun.so_far.split + begun.so_far.pinned)) e) few d
+    by_place b few false true e d = next_fares s h c b begun own answer after (eqb-true begun.steps (1 + tries_of begun.so_far) e) few d
     by_place b few false false e d = back_fares s h c b begun own answer after d
 
 -- a step of a command, and how it leaves the command
@@ -280,6 +288,7 @@ scan_longer : (begun more : Begun) (answer : Reaction) → scan_goes_on begun an
 scan_longer begun more (Ok (reply.Taken t)) e = sym (ap steps_in e)
 scan_longer begun more (Ok (reply.Tried (try.Split p))) e = sym (ap steps_in e)
 scan_longer begun more (Ok (reply.Tried (try.Pinned p))) e = sym (ap steps_in e)
+scan_longer begun more (Ok (reply.Tried (try.Used p))) e = sym (ap steps_in e)
 scan_longer begun more (Ok (reply.Tried try.Done)) e = sym (ap steps_in e)
 scan_longer begun more _ e = absurd (cc)
 
@@ -288,5 +297,5 @@ longer (op.Scan n) begun more answer e = scan_longer begun more answer e
 longer _ begun more answer e = absurd (cc)
 
 -- a command that can go on has few steps yet
-pub few_steps : (batch : Option Open) (begun : Begun) → IsReady batch begun → (begun.steps ≤ 130) × (begun.so_far.split + begun.so_far.pinned ≤ 128)
+pub few_steps : (batch : Option Open) (begun : Begun) → IsReady batch begun → (begun.steps ≤ 130) × (tries_of begun.so_far ≤ 128)
 few_steps batch begun ready = elim ready [ inl first ↦ rw first (omega arith, omega arith) | inr h ↦ (omega (arith, h.few, h.short), omega (arith, h.few)) ]

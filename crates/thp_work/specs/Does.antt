@@ -13,7 +13,7 @@ use Rattle.thp_model.specs.Places.{queue}
 use Rattle.thp_model.specs.Refusals.{Call, refusal}
 use Rattle.thp_model.specs.Refusals as call
 use Rattle.thp_model.specs.Runs.{take_events, split_next_events, put_back_events, next_page, rest_after, still_flying}
-use Rattle.thp_node.specs.declared.answers.Done.{Done}
+use Rattle.thp_places.specs.declared.page_call.Done.{Done}
 use Rattle.thp_node.specs.Batches.{BatchState, rest, tried, back_reply}
 use Rattle.thp_work.specs.declared.op.Op.{Op}
 use Rattle.thp_work.specs.declared.op.Op.TheVariants as op
@@ -64,14 +64,14 @@ DoesLoss c w own answer = (d : Done) × (own ≡ by c (w d.outcome d.released) �
 abbrev pub DoesOp : Shape → History → ℕ → Op → List Event → Reaction → Type 0
 DoesOp s h c op.Alloc own answer = (block : ℕ) × (own ≡ by c (what.Alloc (allocations h) block) ∷ []) × (answer ≡ Ok (reply.Page (allocations h)))
 DoesOp s h c (op.MapWhole p) own answer = DoesOne c (what.MapWhole p) own answer
-DoesOp s h c (op.UnmapWhole p) own answer = DoesLoss c (what.UnmapWhole p) own answer
+DoesOp s h c (op.UnmapWhole p) own answer = DoesLoss c (λ o set. what.UnmapWhole o p set) own answer
 DoesOp s h c (op.Map first count p) own answer = DoesOne c (what.MapSub p first count) own answer
-DoesOp s h c (op.Unmap first count p) own answer = DoesLoss c (what.UnmapSub p first count) own answer
+DoesOp s h c (op.Unmap first count p) own answer = DoesLoss c (λ o set. what.UnmapSub o p first count set) own answer
 DoesOp s h c (op.SplitPmd p) own answer = DoesOne c (what.SplitPmd p) own answer
 DoesOp s h c (op.Pin p) own answer = DoesOne c (what.Pin p) own answer
-DoesOp s h c (op.Unpin p) own answer = DoesLoss c (what.Unpin p) own answer
+DoesOp s h c (op.Unpin p) own answer = DoesLoss c (λ o set. what.Unpin o p set) own answer
 DoesOp s h c op.Close own answer = DoesOne c what.Close own answer
-DoesOp s h c op.Count own answer = (own ≡ []) × (answer ≡ Ok (reply.Count (length (queue h))))
+DoesOp s h c op.Count own answer = (own ≡ []) × (answer ≡ Ok (reply.Count (length (queue s h))))
 DoesOp s h c _ own answer = ⊥
 
 -- nothing happens, and this is the answer
@@ -90,13 +90,13 @@ Does s h c batch (One o) own answer after = Unless (refusal_of_op s h o) own ans
 Does s h c (Some b) (Take n) own answer after = Nothing (Some b) own answer after (Err HasBatch)
 Does s h c None (Take n) own answer after =
     Unless (refusal s h (call.take c)) own answer None after
-    ((own ≡ take_events h c n) × (answer ≡ Ok (reply.Taken (length (take n (queue h))))) × (after ≡ Some (record { pages = take n (queue h); left = take n (queue h) })))
+    ((own ≡ take_events s h c n) × (answer ≡ Ok (reply.Taken (length (take n (queue s h))))) × (after ≡ Some (record { pages = take n (queue s h); left = take n (queue s h) })))
 Does s h c None SplitNext own answer after = Nothing None own answer after (Ok reply.NoBatch)
 Does s h c (Some b) SplitNext own answer after =
-    (own ≡ split_next_events s h c b.left) × (answer ≡ Ok (reply.Tried (tried h (next_page h c b.left)))) × (after ≡ Some (record { pages = b.pages; left = rest_after h c b.left }))
+    (own ≡ split_next_events s h c b.left) × (answer ≡ Ok (reply.Tried (tried s h (next_page h c b.left)))) × (after ≡ Some (record { pages = b.pages; left = rest_after h c b.left }))
 Does s h c None PutBack own answer after = Nothing None own answer after (Ok reply.NoBatch)
 Does s h c (Some b) PutBack own answer after =
-    (own ≡ put_back_events h c b.pages) × (answer ≡ Ok (reply.Back (back_reply h (still_flying h c b.pages)))) × (after ≡ None)
+    (own ≡ put_back_events s h c b.pages) × (answer ≡ Ok (reply.Back (back_reply s h (still_flying h c b.pages)))) × (after ≡ None)
 
 -- a command that is one call of the node, and needs no batch
 abbrev pub IsPlain : Op → Type 0

@@ -52,9 +52,13 @@ abbrev pub is_pinned : Tried → Bool
 is_pinned (tried.Pinned p) = true
 is_pinned _ = false
 
+abbrev pub is_used : Tried → Bool
+is_used (tried.Used p) = true
+is_used _ = false
+
 -- what a scan counts of its take and its tries
 abbrev pub counted : ℕ → List Tried → ScanReply
-counted taken tries = record { taken = taken; split = length (filter is_split tries); pinned = length (filter is_pinned tries); back = 0; dropped = 0 }
+counted taken tries = record { taken = taken; split = length (filter is_split tries); pinned = length (filter is_pinned tries); back = 0; dropped = 0; used = length (filter is_used tries) }
 
 -- a scan that was done: a take, tries until there is no page, and a put-back
 pub record ScanDone (n : ℕ) (told : List Told) (answer : Reaction) : Type 0 where
@@ -102,11 +106,15 @@ pub record IsBegun (o : Op) (told : List Told) (begun : Begun) : Type 0 where
 
 -- ---- how the code goes from step to step
 
+-- how many pages a scan has tried
+abbrev pub tries_of : ScanReply → ℕ
+tries_of r = r.split + r.pinned + r.used
+
 abbrev pub scan_step : ℕ → ℕ → ℕ → Step
 scan_step n steps tries = if nat_eq steps 0 then Take n else if nat_eq steps (1 + tries) then SplitNext else PutBack
 
 abbrev pub next_step : Op → Begun → Step
-next_step (op.Scan n) begun = scan_step n begun.steps (begun.so_far.split + begun.so_far.pinned)
+next_step (op.Scan n) begun = scan_step n begun.steps (tries_of begun.so_far)
 next_step o begun = first_step o
 
 -- what a step of a scan can be answered
@@ -128,6 +136,7 @@ abbrev pub scan_goes_on : Begun → Reaction → Progress
 scan_goes_on begun (Ok (reply.Taken taken)) = one_more begun (record begun.so_far { taken = taken })
 scan_goes_on begun (Ok (reply.Tried (tried.Split p))) = one_more begun (record begun.so_far { split = begun.so_far.split + 1 })
 scan_goes_on begun (Ok (reply.Tried (tried.Pinned p))) = one_more begun (record begun.so_far { pinned = begun.so_far.pinned + 1 })
+scan_goes_on begun (Ok (reply.Tried (tried.Used p))) = one_more begun (record begun.so_far { used = begun.so_far.used + 1 })
 scan_goes_on begun (Ok (reply.Tried tried.Done)) = one_more begun begun.so_far
 scan_goes_on begun (Ok (reply.Back back)) = Ended (Ok (reply.Scan (record begun.so_far { back = back.back; dropped = back.dropped })))
 scan_goes_on begun answer = Ended answer
@@ -146,8 +155,8 @@ Turned o told (Ended answer) = TurnsOut o told answer
 pub record Holding (batch : Option Open) (begun : Begun) : Type 0 where
   pub open_batch : Open
   pub is : batch ≡ Some open_batch
-  pub few : begun.so_far.split + begun.so_far.pinned + length open_batch.left ≤ 128
-  pub short : begun.steps ≤ 2 + begun.so_far.split + begun.so_far.pinned
+  pub few : tries_of begun.so_far + length open_batch.left ≤ 128
+  pub short : begun.steps ≤ 2 + tries_of begun.so_far
 
 -- a command that can go on
 abbrev pub IsReady : Option Open → Begun → Type 0

@@ -1,6 +1,6 @@
 //! How far the steps of a command are.
 ghost use Rattle.std.specs.Prelude.{◌≡◌, ◌+◌, ◌≤◌};
-ghost use Rattle.thp_work.specs.Turns.{first_begun, goes_on, next_step, scan_goes_on};
+ghost use Rattle.thp_work.specs.Turns.{first_begun, goes_on, next_step, scan_goes_on, tries_of};
 
 use crate::op::{Op, Step};
 use crate::reply::Reply;
@@ -33,20 +33,21 @@ pub(crate) fn first_begun() -> Begun
             pinned: 0,
             back: 0,
             dropped: 0,
+            used: 0,
         },
     }
 }
 
 /// The next step of a command.
 pub(crate) fn next_step(op: Op, begun: Begun) -> Step
-    requires { begun.so_far.split + begun.so_far.pinned ≤ 128 }
+    requires { tries_of begun.so_far ≤ 128 }
     ensures { result ≡ next_step op begun }
 {
     match op {
         Op::Scan { count } => {
             if begun.steps == 0 {
                 Step::Take(u32::from(count))
-            } else if begun.steps == 1 + begun.so_far.split + begun.so_far.pinned {
+            } else if begun.steps == 1 + tries(&begun.so_far) {
                 Step::SplitNext
             } else {
                 Step::PutBack
@@ -59,9 +60,17 @@ pub(crate) fn next_step(op: Op, begun: Begun) -> Step
     }
 }
 
+/// How many pages a scan has tried.
+fn tries(so_far: &ScanReply) -> u32
+    requires { tries_of so_far.now ≤ 128 }
+    ensures { result ≡ tries_of so_far.now }
+{
+    so_far.split + so_far.pinned + so_far.used
+}
+
 /// How a command goes on by the answer of its next step.
 pub(crate) fn go_on(op: Op, begun: Begun, answer: Result<Reply, Refusal>) -> Progress
-    requires few { begun.so_far.split + begun.so_far.pinned ≤ 128 }
+    requires few { tries_of begun.so_far ≤ 128 }
     requires short { begun.steps ≤ 130 }
     ensures { result ≡ goes_on op begun answer }
 {
@@ -72,7 +81,7 @@ pub(crate) fn go_on(op: Op, begun: Begun, answer: Result<Reply, Refusal>) -> Pro
 }
 
 fn scan_goes_on(begun: Begun, answer: Result<Reply, Refusal>) -> Progress
-    requires few { begun.so_far.split + begun.so_far.pinned ≤ 128 }
+    requires few { tries_of begun.so_far ≤ 128 }
     requires short { begun.steps ≤ 130 }
     ensures { result ≡ scan_goes_on begun answer }
 {
@@ -85,6 +94,10 @@ fn scan_goes_on(begun: Begun, answer: Result<Reply, Refusal>) -> Progress
         },
         Ok(Reply::Tried(Tried::Pinned(_))) => ScanReply {
             pinned: so_far.pinned + 1,
+            ..so_far
+        },
+        Ok(Reply::Tried(Tried::Used(_))) => ScanReply {
+            used: so_far.used + 1,
             ..so_far
         },
         Ok(Reply::Tried(Tried::Done)) => so_far,

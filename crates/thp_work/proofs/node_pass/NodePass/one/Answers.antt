@@ -52,7 +52,7 @@ returns-in-MapWhole c =
 pub returns-in-UnmapWhole : goal.returns-in-UnmapWhole
 returns-in-UnmapWhole c =
     rw (c.in-UnmapWhole.is, ← c.self-in-UnmapWhole.view_is, c.loss.ensures)
-    (loss_done c.self-in-UnmapWhole.inside.pass c.unmap_whole.new.pass c.self-in-UnmapWhole.inside.batches.items c.args.caller c.in-UnmapWhole.page (op.UnmapWhole c.in-UnmapWhole.page) (what.UnmapWhole c.in-UnmapWhole.page) c.unmap_whole.result 1 (call.unmap_whole c.in-UnmapWhole.page) c.unmap_whole.ensures.same c.unmap_whole.ensures.recorded c.unmap_whole.ensures.failed (λ s h. refl) (λ s h own d e. (d, e, refl)))
+    (loss_done c.self-in-UnmapWhole.inside.pass c.unmap_whole.new.pass c.self-in-UnmapWhole.inside.batches.items c.args.caller c.in-UnmapWhole.page (op.UnmapWhole c.in-UnmapWhole.page) (λ o set. what.UnmapWhole o c.in-UnmapWhole.page set) c.unmap_whole.result 1 (call.unmap_whole c.in-UnmapWhole.page) c.unmap_whole.ensures.same c.unmap_whole.ensures.recorded c.unmap_whole.ensures.failed (λ s h. refl) (λ s h own d e. (d, e, refl)))
 
 pub returns-in-SplitPmd : goal.returns-in-SplitPmd
 returns-in-SplitPmd c =
@@ -67,7 +67,7 @@ returns-in-Pin c =
 pub returns-in-Unpin : goal.returns-in-Unpin
 returns-in-Unpin c =
     rw (c.in-Unpin.is, ← c.self-in-Unpin.view_is, c.loss-in-Unpin.ensures)
-    (loss_done c.self-in-Unpin.inside.pass c.unpin.new.pass c.self-in-Unpin.inside.batches.items c.args.caller c.in-Unpin.page (op.Unpin c.in-Unpin.page) (what.Unpin c.in-Unpin.page) c.unpin.result 1 (call.unpin c.in-Unpin.page) c.unpin.ensures.same c.unpin.ensures.recorded c.unpin.ensures.failed (λ s h. refl) (λ s h own d e. (d, e, refl)))
+    (loss_done c.self-in-Unpin.inside.pass c.unpin.new.pass c.self-in-Unpin.inside.batches.items c.args.caller c.in-Unpin.page (op.Unpin c.in-Unpin.page) (λ o set. what.Unpin o c.in-Unpin.page set) c.unpin.result 1 (call.unpin c.in-Unpin.page) c.unpin.ensures.same c.unpin.ensures.recorded c.unpin.ensures.failed (λ s h. refl) (λ s h own d e. (d, e, refl)))
 
 pub returns-in-Close : goal.returns-in-Close
 returns-in-Close c =
