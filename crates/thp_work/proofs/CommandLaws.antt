@@ -2,7 +2,7 @@
 use Rattle.std.proofs.Common.{◌≡◌, ◌++◌, ℕ, [], ◌∷◌, refl, append_assoc}
 use Rattle.std.proofs.lemmas.List.{append-nil, map-append}
 use Rattle.std.proofs.lemmas.List.Elements.{All-nil, All-push}
-use Rattle.thp_work.specs.declared.op.Command.{Command}
+use Rattle.thp_text.specs.declared.script.Command.{Command}
 use Rattle.thp_work.specs.declared.scanning.Begun.{Begun}
 use Rattle.thp_work.specs.declared.scanning.Progress.TheVariants.{On}
 use Rattle.thp_work.specs.Does.{Reaction, IsFit}

@@ -5,7 +5,7 @@ use Rattle.std.specs.declared.alloc.Global.{Global}
 use Rattle.thp_model.specs.History.{History, events_of}
 use Rattle.thp_model.specs.Legal.{IsLegal}
 use Rattle.thp_cell.proofs.Fronts.{all_front, all_back}
-use Rattle.thp_work.specs.declared.op.Command.{Command}
+use Rattle.thp_text.specs.declared.script.Command.{Command}
 use Rattle.thp_work.specs.declared.reply.Answer.{Answer}
 use Rattle.thp_work.specs.declared.reply.Rest.{Rest}
 use Rattle.thp_work.specs.declared.reply.Worked.{Worked}

@@ -27,10 +27,10 @@ use Rattle.thp_cell.specs.declared.fault.CellFault.TheVariants.{Busy, Refused}
 use Rattle.thp_cell.specs.Calls.{at_front, BatchesStay, OtherBatchesStay, Called, Failed, Follows}
 use Rattle.thp_cell.specs.Says.{DidOne, DidAlloc, DidLose, DidTake, DidTry, DidPutBack}
 use Rattle.thp_cell.specs.Views.{PassState, HasCaller}
-use Rattle.thp_work.specs.declared.op.Op.{Op}
-use Rattle.thp_work.specs.declared.op.Op.TheVariants as op
-use Rattle.thp_work.specs.declared.op.Step.{Step}
-use Rattle.thp_work.specs.declared.op.Step.TheVariants.{One, Take, SplitNext, PutBack}
+use Rattle.thp_text.specs.declared.script.Op.{Op}
+use Rattle.thp_text.specs.declared.script.Op.TheVariants as op
+use Rattle.thp_work.specs.declared.steps.Step.{Step}
+use Rattle.thp_work.specs.declared.steps.Step.TheVariants.{One, Take, SplitNext, PutBack}
 use Rattle.thp_work.specs.declared.reply.Reply.{Reply}
 use Rattle.thp_work.specs.declared.reply.Reply.TheVariants as reply
 use Rattle.thp_work.specs.Does.{Open, Reaction, Does, DoesOp, open_of, refusal_of, refusal_of_op}

@@ -10,7 +10,7 @@ use Rattle.thp_cell.specs.declared.fault.CellFault.TheVariants.{Busy, Refused}
 use Rattle.thp_cell.specs.Calls.{at_front}
 use Rattle.thp_cell.specs.Views.{PassState}
 use Rattle.thp_cell.specs.Views as cell
-use Rattle.thp_work.specs.declared.op.Step.{Step}
+use Rattle.thp_work.specs.declared.steps.Step.{Step}
 use Rattle.thp_work.specs.declared.reply.Reply.{Reply}
 use Rattle.thp_work.specs.Does.{Open, Reaction}
 use Rattle.thp_work.specs.Fronts.{Fronts, Moves, Answered, OutOf, IsBusy, StepDone, Goes}

@@ -8,9 +8,9 @@ use Rattle.std.proofs.lemmas.Bool.{cases_lt}
 use Rattle.std.proofs.lemmas.Option.{slice_get_past}
 use Rattle.std.proofs.lemmas.Grind.{flat_map-append}
 use Rattle.std.proofs.lemmas.List.Elements.{All-nil, All-push, All-append}
-use Rattle.thp_work.specs.declared.op.Command.{Command}
-use Rattle.thp_work.specs.declared.op.Op.{Op}
-use Rattle.thp_work.specs.declared.op.Op.TheVariants as op
+use Rattle.thp_text.specs.declared.script.Command.{Command}
+use Rattle.thp_text.specs.declared.script.Op.{Op}
+use Rattle.thp_text.specs.declared.script.Op.TheVariants as op
 use Rattle.thp_work.specs.declared.reply.Answer.{Answer}
 use Rattle.thp_work.specs.declared.reply.Rest.{Rest}
 use Rattle.thp_work.specs.declared.scanning.Begun.{Begun}

@@ -11,8 +11,8 @@ use Rattle.thp_model.specs.declared.events.Event.{Event}
 use Rattle.thp_model.specs.declared.shape.Shape.{Shape}
 use Rattle.thp_model.specs.History.{History, events_of}
 use Rattle.thp_model.specs.Legal.{IsLegal}
-use Rattle.thp_work.specs.declared.op.Step.{Step}
-use Rattle.thp_work.specs.declared.op.Step.TheVariants.{PutBack}
+use Rattle.thp_work.specs.declared.steps.Step.{Step}
+use Rattle.thp_work.specs.declared.steps.Step.TheVariants.{PutBack}
 use Rattle.thp_work.specs.Does.{Open, Reaction, Does}
 use Rattle.thp_work.specs.Turns.{Told}
 use Rattle.thp_work.specs.Fronts.{Fronts, HasCaller, IsOther, SameHolding, Moves, Answered, Goes, Grows}

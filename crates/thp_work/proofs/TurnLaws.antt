@@ -21,10 +21,10 @@ use Rattle.thp_node.specs.Batches.{tried}
 use Rattle.thp_node.specs.declared.answers.Tried.{Tried}
 use Rattle.thp_node.specs.declared.answers.Tried.TheVariants as try
 use Rattle.thp_node.specs.declared.answers.ScanReply.{ScanReply}
-use Rattle.thp_work.specs.declared.op.Op.{Op}
-use Rattle.thp_work.specs.declared.op.Op.TheVariants as op
-use Rattle.thp_work.specs.declared.op.Step.{Step}
-use Rattle.thp_work.specs.declared.op.Step.TheVariants.{Take, SplitNext, PutBack}
+use Rattle.thp_text.specs.declared.script.Op.{Op}
+use Rattle.thp_text.specs.declared.script.Op.TheVariants as op
+use Rattle.thp_work.specs.declared.steps.Step.{Step}
+use Rattle.thp_work.specs.declared.steps.Step.TheVariants.{Take, SplitNext, PutBack}
 use Rattle.thp_work.specs.declared.reply.Reply.TheVariants as reply
 use Rattle.thp_work.specs.declared.scanning.Begun.{Begun}
 use Rattle.thp_work.specs.declared.scanning.Progress.{Progress}

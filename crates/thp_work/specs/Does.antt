@@ -15,10 +15,10 @@ use Rattle.thp_model.specs.Refusals as call
 use Rattle.thp_model.specs.Runs.{take_events, split_next_events, put_back_events, next_page, rest_after, still_flying}
 use Rattle.thp_places.specs.declared.page_call.Done.{Done}
 use Rattle.thp_node.specs.Batches.{BatchState, rest, tried, back_reply}
-use Rattle.thp_work.specs.declared.op.Op.{Op}
-use Rattle.thp_work.specs.declared.op.Op.TheVariants as op
-use Rattle.thp_work.specs.declared.op.Step.{Step}
-use Rattle.thp_work.specs.declared.op.Step.TheVariants.{One, Take, SplitNext, PutBack}
+use Rattle.thp_text.specs.declared.script.Op.{Op}
+use Rattle.thp_text.specs.declared.script.Op.TheVariants as op
+use Rattle.thp_work.specs.declared.steps.Step.{Step}
+use Rattle.thp_work.specs.declared.steps.Step.TheVariants.{One, Take, SplitNext, PutBack}
 use Rattle.thp_work.specs.declared.reply.Reply.{Reply}
 use Rattle.thp_work.specs.declared.reply.Reply.TheVariants as reply
 

@@ -8,7 +8,7 @@ use Rattle.thp_model.specs.History.{History, events_of}
 use Rattle.thp_model.specs.Legal.{IsLegal}
 use Rattle.thp_cell.specs.declared.fault.CellFault.{CellFault}
 use Rattle.thp_cell.specs.declared.fault.CellFault.TheVariants.{Busy, Refused}
-use Rattle.thp_work.specs.declared.op.Step.{Step}
+use Rattle.thp_work.specs.declared.steps.Step.{Step}
 use Rattle.thp_work.specs.declared.reply.Reply.{Reply}
 use Rattle.thp_work.specs.Does.{Open, Does, Reaction, refusal_of}
 

@@ -11,7 +11,7 @@ use Rattle.thp_cell.specs.declared.fault.CellFault.TheVariants.{Busy, Refused}
 use Rattle.thp_cell.specs.Calls.{at_front, below, from}
 use Rattle.thp_cell.specs.Rule.{IsOther}
 use Rattle.thp_cell.specs.Views.{PassState, HasAll, HasCaller}
-use Rattle.thp_work.specs.declared.op.Step.{Step}
+use Rattle.thp_work.specs.declared.steps.Step.{Step}
 use Rattle.thp_work.specs.declared.reply.Reply.{Reply}
 use Rattle.thp_work.specs.declared.reply.Reply.TheVariants as reply
 use Rattle.thp_work.specs.Does.{Open, Reaction, Does, open_of, refusal_of}

@@ -7,13 +7,14 @@ ghost use Rattle.thp_work.specs.Does.{IsPlain, IsStep};
 ghost use Rattle.thp_work.specs.Sections.{is_open};
 ghost use Rattle.thp_work.specs.Holdings.{batch_of, lower_part, loss_reply, unit_reply, upper_part, HeldDone, IsSomeBatch, OpenStay};
 
-use crate::op::{Op, Step};
 use crate::reply::Reply;
+use crate::steps::Step;
 use std::alloc::{AllocError, Global};
 use std::marker::Model;
 use thp_cell::{CellFault, NodeCell, Pass};
 use thp_model::{PageId, Refusal};
 use thp_node::{Batch, Done};
+use thp_text::Op;
 
 /// A pass of one node, and for each of its callers at most one open batch.
 #[derive(Drop)]

@@ -2,10 +2,11 @@
 ghost use Rattle.std.specs.Prelude.{◌≡◌, ◌+◌, ◌≤◌};
 ghost use Rattle.thp_work.specs.Turns.{first_begun, goes_on, next_step, scan_goes_on, tries_of};
 
-use crate::op::{Op, Step};
 use crate::reply::Reply;
+use crate::steps::Step;
 use thp_model::Refusal;
 use thp_node::{ScanReply, Tried};
+use thp_text::Op;
 
 /// How many steps of a command are answered, and what a scan has counted so far.
 #[derive(Clone, Copy, Debug)]

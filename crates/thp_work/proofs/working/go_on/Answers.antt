@@ -1,7 +1,7 @@
 use Rattle.std.proofs.Common.{◌≡◌, ◌≤◌, ◌∙◌, ◌++◌, ◌∷◌, [], ℕ, ap, arith, sym, subst, get_or, length, Some}
 use Rattle.std.specs.Prelude.{slice_get}
 use Rattle.std.proofs.lemmas.Option.{slice_get-get_or}
-use Rattle.thp_work.specs.declared.op.Op.TheVariants.{Alloc}
+use Rattle.thp_text.specs.declared.script.Op.TheVariants.{Alloc}
 use Rattle.thp_work.specs.Turns.{first_begun}
 use Rattle.thp_work.specs.Sections.{Begins}
 use Rattle.thp_work.proofs.StepLaws.{goes_trans}

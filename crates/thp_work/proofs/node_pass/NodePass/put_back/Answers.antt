@@ -1,6 +1,6 @@
 use Rattle.std.proofs.Common.{◌≡◌, ◌-◌, ℕ, sym, subst, rules, Err}
 use Rattle.thp_cell.specs.Views.{HasCaller}
-use Rattle.thp_work.specs.declared.op.Step.TheVariants.{PutBack}
+use Rattle.thp_work.specs.declared.steps.Step.TheVariants.{PutBack}
 use Rattle.thp_work.specs.Holdings.{HeldDone}
 use Rattle.thp_work.proofs.HoldingLaws.{place_in, mine, has_mine, held_none, no_back_held, held_gone, held_again, back_held, back_failed}
 use Rattle.thp_work.proofs.node_pass.NodePass.put_back.Goals as goal

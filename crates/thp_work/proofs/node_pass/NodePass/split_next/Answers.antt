@@ -1,6 +1,6 @@
 use Rattle.std.proofs.Common.{◌∙◌, ◌-◌, ℕ, sym, subst}
 use Rattle.thp_cell.specs.Views.{HasCaller}
-use Rattle.thp_work.specs.declared.op.Step.TheVariants.{SplitNext}
+use Rattle.thp_work.specs.declared.steps.Step.TheVariants.{SplitNext}
 use Rattle.thp_work.specs.Holdings.{HeldDone}
 use Rattle.thp_work.proofs.HoldingLaws.{place_in, mine, has_mine, held_none, no_split_held, held_again, split_held, split_failed}
 use Rattle.thp_work.proofs.node_pass.NodePass.split_next.Goals.{in-Ok, in-Err}

@@ -1,6 +1,6 @@
 use Rattle.std.proofs.Common.{◌-◌, ℕ, refl, sym, subst, Err}
 use Rattle.thp_cell.specs.Views.{HasCaller}
-use Rattle.thp_work.specs.declared.op.Step.TheVariants.{Take}
+use Rattle.thp_work.specs.declared.steps.Step.TheVariants.{Take}
 use Rattle.thp_work.specs.Holdings.{HeldDone}
 use Rattle.thp_work.proofs.HoldingLaws.{place_in, beside_held, held_taken, held_untaken, taken_by, take_held, take_failed}
 use Rattle.thp_work.proofs.node_pass.NodePass.take.Goals as goal

@@ -1,7 +1,7 @@
 use Rattle.std.proofs.Common.{refl}
 use Rattle.thp_model.specs.Refusals as call
 use Rattle.thp_model.specs.declared.events.What.TheVariants as what
-use Rattle.thp_work.specs.declared.op.Op.TheVariants as op
+use Rattle.thp_text.specs.declared.script.Op.TheVariants as op
 use Rattle.thp_work.proofs.HoldingLaws.{held_stays, loss_done}
 use Rattle.thp_work.proofs.node_pass.NodePass.unmap.Goals as goal
 
