@@ -1,0 +1,7 @@
+use Rattle.thp_work.proofs.HalvesLaws.{ran_one}
+use Rattle.thp_work.proofs.halves.run_one.Goals as goal
+
+pub returns : goal.returns
+returns g c =
+    let fronts = g.P.Steps.fronts in
+    ran_one c.args.worker (fronts c.args.passes) (fronts c.work.new.steps) c.args.commands.now c.push.new.self.items c.in_ok-worked.worked c.requires c.work.ensures.goes (rw c.deref.ensures.value at c.in_ok-worked.ensures.works) (rw c.new-all.ensures.items at c.in_ok-push.ensures.items)

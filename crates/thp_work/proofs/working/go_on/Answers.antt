@@ -1,0 +1,87 @@
+use Rattle.std.proofs.Common.{◌≡◌, ◌≤◌, ◌∙◌, ◌++◌, ◌∷◌, [], ℕ, ap, arith, sym, subst, get_or, length, Some}
+use Rattle.std.specs.Prelude.{slice_get}
+use Rattle.std.proofs.lemmas.Option.{slice_get-get_or}
+use Rattle.thp_text.specs.declared.script.Op.TheVariants.{Alloc}
+use Rattle.thp_work.specs.Turns.{first_begun}
+use Rattle.thp_work.specs.Sections.{Begins}
+use Rattle.thp_work.proofs.StepLaws.{goes_trans}
+use Rattle.thp_work.proofs.SectionLaws.{begun_on, begins_more, begins_stop, ends_first, works_stop}
+use Rattle.thp_work.proofs.working.go_on.Goals as goal
+
+pub do_command-requires-clause-ready : goal.do_command-requires-clause-ready
+do_command-requires-clause-ready g c =
+    let fronts = g.S.Steps.fronts in
+    let inv = c.loop-index.invariant in
+    let commands = c.args.commands.now in
+    let i = c.loop-index.index in
+    let command = get_or commands i (record { node = 0; op = Alloc }) in
+    let len : length c.loop-index.answers.items ≡ i = omega (arith, c.loop-index.answers.ok.0, inv.count) in
+    let at : slice_get commands (length c.loop-index.answers.items) ≡ Some command = ap (slice_get commands) len ∙ slice_get-get_or commands i (record { node = 0; op = Alloc }) c.loop-index-test.true in
+    (begun_on c.args.worker c.requires.begun.0 (fronts c.loop-index.steps) commands c.loop-index.answers.items c.loop-index.begun command at (inv.begins c.requires.begun.0 c.requires.begun.1)).ready
+
+pub returns-in_err-reply-clause-goes : goal.returns-in_err-reply-clause-goes
+returns-in_err-reply-clause-goes g c =
+    let fronts = g.S.Steps.fronts in
+    goes_trans c.args.worker (fronts c.args.steps.now) (fronts c.loop-index.steps) (fronts c.do_command.new.steps) c.loop-index.invariant.goes c.do_command.ensures.goes
+
+pub returns-in-On-clause-goes : goal.returns-in-On-clause-goes
+returns-in-On-clause-goes g c =
+    let fronts = g.S.Steps.fronts in
+    goes_trans c.args.worker (fronts c.args.steps.now) (fronts c.loop-index.steps) (fronts c.do_command.new.steps) c.loop-index.invariant.goes c.do_command.ensures.goes
+
+pub returns-in-On-clause-works : goal.returns-in-On-clause-works
+returns-in-On-clause-works g c =
+    let fronts = g.S.Steps.fronts in
+    let inv = c.loop-index.invariant in
+    let commands = c.args.commands.now in
+    let i = c.loop-index.index in
+    let command = get_or commands i (record { node = 0; op = Alloc }) in
+    let len : length c.loop-index.answers.items ≡ i = omega (arith, c.loop-index.answers.ok.0, inv.count) in
+    let at : slice_get commands (length c.loop-index.answers.items) ≡ Some command = ap (slice_get commands) len ∙ slice_get-get_or commands i (record { node = 0; op = Alloc }) c.loop-index-test.true in
+    let p = rw c.in-On.is at c.in_ok-reply.ensures.proceeds in
+    λ old b. works_stop c.args.worker old (fronts c.do_command.new.steps) commands c.loop-index.answers _ inv.room
+    (begins_stop c.args.worker old (fronts c.loop-index.steps) (fronts c.do_command.new.steps) commands c.loop-index.answers.items c.loop-index.begun command at (inv.begins old b) c.do_command.ensures.goes c.in-On.more p)
+    (sym len) c.loop-index-test.true
+
+pub loop-index-preserved : goal.loop-index-preserved
+loop-index-preserved g c =
+    let fronts = g.S.Steps.fronts in
+    let inv = c.loop-index.invariant in
+    let f0 = fronts c.args.steps.now in
+    let mid = fronts c.loop-index.steps in
+    let new = fronts c.do_command.new.steps in
+    let commands = c.args.commands.now in
+    let answers = c.loop-index.answers.items in
+    let i = c.loop-index.index in
+    let command = get_or commands i (record { node = 0; op = Alloc }) in
+    let len : length answers ≡ i = omega (arith, c.loop-index.answers.ok.0, inv.count) in
+    let at : slice_get commands (length answers) ≡ Some command = ap (slice_get commands) len ∙ slice_get-get_or commands i (record { node = 0; op = Alloc }) c.loop-index-test.true in
+    let p = rw c.in-Ended.is at c.in_ok-reply.ensures.proceeds in
+    record {
+      goes = goes_trans c.args.worker f0 mid new inv.goes c.do_command.ensures.goes;
+      begins = λ old b.
+          rw (c.push_reserved.ensures.items, c.first_begun-begun.ensures)
+          (subst (λ (k : ℕ). Begins c.args.worker old new commands (answers ++ record { command = k; reply = c.in-Ended.reply } ∷ []) first_begun) len
+          (begins_more c.args.worker old mid new commands answers c.loop-index.begun command at (inv.begins old b) c.do_command.ensures.goes c.in-Ended.reply p));
+      count = omega (arith, c.push_reserved.ensures.len, inv.count);
+      room = omega (arith, c.push_reserved.ensures.capacity, inv.room);
+    }
+
+pub close-requires-clause-ends : goal.close-requires-clause-ends
+close-requires-clause-ends g c =
+    let fronts = g.S.Steps.fronts in
+    let inv = c.loop-index.invariant in
+    let le : length c.args.commands.now ≤ length c.loop-index.answers.items = omega (arith, c.loop-index.answers.ok.0, inv.count, c.loop-index-test.false) in
+    (c.requires.begun.0, ends_first c.args.worker c.requires.begun.0 (fronts c.loop-index.steps) c.args.commands.now c.loop-index.answers.items c.loop-index.begun le (inv.begins c.requires.begun.0 c.requires.begun.1))
+
+pub returns-clause-goes : goal.returns-clause-goes
+returns-clause-goes g c =
+    let fronts = g.S.Steps.fronts in
+    goes_trans c.args.worker (fronts c.args.steps.now) (fronts c.loop-index.steps) (fronts c.close.new.steps) c.loop-index.invariant.goes c.close.ensures.goes
+
+pub returns-clause-works : goal.returns-clause-works
+returns-clause-works g c =
+    let fronts = g.S.Steps.fronts in
+    let inv = c.loop-index.invariant in
+    let le : length c.args.commands.now ≤ length c.loop-index.answers.items = omega (arith, c.loop-index.answers.ok.0, inv.count, c.loop-index-test.false) in
+    λ old b. c.close.ensures.works old (ends_first c.args.worker old (fronts c.loop-index.steps) c.args.commands.now c.loop-index.answers.items c.loop-index.begun le (inv.begins old b))

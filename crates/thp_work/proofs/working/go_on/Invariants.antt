@@ -1,0 +1,15 @@
+use Rattle.std.proofs.Common.{◌≡◌, ◌≤◌, length}
+use Rattle.std.specs.Prelude.{vec_capacity, vec_len}
+use Rattle.thp_work.specs.Fronts.{Fronts, Goes}
+use Rattle.thp_work.specs.Sections.{Begins}
+use Rattle.thp_work.proofs.working.go_on.Given as goal
+
+abbrev pub invariant-loop-index : goal.invariant-loop-index
+invariant-loop-index g l =
+    let fronts = g.S.Steps.fronts in
+    record {
+      goes : Goes l.worker (fronts l.fn.steps) (fronts l.steps);
+      begins : (old : Fronts) → Begins l.worker old (fronts l.fn.steps) l.commands l.fn.answers.items l.fn.begun → Begins l.worker old (fronts l.steps) l.commands l.answers.items l.begun;
+      count : vec_len l.answers ≡ l.index;
+      room : length l.commands ≤ vec_capacity l.answers;
+    }
