@@ -5,12 +5,13 @@
 
 Each case is one random script. What the program prints for it, report by report, is compared with what model.py and
 script.py make of it; its journal, and the same journal with one line changed, go through `--check`. Only options and
-commands that `PROGRAM --help` names are used. A case that differs is kept in FOLDER, and the exit status is then 1.
+commands that `PROGRAM --help` names are used. The first ten texts that differ are kept in FOLDER, and the exit status is then 1.
 """
 
 import argparse
 import pathlib
 import random
+import re
 import subprocess
 import sys
 
@@ -24,7 +25,9 @@ def main():
     parser.add_argument("--seed", type=int, default=1)
     parser.add_argument("--keep", type=pathlib.Path, default=pathlib.Path("fuzz-kept"))
     asked = parser.parse_args()
-    known = set(subprocess.run([asked.program, "--help"], capture_output=True, text=True, check=True).stdout.replace(",", " ").split())
+    told = subprocess.run([asked.program, "--help"], capture_output=True, text=True, check=True).stdout
+    # the options, and the first words of the lines that tell the commands
+    known = set(re.findall(r"--\w+", told)) | set(re.findall(r"^  (\w+) ", told, re.MULTILINE))
     differing, compared = 0, 0
     for case in range(asked.cases):
         chance = random.Random(f"{asked.seed} {case}")
@@ -33,7 +36,8 @@ def main():
             compared += 1
             if told.stdout != wanted or told.returncode not in (0, 1) or told.stderr:
                 differing += 1
-                keep(asked.keep / f"{asked.seed}-{case}-{name}", options, text, wanted, told)
+                if differing <= 10:
+                    keep(asked.keep / f"{asked.seed}-{case}-{name}", options, text, wanted, told)
     print(f"{asked.cases} cases, {compared} texts compared, {differing} differ")
     sys.exit(differing != 0)
 
