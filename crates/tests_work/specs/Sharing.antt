@@ -1,0 +1,20 @@
+-- Nodes that are busy at chosen calls count as shared with one caller more.
+use Rattle.std.specs.Prelude.{◌≡◌, ℕ, ◌+◌, List}
+use Rattle.thp_text.specs.declared.script.Command.{Command}
+use Rattle.thp_work.specs.declared.reply.Worked.{Worked}
+use Rattle.thp_work.specs.Fronts.{Fronts}
+use Rattle.thp_work.specs.Sections.{Works}
+
+-- one caller more than the holder has, so that it never has all
+abbrev pub shared : Fronts → Fronts
+shared f = record f { callers = f.end + 1 }
+
+-- one node, and callers 0 and 1
+pub record OfTwo (f : Fronts) : Type 0 where
+  pub nodes : f.nodes ≡ 1
+  pub first : f.first ≡ 0
+  pub end : f.end ≡ 2
+
+-- the section of a caller was begun and led up to here
+abbrev pub WasWorked : ℕ → Fronts → List Command → Worked → Type 0
+WasWorked c f commands w = (old : Fronts) × Works c old f commands w
