@@ -1,11 +1,10 @@
 -- From the values of a parse to the line that they make.
-use Rattle.std.proofs.Common.{◌≡◌, ◌∙◌, ◌<◌, ◌≤◌, ◌^◌, ◌||◌, ap, ℕ, Bool, true, false, List, [], ◌∷◌, map, Option, Some, None, Result, Ok, refl, sym}
+use Rattle.std.proofs.Common.{◌≡◌, ◌∙◌, ◌<◌, ◌≤◌, ◌^◌, ap, ℕ, true, false, List, [], ◌∷◌, map, Option, Some, None, Result, Ok, refl, sym}
 use Rattle.std.specs.Prelude.{option_map, pos, slice_get}
 use Rattle.std.specs.Borrow.{Bor}
 use Rattle.std.specs.List.{list_any}
 use Rattle.std.specs.Str.{bytes_eq}
 use Rattle.std.specs.Str.Parse.{ParsesUnsigned}
-use Rattle.std.proofs.lemmas.Slice.Eq.{bytes_eq-Decides}
 use Rattle.clap.specs.Lexer.{without_minus}
 use Rattle.clap.specs.Matches.{ReadsOne, first_value, one_text}
 use Rattle.clap.specs.Values.{Accepts, read_as, reading_of}
@@ -14,8 +13,8 @@ use Rattle.clap.specs.declared.builder.value_parser.ValueParser.TheVariants.{Nam
 use Rattle.clap.specs.declared.parser.matches.Found.{Found}
 use Rattle.clap.proofs.CallerReads.{signed_reads}
 use Rattle.clap.proofs.WalkLemmas.{list_any-map}
-use Rattle.thp_run.specs.CommandLine.{WritesNumber}
-use Rattle.thp_run.specs.Options.{HasValue}
+use Rattle.thp_line.specs.CommandLine.{WritesNumber}
+use Rattle.thp_line.specs.Options.{HasValue}
 
 head_of_map : {A B : Type 0} (f : A → B) (xs : List A) (y : B) (ys : List B) → map f xs ≡ y ∷ ys → option_map f (slice_get xs 0) ≡ Some y
 head_of_map f [] y ys e = absurd cc
@@ -44,13 +43,8 @@ number_read E G low high found id h r reads only fits =
     let parsed : ParsesUnsigned {E = E} 32 10 (without_minus h.value) (Ok got.0) = only (without_minus h.value) (Ok got.0) (rw got.1 at reads) in
     (got.0, got.1, got.2, got.3, (without_minus h.value, one_text-value found id (Signed (pos low) (pos high)) h, parsed.0.0, sym parsed.1))
 
--- a value that is one of a single name is that name
-pub only_name : (names : Bor (List (Bor (List ℕ)))) (name value : List ℕ) → map (λ s. s.now) names.now ≡ name ∷ [] → Accepts false (Names names) value → value ≡ name
-only_name names name value one passed =
+-- a value that is one of the names
+pub one_of_names : (names : Bor (List (Bor (List ℕ)))) (all : List (List ℕ)) (value : List ℕ) → map (λ s. s.now) names.now ≡ all → Accepts false (Names names) value → list_any (λ s. bytes_eq s value) all ≡ true
+one_of_names names all value is passed =
     let same : list_any (λ s. bytes_eq s value) (map (λ s. s.now) names.now) ≡ true = sym (list_any-map (λ s. bytes_eq s value) (λ s. s.now) names.now) ∙ passed in
-    let first : (bytes_eq name value || false) ≡ true = rw one at same in
-    sym ((bytes_eq-Decides name value).0 (only-first (bytes_eq name value) first))
-  where
-    only-first : (b : Bool) → (b || false) ≡ true → b ≡ true
-    only-first true e = refl
-    only-first false e = e
+    rw is at same

@@ -10,7 +10,7 @@ use Rattle.std.proofs.lemmas.Slice.Eq.{bytes_eq-Decides}
 use Rattle.clap.specs.Built.{AddsInTurn, IsPlain, IsParsedFrom, AddsArg, SameRules}
 use Rattle.clap.specs.Facts.{args_of, least_values}
 use Rattle.clap.specs.Matches.{found_of}
-use Rattle.clap.specs.Simple.{App, app_of, with_rule}
+use Rattle.clap.specs.Simple.{app_of, with_rule}
 use Rattle.clap.specs.Texts.{items_of}
 use Rattle.clap.specs.Walk.{Rule, rule_of}
 use Rattle.clap.specs.declared.builder.action.ArgAction.TheVariants.{Set}
@@ -20,8 +20,9 @@ use Rattle.clap.specs.declared.builder.command.Command.TheViews.{out-Command}
 use Rattle.clap.specs.declared.builder.value_parser.ValueParser.{ValueParser}
 use Rattle.clap.specs.declared.parser.matches.ArgMatches.{ArgMatches}
 use Rattle.clap.proofs.CallerLemmas.{added_plain}
-use Rattle.thp_run.specs.Options.{IsOption, HasValue}
-use Rattle.thp_run.proofs.OptionLaws.{valued}
+use Rattle.thp_line.specs.CommandLine.{with_rules}
+use Rattle.thp_line.specs.Options.{IsOption, HasValue}
+use Rattle.thp_line.proofs.OptionLaws.{valued}
 
 -- the arguments are options of these rules, one by one
 abbrev pub AreOptions : List Arg → List Rule → Type 0
@@ -48,11 +49,6 @@ pub record IsChained (c d : Command) (rules : List Rule) : Type 0 where
   pub places : (k : ℕ) → k < length rules → Place added rules k
   pub plain : IsPlain d
   pub globals : (out-Command d).has_globals ≡ false
-
--- the command, as a parse reads it, with these rules added in turn
-abbrev pub with_rules : App → List Rule → App
-with_rules a [] = a
-with_rules a (r ∷ rules) = with_rules (with_rule a r) rules
 
 later : (y : Arg) (ys : List Arg) (r : Rule) (rules : List Rule) (x : Arg) → IsOption x r → SameRules x y → ((k : ℕ) → k < length rules → Place ys rules k) → (k : ℕ) → k < length (r ∷ rules) → Place (y ∷ ys) (r ∷ rules) k
 later y ys r rules x option same rest zero lt = record { kept = y; given = x; rule = r; kept_at = refl; rule_at = refl; option = option; same = same }
