@@ -1,0 +1,12 @@
+//! Which version of the format tells a journal.
+
+/// The version of a journal's text. Each later one tells more of a node; a text is of the least that can tell its nodes.
+#[derive(Clone, Copy, PartialEq, Eq, Debug)]
+pub enum Version {
+    /// Version 1: the blocks of each node, whose pages have order 9.
+    Plain,
+    /// Version 2: also the order of each node's pages.
+    Orders,
+    /// Version 3: also whether a node looks for underused pages, and what was written to pages.
+    Underused,
+}
