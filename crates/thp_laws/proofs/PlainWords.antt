@@ -36,7 +36,8 @@ no_space b h = let r = solid_range b h in not_from_false _ (ne_eqb b 32 (λ e. o
 no_feed : (b : ℕ) → is_printable b ≡ true → not (b == 10) ≡ true
 no_feed b h = let t = and_parts _ _ h in let low : 32 ≤ b = leb-true _ _ t.0 in not_from_false _ (ne_eqb b 10 (λ e. omega arith))
 
-plain_solid : (word : Text) → is_plain word ≡ true → list_all is_solid word ≡ true
+-- its bytes are printable, and no spaces
+pub plain_solid : (word : Text) → is_plain word ≡ true → list_all is_solid word ≡ true
 plain_solid word h = (and_parts _ _ h).1
 
 plain_apart : (word : Text) → is_plain word ≡ true → is_without 32 word ≡ true

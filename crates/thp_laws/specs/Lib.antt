@@ -1,0 +1,2 @@
+pub mod Tellable
+pub mod ReadBack
