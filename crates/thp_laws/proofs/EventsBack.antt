@@ -1,9 +1,8 @@
 -- The line of an event is read back as that event, but for a new page's block.
-use Rattle.std.proofs.Common.{◌≡◌, ◌==◌, ◌<◌, ◌≤◌, ◌^◌, ℕ, Bool, true, false, cond, not, ◌&&◌, List, [], ◌∷◌, ◌++◌, length, Result, Ok, Err, Some, refl, ap, sym, ◌∙◌, arith, codes}
-use Rattle.std.specs.Prelude.{ok_or, ⊤}
+use Rattle.std.proofs.Common.{◌≡◌, ◌<◌, ◌≤◌, ◌^◌, ℕ, Bool, true, false, cond, not, List, [], ◌∷◌, length, Ok, Err, refl, ap, ◌∙◌, arith, codes}
+use Rattle.std.specs.Prelude.{ok_or}
 use Rattle.std.specs.Fmt.{decimal}
 use Rattle.std.specs.List.{list_all, list_any}
-use Rattle.std.specs.Str.{bytes_eq}
 use Rattle.std.proofs.lemmas.Bool.{and_from}
 use Rattle.thp_model.specs.declared.events.Event.{Event}
 use Rattle.thp_model.specs.declared.events.Outcome.{Outcome}
@@ -12,12 +11,11 @@ use Rattle.thp_model.specs.declared.events.What.{What}
 use Rattle.thp_model.specs.declared.events.What.TheVariants.{Alloc, MapWhole, UnmapWhole, MapSub, UnmapSub, SplitPmd, Pin, Unpin, Write, Zero, Taken, Split, Pinned, Used, Back, Dropped, Close}
 use Rattle.thp_model.specs.BlockLaws.{event_with, with_block}
 use Rattle.thp_model.specs.History.{by}
-use Rattle.thp_text.specs.declared.fault.TextKind.{TextKind}
 use Rattle.thp_text.specs.declared.fault.TextKind.TheVariants.{BadByte, BadNumber, BadWord}
-use Rattle.thp_text.specs.Commands.{number_up_to, one_word}
-use Rattle.thp_text.specs.Statements.{is_empty, is_printable}
+use Rattle.thp_text.specs.Commands.{number_up_to}
+use Rattle.thp_text.specs.Lines.{is_empty, is_printable}
 use Rattle.thp_text.specs.Readings.{◌>>=◌}
-use Rattle.thp_text.specs.Words.{Text, number_of, words_of}
+use Rattle.thp_text.specs.Words.{Text, words_of}
 use Rattle.thp_text.proofs.NumberLaws.{number_of-decimal}
 use Rattle.thp_journal.specs.EventLines as written
 use Rattle.thp_journal.specs.EventLines.{event_words, outcome_word, what_words}
@@ -30,15 +28,13 @@ use Rattle.thp_read.specs.declared.event_word.PageWord.{PageWord}
 use Rattle.thp_read.specs.declared.event_word.PageWord.TheVariants as page
 use Rattle.thp_read.specs.declared.event_word.RangeWord.{RangeWord}
 use Rattle.thp_read.specs.declared.event_word.RangeWord.TheVariants as range
-use Rattle.thp_read.specs.declared.line.Line.{Line}
 use Rattle.thp_read.specs.declared.line.Line.TheVariants.{Happened}
 use Rattle.thp_read.specs.declared.version.Version.{Version}
 use Rattle.thp_read.specs.declared.version.Version.TheVariants.{Plain, Orders, Underused}
-use Rattle.thp_read.specs.EventLines.{caller_number, page_number, range_number, page_event, range_event, loss_event, unmap_event, split_event, close_event, outcome_and_word, loss_words, range_loss_words, event_by, event_of}
+use Rattle.thp_read.specs.EventLines.{caller_number, page_number, range_number, page_event, range_event, loss_event, unmap_event, split_event, close_event, outcome_and_word, event_by, event_of}
 use Rattle.thp_read.specs.EventWords.{common_word, later_word, event_word, outcome_of, page_what, range_what, loss_what}
 use Rattle.thp_read.specs.JournalLines as read
 use Rattle.thp_read.specs.JournalLines.{line_by, by_words}
-use Rattle.thp_read.specs.SetTexts.{set_of_text}
 use Rattle.thp_laws.specs.Tellable.{HasSmallNumbers, IsOfVersion, IsTellable}
 use Rattle.thp_laws.proofs.PlainWords.{decimal_plain, is_plain, line_printable, no_number, none_empty, words_back}
 use Rattle.thp_laws.proofs.SetsBack.{set_back, set_plain}

@@ -1,6 +1,6 @@
 -- A journal text is read as the journals that it was written of, but for their blocks.
-use Rattle.std.proofs.Common.{◌≡◌, ◌==◌, ◌<◌, ◌≤◌, ◌+◌, ℕ, zero, suc, Bool, true, false, cond, not, ◌&&◌, List, [], ◌∷◌, ◌++◌, map, length, Result, Ok, Err, refl, ap, sym, subst, ◌∙◌, arith, append_assoc, codes}
-use Rattle.std.specs.Prelude.{⊤, nat_lt}
+use Rattle.std.proofs.Common.{◌≡◌, ◌<◌, ◌≤◌, ◌+◌, ℕ, suc, true, false, List, [], ◌∷◌, ◌++◌, map, length, Result, Ok, refl, ap, sym, ◌∙◌, arith, append_assoc, codes}
+use Rattle.std.specs.Prelude.{nat_lt}
 use Rattle.std.specs.List.{list_all, AllByRecursion, fold}
 use Rattle.std.proofs.Math.Nat.{add-zero}
 use Rattle.std.proofs.lemmas.Bool.{and_from, le-ltb}
@@ -8,24 +8,18 @@ use Rattle.thp_model.specs.declared.events.Event.{Event}
 use Rattle.thp_model.specs.declared.events.What.{What}
 use Rattle.thp_model.specs.declared.events.What.TheVariants.{Alloc, MapWhole, UnmapWhole, MapSub, UnmapSub, SplitPmd, Pin, Unpin, Write, Zero, Taken, Split, Pinned, Used, Back, Dropped, Close}
 use Rattle.thp_model.specs.declared.shape.Shape.{Shape}
-use Rattle.thp_model.specs.BlockLaws.{event_with, with_block, with_least_blocks, without_blocks, least_free}
+use Rattle.thp_model.specs.BlockLaws.{event_with, with_block, with_least_blocks, least_free}
 use Rattle.thp_model.specs.History.{History, by}
-use Rattle.thp_text.specs.declared.fault.TextKind.{TextKind}
-use Rattle.thp_text.specs.declared.fault.TextKind.TheVariants.{TooLong}
-use Rattle.thp_text.specs.Readings.{◌>>=◌}
 use Rattle.thp_text.specs.Scripts.{Fault}
-use Rattle.thp_text.specs.Words.{Text, lines_of}
+use Rattle.thp_text.specs.Words.{lines_of}
 use Rattle.thp_journal.specs.declared.version.Version.{Version as Written}
 use Rattle.thp_journal.specs.EventLines as written
 use Rattle.thp_journal.specs.EventLines.{event_words}
 use Rattle.thp_journal.specs.Journals as journal
 use Rattle.thp_journal.specs.Journals.{Journal, version_of, lines_of_node, journal_lines, journal_text}
-use Rattle.thp_read.specs.declared.journals.Journals.{Journals}
-use Rattle.thp_read.specs.declared.journals.NodeJournal.{NodeJournal}
 use Rattle.thp_read.specs.declared.line.Line.{Line}
-use Rattle.thp_read.specs.declared.line.Line.TheVariants.{Head, Node, Happened, End}
-use Rattle.thp_read.specs.declared.place.Place.{Place}
-use Rattle.thp_read.specs.declared.place.Place.TheVariants.{Start, Inside, Ended}
+use Rattle.thp_read.specs.declared.line.Line.TheVariants.{End}
+use Rattle.thp_read.specs.declared.place.Place.TheVariants.{Start}
 use Rattle.thp_read.specs.declared.version.Version.{Version}
 use Rattle.thp_read.specs.Journals as reading
 use Rattle.thp_read.specs.Journals.{node_journal, nodes_of, journals_with, journals_of}
@@ -34,7 +28,7 @@ use Rattle.thp_laws.specs.ReadBack.{nodes_from}
 use Rattle.thp_laws.proofs.EventsBack.{event_plain}
 use Rattle.thp_laws.proofs.NodesBack.{node_plain, version_plain, version_words}
 use Rattle.thp_laws.proofs.LinesBack.{all_behind, all_say, happened, node_told, nodes_told, read_all, told}
-use Rattle.thp_laws.proofs.PlainWords.{is_plain, line_whole}
+use Rattle.thp_laws.proofs.PlainWords.{line_whole}
 use Rattle.thp_laws.proofs.Splitting.{all_append, is_without, lines_back}
 
 -- ---- blocks

@@ -1,19 +1,18 @@
 -- The numbers of a legal history fit the operands of its lines.
-use Rattle.std.proofs.Common.{◌≡◌, ◌<◌, ◌≤◌, ◌+◌, ◌^◌, ℕ, zero, suc, Bool, true, false, ◌||◌, List, [], ◌∷◌, ◌++◌, length, take, Option, Some, None, refl, ap, sym, subst, ◌∙◌, arith, nat_eq, nat_lt}
-use Rattle.std.specs.Prelude.{slice_get, ⊤}
-use Rattle.std.specs.List.{AllByRecursion, count_by}
+use Rattle.std.proofs.Common.{◌≡◌, ◌<◌, ◌≤◌, ◌+◌, ◌^◌, ℕ, suc, Bool, true, false, ◌||◌, List, [], ◌∷◌, ◌++◌, length, take, Some, refl, ap, ◌∙◌, arith, nat_eq, nat_lt}
+use Rattle.std.specs.Prelude.{slice_get}
+use Rattle.std.specs.List.{AllByRecursion}
 use Rattle.std.proofs.lemmas.Bool.{eq-eqb, ltb-false, or_parts}
 use Rattle.std.proofs.lemmas.List.{length-take}
 use Rattle.std.proofs.lemmas.List.Sums.{count_by-le-length}
 use Rattle.thp_model.specs.declared.events.Event.{Event}
-use Rattle.thp_model.specs.declared.events.Outcome.{Outcome}
 use Rattle.thp_model.specs.declared.events.What.{What}
 use Rattle.thp_model.specs.declared.events.What.TheVariants.{Alloc, MapWhole, UnmapWhole, MapSub, UnmapSub, SplitPmd, Pin, Unpin, Write, Zero, Taken, Split, Pinned, Used, Back, Dropped, Close}
 use Rattle.thp_model.specs.declared.shape.Shape.{Shape}
 use Rattle.thp_model.specs.Counts.{allocations, is_alloc, is_live}
-use Rattle.thp_model.specs.Frames.{is_held, released}
+use Rattle.thp_model.specs.Frames.{released}
 use Rattle.thp_model.specs.History.{History, count_of}
-use Rattle.thp_model.specs.Legal.{FitsBy, Gives, IsLegal}
+use Rattle.thp_model.specs.Legal.{FitsBy, IsLegal}
 use Rattle.thp_model.specs.PlaceLaws.{acts_on}
 use Rattle.thp_model.specs.Shapes.{IsShape, subpages}
 use Rattle.thp_model.specs.Words.{length-set_of}

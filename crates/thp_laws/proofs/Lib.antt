@@ -8,3 +8,5 @@ pub mod JournalsBack
 pub mod LegalNumbers
 pub mod LegalVersions
 pub mod ReadingBack
+pub mod TotalsAlike
+pub mod WithoutBlocks

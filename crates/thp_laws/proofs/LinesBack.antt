@@ -1,19 +1,15 @@
 -- The lines of journals are read back, one after another.
-use Rattle.std.proofs.Common.{◌≡◌, ◌==◌, ◌<◌, ◌≤◌, ◌+◌, ℕ, zero, suc, Bool, true, false, cond, not, ◌&&◌, List, [], ◌∷◌, ◌++◌, map, length, Result, Ok, Err, refl, ap, sym, subst, ◌∙◌, arith, append_assoc, codes}
-use Rattle.std.specs.Prelude.{⊤, nat_lt}
-use Rattle.std.specs.List.{list_all, AllByRecursion}
-use Rattle.std.proofs.lemmas.Bool.{and_from, eq-eqb, lt-ltb}
+use Rattle.std.proofs.Common.{◌≡◌, ◌<◌, ◌≤◌, ◌+◌, ℕ, suc, true, List, [], ◌∷◌, ◌++◌, map, length, Ok, refl, ap, sym, subst, ◌∙◌, arith, codes}
+use Rattle.std.specs.Prelude.{⊤}
+use Rattle.std.specs.List.{AllByRecursion}
+use Rattle.std.proofs.lemmas.Bool.{eq-eqb, lt-ltb}
 use Rattle.std.proofs.Math.Nat.{add-zero}
 use Rattle.thp_model.specs.declared.events.Event.{Event}
-use Rattle.thp_model.specs.declared.shape.Shape.{Shape}
-use Rattle.thp_model.specs.BlockLaws.{event_with, without_blocks, with_least_blocks}
+use Rattle.thp_model.specs.BlockLaws.{event_with}
 use Rattle.thp_model.specs.History.{History}
-use Rattle.thp_model.specs.Shapes.{IsShape}
-use Rattle.thp_text.specs.declared.fault.TextKind.{TextKind}
 use Rattle.thp_text.specs.Readings.{◌>>=◌}
-use Rattle.thp_text.specs.Scripts.{Fault, on_line}
-use Rattle.thp_text.specs.Statements.{fault_behind}
-use Rattle.thp_text.specs.Words.{Text, lines_of}
+use Rattle.thp_text.specs.Lines.{fault_behind}
+use Rattle.thp_text.specs.Words.{Text}
 use Rattle.thp_journal.specs.declared.version.Version.{Version as Written}
 use Rattle.thp_journal.specs.EventLines as written
 use Rattle.thp_journal.specs.Journals as journal
@@ -23,7 +19,6 @@ use Rattle.thp_read.specs.declared.line.Line.TheVariants.{Head, Node, Happened, 
 use Rattle.thp_read.specs.declared.place.Place.{Place}
 use Rattle.thp_read.specs.declared.place.Place.TheVariants.{Start, Inside, Ended}
 use Rattle.thp_read.specs.declared.version.Version.{Version}
-use Rattle.thp_read.specs.declared.version.Version.TheVariants.{Plain, Orders, Underused}
 use Rattle.thp_read.specs.JournalLines as read
 use Rattle.thp_read.specs.JournalLines.{line_in, may_stand, place_after, version_at}
 use Rattle.thp_read.specs.Journals as reading
@@ -150,9 +145,10 @@ unfolding Says told
 all_say v js some few h =
     let w : Version = read_version v in
     let behind : place_behind (Inside w 0) (nodes_told 0 js) ≡ Inside w (0 + length js) = nodes_behind w 0 js in
-    let last : Says (Inside w (0 + length js)) (codes "end" ∷ []) (End ∷ []) = (stands (Inside w (0 + length js)) (codes "end") End (end_line_back w) (lt-ltb 0 (0 + length js) (omega arith)), tt) in
-    (stands Start (journal.version_line v) (Head w) (version_line_back v) refl,
-    says_append (Inside w 0) (journal.lines_from v 0 js) (codes "end" ∷ []) (nodes_told 0 js) (End ∷ []) (nodes_say v 0 js (omega arith) h) (subst (λ p. Says p (codes "end" ∷ []) (End ∷ [])) (sym behind) last))
+    let last : Says (Inside w (0 + length js)) (codes "end" ∷ []) (End ∷ []) = (stands (Inside w (0 + length js)) (codes "end") End (end_line_back w) (lt-ltb 0 (0 + length js) (omega arith)), tt) in (
+      stands Start (journal.version_line v) (Head w) (version_line_back v) refl,
+      says_append (Inside w 0) (journal.lines_from v 0 js) (codes "end" ∷ []) (nodes_told 0 js) (End ∷ []) (nodes_say v 0 js (omega arith) h) (subst (λ p. Says p (codes "end" ∷ []) (End ∷ [])) (sym behind) last),
+    )
 
 -- and the last stands at the end
 pub all_behind : (v : Written) (js : List Journal) → place_behind Start (told v js) ≡ Ended (read_version v)

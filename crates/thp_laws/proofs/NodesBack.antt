@@ -1,16 +1,13 @@
 -- The first line, the lines of nodes and the last line are read back.
-use Rattle.std.proofs.Common.{◌≡◌, ◌==◌, ◌<◌, ◌≤◌, ◌+◌, ◌-◌, ◌^◌, ℕ, Bool, true, false, cond, not, ◌&&◌, List, [], ◌∷◌, ◌++◌, length, Option, Result, Ok, Err, Some, None, refl, ap, sym, ◌∙◌, arith, codes}
-use Rattle.std.specs.Prelude.{ok_or, nat_le}
+use Rattle.std.proofs.Common.{◌≡◌, ◌<◌, ◌≤◌, ◌-◌, ◌^◌, ℕ, true, List, [], ◌∷◌, Option, Result, Ok, Some, None, refl, ap, ◌∙◌, arith, codes}
 use Rattle.std.specs.Fmt.{decimal}
 use Rattle.std.specs.List.{list_all}
-use Rattle.std.specs.Str.{bytes_eq}
-use Rattle.std.proofs.lemmas.Bool.{and_from, le-leb}
+use Rattle.std.proofs.lemmas.Bool.{le-leb}
 use Rattle.std.proofs.lemmas.Fmt.{decimal_digit}
 use Rattle.std.proofs.Math.Pow.{pow_mono}
 use Rattle.thp_model.specs.declared.shape.Shape.{Shape}
 use Rattle.thp_model.specs.Shapes.{IsShape, subpages}
 use Rattle.thp_text.specs.declared.fault.TextKind.{TextKind}
-use Rattle.thp_text.specs.Commands.{number_up_to}
 use Rattle.thp_text.specs.Readings.{◌>>=◌}
 use Rattle.thp_text.specs.Words.{Text}
 use Rattle.thp_journal.specs.declared.version.Version.{Version as Written}

@@ -1,23 +1,22 @@
 -- A set of subpages is read back from its text.
-use Rattle.std.proofs.Common.{◌≡◌, ◌==◌, ◌⊎◌, ◌<◌, ◌≤◌, ◌+◌, ◌^◌, ℕ, zero, suc, Bool, true, false, cond, not, ◌&&◌, ◌||◌, List, [], ◌∷◌, ◌++◌, map, length, get_or, Result, Ok, Err, Some, append_assoc, refl, ap, sym, subst, ◌∙◌, arith, inl, inr, codes}
-use Rattle.std.specs.Prelude.{nat_le, nat_lt, ok_or, ⊤}
+use Rattle.std.proofs.Common.{◌≡◌, ◌==◌, ◌<◌, ◌≤◌, ◌+◌, ℕ, zero, suc, Bool, true, false, cond, not, ◌||◌, List, [], ◌∷◌, ◌++◌, map, length, get_or, Result, Ok, append_assoc, refl, ap, sym, ◌∙◌, arith, inl, inr, codes}
+use Rattle.std.specs.Prelude.{⊤}
 use Rattle.std.specs.Fmt.{decimal}
 use Rattle.std.specs.List.{list_all, list_any, join_with_byte, range_with_len}
 use Rattle.std.specs.Str.{bytes_eq}
-use Rattle.std.proofs.lemmas.Bool.{and_parts, and_from, or_cases, or_left, or_right, eqb-true, eqb-false, eq-eqb, ne_eqb, le-leb, leb-true, lt-ltb, false_from_ne_true, cases_Bool, cases_eq, or_from, not_from_false}
+use Rattle.std.proofs.lemmas.Bool.{and_parts, and_from, or_cases, or_left, or_right, eqb-true, eqb-false, eq-eqb, ne_eqb, le-leb, leb-true, lt-ltb, false_from_ne_true, cases_eq, or_from, not_from_false}
 use Rattle.std.proofs.Math.Bool.{or_assoc}
 use Rattle.std.proofs.Math.Nat.{add-zero}
 use Rattle.std.proofs.lemmas.Slice.Eq.{bytes_eq-Decides}
 use Rattle.thp_model.specs.Sets.{set_of}
 use Rattle.thp_text.specs.declared.fault.TextKind.{TextKind}
 use Rattle.thp_text.specs.Readings.{◌>>=◌}
-use Rattle.thp_text.specs.Statements.{is_empty}
+use Rattle.thp_text.specs.Lines.{is_empty}
 use Rattle.thp_text.specs.Words.{Text, number_of, pieces_at}
 use Rattle.thp_text.proofs.NumberLaws.{number_of-decimal}
-use Rattle.thp_journal.specs.SetTexts as written
 use Rattle.thp_journal.specs.SetTexts.{Run, with_number, runs_from, run_text, runs_text, set_text}
-use Rattle.thp_read.specs.SetTexts.{covers_number, set_with, subpage_number, run_of_one, longer_run, run_of_numbers, run_of, run_from, runs_of, set_of_text}
-use Rattle.thp_laws.proofs.Splitting.{all_append, all_joined, all_wider, cut_once, is_without, joined, single}
+use Rattle.thp_read.specs.SetTexts.{covers_number, set_with, subpage_number, longer_run, run_of_numbers, run_of, run_from, runs_of, set_of_text}
+use Rattle.thp_laws.proofs.Splitting.{all_append, all_joined, cut_once, is_without, joined, single}
 use Rattle.thp_laws.proofs.PlainWords.{decimal_plain, decimal_without, is_plain, is_solid, plain_solid}
 
 -- tests that hold of the same are the same
@@ -64,6 +63,7 @@ one_number : (i j : ℕ) → covers_number j (i, i) ≡ (j == i)
 one_number i j = same_test (covers_number j (i, i)) (j == i) parts from where
   parts : covers_number j (i, i) ≡ true → (j == i) ≡ true
   parts e = let p = covers_parts j (i, i) e in eq-eqb j i (omega arith)
+
   from : (j == i) ≡ true → covers_number j (i, i) ≡ true
   from e = let same = eqb-true j i e in covers_from j (i, i) (omega arith) (omega arith)
 
@@ -77,6 +77,7 @@ longer_by_one i j run next grows = same_test (covers_number j (i, run.1)) ((j ==
         | inl same ↦ or_left _ _ (eq-eqb j i same)
         | inr other ↦ or_right (j == i) _ (covers_from j run (omega arith) (omega arith))
       ]
+
   from : ((j == i) || covers_number j run) ≡ true → covers_number j (i, run.1) ≡ true
   from e = elim (or_cases _ _ e) [
     | inl same ↦ let is = eqb-true j i same in covers_from j (i, run.1) (omega arith) (omega arith)
@@ -119,8 +120,8 @@ by_places test i (b ∷ truths) f =
     let first : test i ≡ b = ap test (sym (add-zero i)) ∙ f 0 (omega arith) in
     let tail : map test (range_with_len (i + 1) (length truths)) ≡ truths = by_places test (i + 1) truths (λ k lt. ap test (place i k) ∙ f (suc k) (omega arith)) in
     cc where
-  place : (i k : ℕ) → i + 1 + k ≡ i + suc k
-  place i k = omega arith
+      place : (i k : ℕ) → i + 1 + k ≡ i + suc k
+      place i k = omega arith
 
 -- the set that the runs of a set make is that set
 pub set_of_its_runs : (set : List Bool) → length set ≡ 512 → set_with (runs_from 0 set) ≡ set
@@ -141,8 +142,10 @@ unfolding run_of ok_run
 run_back run grows lt = go (run.0 == run.1) refl where
   number : (n : ℕ) → n < 512 → subpage_number (decimal n) ≡ Ok n
   number n below = rw (number_of-decimal 511 n (omega arith) (omega arith)) refl
+
   longer : (a b : ℕ) → subpage_number (decimal a) ≡ Ok a → subpage_number (decimal b) ≡ Ok b → a < b → longer_run (decimal a) (decimal b) ≡ Ok (a, b)
   longer a b first last less = rw (first, last, lt-ltb a b less) refl
+
   go : (b : Bool) → (run.0 == run.1) ≡ b → run_of_numbers (pieces_at 45 (cond b (decimal run.0) (decimal run.0 ++ codes "-" ++ decimal run.1))) ≡ Ok run
   go true e =
       let same : run.0 ≡ run.1 = eqb-true _ _ e in
@@ -214,6 +217,7 @@ run_some : (run : Run) → run.1 < 512 → run.0 ≤ run.1 → not (is_empty (ru
 run_some run lt grows = go (run.0 == run.1) where
   first : not (is_empty (decimal run.0)) ≡ true
   first = (and_parts _ _ (decimal_plain run.0 (omega arith))).0
+
   go : (b : Bool) → not (is_empty (cond b (decimal run.0) (decimal run.0 ++ codes "-" ++ decimal run.1))) ≡ true
   go true = first
   go false = ap (λ text. not (is_empty text)) (append_assoc (decimal run.0) (codes "-") (decimal run.1)) ∙ some_of_some (decimal run.0) (codes "-" ++ decimal run.1) first

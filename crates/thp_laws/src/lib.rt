@@ -6,4 +6,4 @@
 
 mod laws;
 
-pub use laws::journals_are_read_back;
+pub use laws::{journals_are_read_back, no_block_shows, one_text_is_of_one_run};
