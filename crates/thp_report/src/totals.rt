@@ -4,7 +4,7 @@ ghost use Rattle.thp_model.specs.Counts.{allocations};
 ghost use Rattle.thp_report.specs.Totals.{number_line, nine_lines, underused_line, node_totals, totals_text};
 ghost use Rattle.thp_report.specs.Reports.{told_of};
 
-use crate::writing::{put_wide, put_word};
+use crate::writing::{put, put_wide};
 use std::alloc::{AllocError, Global};
 use thp_model::{Event, What};
 use thp_node::Node;
@@ -33,23 +33,23 @@ fn put_nine_lines(text: &mut Vec<u8>, number: usize, node: &Node) -> Result<(), 
     ensures { OnOk result (text.new.items ≡ text.old.items ++ nine_lines number node.now.shape node.now.journal) }
 {
     let counters = node.counters();
-    put_line(text, "node ", number as u128)?;
-    put_line(text, "pages ", allocations_in(node.journal()) as u128)?;
-    put_line(text, "queue ", u128::from(node.queue_len()))?;
-    put_line(text, "frames_held ", node.frames_held())?;
-    put_line(text, "frames_given ", node.frames_given())?;
-    put_line(text, "thp_split_page ", u128::from(counters.split_page))?;
+    put_line(text, b"node ", number as u128)?;
+    put_line(text, b"pages ", allocations_in(node.journal()) as u128)?;
+    put_line(text, b"queue ", u128::from(node.queue_len()))?;
+    put_line(text, b"frames_held ", node.frames_held())?;
+    put_line(text, b"frames_given ", node.frames_given())?;
+    put_line(text, b"thp_split_page ", u128::from(counters.split_page))?;
     put_line(
         text,
-        "thp_split_page_failed ",
+        b"thp_split_page_failed ",
         u128::from(counters.split_page_failed),
     )?;
     put_line(
         text,
-        "thp_deferred_split_page ",
+        b"thp_deferred_split_page ",
         u128::from(counters.deferred_split_page),
     )?;
-    put_line(text, "thp_split_pmd ", counters.split_pmd)
+    put_line(text, b"thp_split_pmd ", counters.split_pmd)
 }
 
 /// Puts the tenth line of a node whose shrinker looks for underused pages.
@@ -61,15 +61,15 @@ fn put_underused_line(text: &mut Vec<u8>, node: &Node) -> Result<(), AllocError>
         return Ok(());
     }
     let split = node.counters().underused_split_page;
-    put_line(text, "thp_underused_split_page ", u128::from(split))
+    put_line(text, b"thp_underused_split_page ", u128::from(split))
 }
 
 #[tactic(auto, using(crate::proofs::Pieces::two), unfolding(crate::specs::Totals::number_line))]
-fn put_line(text: &mut Vec<u8>, label: &str, number: u128) -> Result<(), AllocError>
+fn put_line(text: &mut Vec<u8>, label: &[u8], number: u128) -> Result<(), AllocError>
     ensures { OnOk result (text.new.items ≡ text.old.items ++ number_line label.now number) }
 {
-    put_wide(text, label, number)?;
-    put_word(text, "\n")
+    put(text, label)?;
+    put_wide(text, number)
 }
 
 /// How many pages were allocated.
