@@ -4,5 +4,10 @@
 //! `Answers` and `Reports`. No block shows in any.
 #![tactic(auto)]
 
+mod answers;
+mod laws;
+mod report;
 mod totals;
-mod writing;
+
+pub use laws::totals_tell_no_block;
+pub use report::report_text;

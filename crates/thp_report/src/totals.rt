@@ -4,8 +4,9 @@ ghost use Rattle.thp_model.specs.Counts.{allocations};
 ghost use Rattle.thp_report.specs.Totals.{number_line, nine_lines, underused_line, node_totals, totals_text};
 ghost use Rattle.thp_report.specs.Reports.{told_of};
 
-use crate::writing::{put, put_wide};
+use itoa::Buffer;
 use std::alloc::{AllocError, Global};
+use thp_journal::put;
 use thp_model::{Event, What};
 use thp_node::Node;
 
@@ -64,12 +65,13 @@ fn put_underused_line(text: &mut Vec<u8>, node: &Node) -> Result<(), AllocError>
     put_line(text, b"thp_underused_split_page ", u128::from(split))
 }
 
-#[tactic(auto, using(crate::proofs::Pieces::two), unfolding(crate::specs::Totals::number_line))]
+#[tactic(auto, using(crate::proofs::Pieces::three), unfolding(crate::specs::Totals::number_line))]
 fn put_line(text: &mut Vec<u8>, label: &[u8], number: u128) -> Result<(), AllocError>
     ensures { OnOk result (text.new.items ≡ text.old.items ++ number_line label.now number) }
 {
     put(text, label)?;
-    put_wide(text, number)
+    put(text, Buffer::new().format(number).as_bytes())?;
+    put(text, b"\n")
 }
 
 /// How many pages were allocated.
