@@ -1,0 +1,3 @@
+pub mod NewNodes
+pub mod Runs
+pub mod Sections

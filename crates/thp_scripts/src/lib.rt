@@ -1,0 +1,4 @@
+//! Whole scripts run by workers on nodes that they share.
+#![tactic(auto)]
+
+mod sections;
