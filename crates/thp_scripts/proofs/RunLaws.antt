@@ -89,7 +89,7 @@ length-numbered : (k : ℕ) (ws : List Worked) → length (numbered k ws) ≡ le
 length-numbered k [] = refl
 length-numbered k (w ∷ ws) = ap suc (length-numbered (k + 1) ws)
 
-all_work-length : (c : ℕ) (old new : Fronts) (vs : List (Vec Command Global)) (ws : List Worked) → AllWork c old new vs ws → length vs ≡ length ws
+pub all_work-length : (c : ℕ) (old new : Fronts) (vs : List (Vec Command Global)) (ws : List Worked) → AllWork c old new vs ws → length vs ≡ length ws
 unfolding AllWork
 all_work-length c old new [] [] a = refl
 all_work-length c old new [] (w ∷ ws) a = absurd a
@@ -123,7 +123,7 @@ work_at c (suc k) old new (v ∷ vs) (w ∷ ws) commands section a done at-comma
     let place : c + 1 + k ≡ c + suc k = omega arith in
     record { worked = next.worked; is = next.is ∙ ap (λ k. record { worker = k; answers = next.worked.answers }) place; works = subst (λ k. Works k old new commands next.worked) place next.works; done = next.done }
 
-same_nodes : (f g : Fronts) → SameHolding f g → SameNodes f g
+pub same_nodes : (f g : Fronts) → SameHolding f g → SameNodes f g
 same_nodes f g s = record { cells = s.cells; nodes = s.nodes; shape = s.shape; callers = s.callers }
 
 -- nothing happened before, and nobody beyond the workers did anything

@@ -60,7 +60,7 @@ fn do_rest<P: Steps>(
     requires most { length workers.now ≤ 63 }
     requires sections { All (IsSection (P.fronts passes.old).nodes) workers.now }
     requires worked { (old : Fronts) × AllWork 1 old (P.fronts passes.old) workers.now worked.items }
-    ensures goes { GoesFrom 1 (P.fronts passes.old) (P.fronts passes.new) }
+    ensures goes { IfOk result (λ _. GoesFrom 1 (P.fronts passes.old) (P.fronts passes.new)) }
     ensures work { (old : Fronts) → AllWork 1 old (P.fronts passes.old) workers.now worked.items → IfOk result (λ r. AllWork 1 old (P.fronts passes.new) workers.now r.items) }
     ensures done { IfOk result (λ r. All IsDoneFor r.items) }
 {
