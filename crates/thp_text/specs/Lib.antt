@@ -1,5 +1,6 @@
 pub mod Settings
 pub mod Words
+pub mod Lines
 pub mod TextKinds
 pub mod Readings
 pub mod Commands

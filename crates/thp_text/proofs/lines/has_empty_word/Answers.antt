@@ -1,8 +1,8 @@
 use Rattle.std.proofs.Common.{rules, tests, ◌==◌}
 use Rattle.std.proofs.lemmas.Iterator.Search.{any_from_yields_List}
 use Rattle.std.proofs.lemmas.Iterator.Splits.{YieldsList-from_slice_split}
-use Rattle.thp_text.specs.Statements.{is_empty}
-use Rattle.thp_text.proofs.statement.has_empty_word.Goals as goal
+use Rattle.thp_text.specs.Lines.{is_empty}
+use Rattle.thp_text.proofs.lines.has_empty_word.Goals as goal
 
 pub returns : goal.returns
 returns c =
