@@ -1,0 +1,3 @@
+pub mod SetLaws
+pub mod JournalLaws
+pub mod NodeLaws

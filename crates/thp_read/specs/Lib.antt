@@ -4,3 +4,4 @@ pub mod EventLines
 pub mod JournalLines
 pub mod LineRanges
 pub mod Journals
+pub mod Reading
