@@ -3,7 +3,7 @@ use Rattle.std.proofs.Common.{◌≡◌, ℕ, ◌+◌, ◌<◌, ◌≤◌, List,
 use Rattle.std.proofs.lemmas.Bool.{lt-ltb, le-ltb}
 use Rattle.std.proofs.lemmas.List.{append-nil}
 use Rattle.thp_text.specs.declared.fault.TextKind.{TextKind}
-use Rattle.thp_text.specs.declared.fault.TextKind.TheVariants.{TooLong}
+use Rattle.thp_text.specs.declared.fault.TextKind.TheVariants.{Cut, TooLong}
 use Rattle.thp_text.specs.Lines.{fault_behind}
 use Rattle.thp_text.specs.Readings.{◌>>=◌}
 use Rattle.thp_text.specs.Scripts.{Fault}
@@ -12,9 +12,10 @@ use Rattle.thp_text.proofs.PieceLaws.{has_first}
 use Rattle.thp_read.specs.declared.journals.Journals.{Journals}
 use Rattle.thp_read.specs.declared.line.Line.{Line}
 use Rattle.thp_read.specs.declared.place.Place.{Place}
-use Rattle.thp_read.specs.declared.place.Place.TheVariants.{Start}
+use Rattle.thp_read.specs.declared.place.Place.TheVariants.{Start, Inside, Ended}
 use Rattle.thp_read.specs.JournalLines.{line_in, place_after}
-use Rattle.thp_read.specs.Journals.{end_of_text, fault_at, journals_of, journals_with, lines_from, nodes_of}
+use Rattle.thp_read.specs.Journals.{end_of_text, journals_of, journals_with, lines_from, nodes_of}
+use Rattle.thp_read.specs.Reading.{fault_at}
 
 abbrev pub Read : Type 0
 Read = Result (List Line) Fault
@@ -41,7 +42,7 @@ line_fails : (n : ℕ) (place : Place) (texts : List Text) (text after : Text) (
 unfolding lines_from
 line_fails n place texts text after kind e says = let f = has_first 10 after in rw (e, f.2, ← says) refl
 
-line_ends : (n : ℕ) (place : Place) (texts : List Text) (text : Text) → texts ≡ text ∷ [] → lines_from n place texts ≡ end_of_text n (fault_at (fault_behind text) place)
+line_ends : (n : ℕ) (place : Place) (texts : List Text) (text : Text) → texts ≡ text ∷ [] → lines_from n place texts ≡ end_of_text n place (fault_behind text)
 unfolding lines_from
 line_ends n place texts text e = rw e refl
 
@@ -56,6 +57,23 @@ pub read_line_more : (text : Text) (lines : List Line) (n : ℕ) (place : Place)
     → IsReadTo text (lines ++ line ∷ []) (n + 1) (place_after place line) after
 read_line_more text lines n place rest first after line so-far e says =
     so-far ∙ rw (line_says n place (lines_of rest) first after line e says) (behind-behind lines (line ∷ []) (lines_from (n + 1) (place_after place line) (lines_of after)))
+
+-- ---- the end of the text
+
+ends_none : (n : ℕ) (place : Place) (o : Option TextKind) → None ≡ fault_at o place → end_of_text n place o ≡ Ok []
+ends_none n (Ended version) None e = refl
+ends_none n Start None e = absurd cc
+ends_none n (Inside version nodes) None e = absurd cc
+ends_none n place (Some kind) e = absurd cc
+
+kind_of : (n : ℕ) (first second : TextKind) → Some first ≡ Some second → end_of_text n Start (Some second) ≡ Err (n, first)
+kind_of n first second e = cc
+
+ends_some : (n : ℕ) (place : Place) (o : Option TextKind) (kind : TextKind) → Some kind ≡ fault_at o place → end_of_text n place o ≡ Err (n, kind)
+ends_some n (Ended version) None kind e = absurd cc
+ends_some n Start None kind e = kind_of n kind Cut e
+ends_some n (Inside version nodes) None kind e = kind_of n kind Cut e
+ends_some n place (Some other) kind e = kind_of n kind other e
 
 -- ---- what the whole text is read as
 
@@ -79,13 +97,13 @@ journals_with-nodes lines journals is = rw (← is) refl
 pub ends_well : (text : Text) (lines : List Line) (n : ℕ) (place : Place) (rest last : Text) (journals : Journals) → length text ≤ 16777216 → IsReadTo text lines n place rest → lines_of rest ≡ last ∷ [] → None ≡ fault_at (fault_behind last) place → journals.nodes ≡ nodes_of 1 lines
     → journals_of text ≡ Ok journals
 ends_well text lines n place rest last journals le so-far e fault is =
-    journals_of-ok text lines le (so-far ∙ rw (line_ends n place (lines_of rest) last e, ← fault) (ap (λ (ls : List Line). Ok ls) (append-nil lines)))
+    journals_of-ok text lines le (so-far ∙ rw (line_ends n place (lines_of rest) last e, ends_none n place (fault_behind last) fault) (ap (λ (ls : List Line). Ok ls) (append-nil lines)))
     ∙ ap (λ (js : Journals). Ok js) (journals_with-nodes lines journals is)
 
 pub ends_cut : (text : Text) (lines : List Line) (n : ℕ) (place : Place) (rest last : Text) (kind : TextKind) → length text ≤ 16777216 → IsReadTo text lines n place rest → lines_of rest ≡ last ∷ [] → Some kind ≡ fault_at (fault_behind last) place
     → journals_of text ≡ Err (n, kind)
 ends_cut text lines n place rest last kind le so-far e fault =
-    journals_of-err text (n, kind) le (so-far ∙ rw (line_ends n place (lines_of rest) last e, ← fault) refl)
+    journals_of-err text (n, kind) le (so-far ∙ rw (line_ends n place (lines_of rest) last e, ends_some n place (fault_behind last) kind fault) refl)
 
 pub stops_at_line : (text : Text) (lines : List Line) (n : ℕ) (place : Place) (rest first after : Text) (kind : TextKind) → length text ≤ 16777216 → IsReadTo text lines n place rest → lines_of rest ≡ first ∷ lines_of after → Err kind ≡ line_in place first
     → journals_of text ≡ Err (n, kind)

@@ -132,6 +132,16 @@ nodes_step lines line number old new is so-far at =
     let same : number ≡ 1 + length lines = omega arith in
     is ∙ ap (λ (ns : List NodeJournal). with_line number ns line) so-far ∙ ap (λ (n : ℕ). with_line n (nodes_of 1 lines) line) same ∙ sym (nodes_of-push 1 lines line)
 
+-- the last of some nodes that another stands behind is that one
+pub on_last-push : (f : NodeJournal → NodeJournal) (nodes : List NodeJournal) (node : NodeJournal) → on_last f (nodes ++ node ∷ []) ≡ nodes ++ f node ∷ []
+on_last-push f [] node = refl
+on_last-push f (first ∷ []) node = refl
+on_last-push f (first ∷ next ∷ nodes) node = ap (λ (ns : List NodeJournal). first ∷ ns) (on_last-push f (next ∷ nodes) node)
+
+-- the last node of those that were read gets one more event
+pub last_grows : (f : NodeJournal → NodeJournal) (closed : List NodeJournal) (last grown : NodeJournal) (nodes : List NodeJournal) → grown ≡ f last → nodes ≡ closed ++ last ∷ [] → closed ++ grown ∷ [] ≡ on_last f nodes
+last_grows f closed last grown nodes is are = rw (is, are) (sym (on_last-push f closed last))
+
 -- ---- what is known of the nodes
 
 later : (number : ℕ) (node : NodeJournal) → IsNodeBefore number node → IsNodeBefore (number + 1) node
@@ -182,6 +192,6 @@ pub if_ok : {A E : Type 0} (r : Result A E) (P Q : A → Type 0) → IfOk r P �
 if_ok (Ok x) P Q h f = f x h
 if_ok (Err e) P Q h f = tt
 
-pub tells_memory : (r : Result Journals ReadFault) (read : Result Journals Fault) → IfErr r (λ fault. fault ≡ OutOfMemory) → IfErr r (TellsFault read)
+pub tells_memory : {A : Type 0} (r : Result A ReadFault) (read : Result Journals Fault) → IfErr r (λ fault. fault ≡ OutOfMemory) → IfErr r (TellsFault read)
 tells_memory (Ok x) read h = tt
 tells_memory (Err fault) read h = rw h tt

@@ -18,20 +18,19 @@ use Rattle.thp_read.specs.declared.place.Place.{Place}
 use Rattle.thp_read.specs.declared.place.Place.TheVariants.{Start, Inside, Ended}
 use Rattle.thp_read.specs.JournalLines.{line_in, place_after}
 
--- what stands behind the last line is at fault; where nothing stands there, the journal is cut unless it has come to its end
-abbrev pub fault_at : Option TextKind → Place → Option TextKind
-fault_at (Some kind) place = Some kind
-fault_at None (Ended version) = None
-fault_at None _ = Some Cut
+-- where nothing stands behind the last line, the journal has come to its end, or is cut there
+abbrev pub end_at : ℕ → Place → Result (List Line) Fault
+end_at number (Ended version) = Ok []
+end_at number _ = Err (number, Cut)
 
-abbrev pub end_of_text : ℕ → Option TextKind → Result (List Line) Fault
-end_of_text number None = Ok []
-end_of_text number (Some kind) = Err (number, kind)
+abbrev pub end_of_text : ℕ → Place → Option TextKind → Result (List Line) Fault
+end_of_text number place None = end_at number place
+end_of_text number place (Some kind) = Err (number, kind)
 
 -- what the lines from number `number` on say, from this place on
 unfoldable pub lines_from : ℕ → Place → List Text → Result (List Line) Fault
 lines_from number place [] = Ok []
-lines_from number place (behind ∷ []) = end_of_text number (fault_at (fault_behind behind) place)
+lines_from number place (behind ∷ []) = end_of_text number place (fault_behind behind)
 lines_from number place (text ∷ next ∷ texts) = do
   line ← on_line number (line_in place text)
   lines ← lines_from (number + 1) (place_after place line) (next ∷ texts)

@@ -5,3 +5,4 @@ pub mod JournalLines
 pub mod LineRanges
 pub mod Journals
 pub mod Reading
+pub mod Answers

@@ -4,9 +4,13 @@ use Rattle.thp_model.specs.declared.events.Event.{Event}
 use Rattle.thp_model.specs.declared.shape.Shape.{Shape}
 use Rattle.thp_model.specs.BlockLaws.{event_with, least_free}
 use Rattle.thp_model.specs.Shapes.{IsShape}
+use Rattle.thp_text.specs.declared.fault.TextKind.{TextKind}
+use Rattle.thp_text.specs.declared.fault.TextKind.TheVariants.{Cut}
 use Rattle.thp_read.specs.declared.journals.NodeJournal.{NodeJournal}
 use Rattle.thp_read.specs.declared.line.Line.{Line}
 use Rattle.thp_read.specs.declared.line.Line.TheVariants.{Head, Node, Happened, End}
+use Rattle.thp_read.specs.declared.place.Place.{Place}
+use Rattle.thp_read.specs.declared.place.Place.TheVariants.{Start, Inside, Ended}
 use Rattle.thp_read.specs.declared.reading.Nodes.{Nodes}
 use Rattle.thp_read.specs.declared.reading.OpenNode.{OpenNode}
 
@@ -57,3 +61,9 @@ pub record IsNodeBefore (number : ℕ) (node : NodeJournal) : Type 0 where
 pub record IsReading (number : ℕ) (nodes : Option Nodes) : Type 0 where
   pub along : IfSome nodes (λ n. GoesAlong n.last)
   pub each : All (IsNodeBefore number) (nodes_in nodes)
+
+-- what stands behind the last line is at fault; where nothing stands there, the journal is cut unless it has come to its end
+abbrev pub fault_at : Option TextKind → Place → Option TextKind
+fault_at (Some kind) place = Some kind
+fault_at None (Ended version) = None
+fault_at None _ = Some Cut

@@ -1,5 +1,5 @@
 -- Sets of subpages from text: their maximal runs, ascending and joined by commas (this project's journal format).
-use Rattle.std.specs.Prelude.{ℕ, ◌+◌, ◌&&◌, nat_le, nat_lt, Bool, false, List, [], ◌∷◌, Result, Ok, Err, codes, ok_or, if◌then◌else◌}
+use Rattle.std.specs.Prelude.{ℕ, ◌+◌, ◌&&◌, nat_le, nat_lt, Bool, List, [], ◌∷◌, Result, Ok, Err, codes, ok_or, if◌then◌else◌}
 use Rattle.std.specs.List.{list_any}
 use Rattle.std.specs.Str.{bytes_eq}
 use Rattle.thp_model.specs.Sets.{set_of}
@@ -67,4 +67,4 @@ set_of_runs text = runs_of 0 (pieces_at 44 text) >>= λ runs. Ok (set_with runs)
 
 -- the set that a text writes: `-` for none of the numbers, else runs
 unfoldable pub set_of_text : Text → Result (List Bool) TextKind
-set_of_text text = if bytes_eq text (codes "-") then Ok (set_of (λ i. false)) else set_of_runs text
+set_of_text text = if bytes_eq text (codes "-") then Ok (set_with []) else set_of_runs text

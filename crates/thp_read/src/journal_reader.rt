@@ -1,6 +1,7 @@
 //! Journals from bytes.
 ghost use Rattle.std.specs.Prelude.{◌≡◌, Ok, IfOk, IfErr};
-ghost use Rattle.thp_read.specs.Journals.{fault_at, journals_of, AreJournals};
+ghost use Rattle.thp_read.specs.Journals.{journals_of, AreJournals};
+ghost use Rattle.thp_read.specs.Reading.{fault_at};
 ghost use Rattle.thp_text.specs.Lines.{fault_behind};
 ghost use Rattle.thp_text.specs.Scripts.{TellsFault};
 

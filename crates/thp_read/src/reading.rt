@@ -1,5 +1,6 @@
 //! The nodes of a journal as its lines are read.
 ghost use Rattle.std.specs.Prelude.{◌≡◌, ◌≤◌, ◌<◌, ◌+◌, ◌++◌, ◌∷◌, [], IfOk, IfErr, OnOk, IfSome};
+ghost use Rattle.thp_model.specs.History.{by};
 ghost use Rattle.thp_read.specs.LineRanges.{IsInRange};
 ghost use Rattle.thp_read.specs.Reading.{began, journal_so_far, nodes_in, with_event, with_line, on_last, GoesAlong, IsReading};
 ghost use Rattle.thp_text.specs.declared.fault.ReadFault.TheVariants.{OutOfMemory};
@@ -8,7 +9,7 @@ use crate::journals::{Journals, NodeJournal};
 use crate::line::Line;
 use std::alloc::{AllocError, Global};
 use thp_blocks::LeastBlocks;
-use thp_model::{Event, Shape};
+use thp_model::{Event, Shape, What};
 use thp_text::{ReadFault, Sequence};
 
 /// A node whose events are being read, and the blocks of its pages.
@@ -36,12 +37,12 @@ impl OpenNode {
     }
 
     /// Adds an event, an allocation in the least free block.
-    fn push(&mut self, event: Event) -> Result<(), AllocError>
+    fn push(&mut self, caller: u32, what: What) -> Result<(), AllocError>
         requires { GoesAlong self.old }
         ensures along { OnOk result (GoesAlong self.new) }
-        ensures pushed { OnOk result (journal_so_far self.new ≡ with_event event (journal_so_far self.old)) }
+        ensures pushed { OnOk result (journal_so_far self.new ≡ with_event (by caller what) (journal_so_far self.old)) }
     {
-        let event = self.blocks.place(event)?;
+        let event = self.blocks.place(Event { caller, what })?;
         self.events.push(event)?;
         Ok(())
     }
@@ -100,7 +101,7 @@ fn push(nodes: &mut Option<Nodes>, event: Event) -> Result<(), AllocError>
     ensures along { OnOk result (IfSome nodes.new (λ n. GoesAlong n.last)) }
 {
     if let Some(nodes) = nodes {
-        nodes.last.push(event)?;
+        nodes.last.push(event.caller, event.what)?;
     }
     Ok(())
 }

@@ -1,7 +1,7 @@
 //! Sets of subpages from text.
-ghost use Rattle.std.specs.Prelude.{◌≡◌, ◌≤◌, ◌+◌, ◌||◌, IfOk, length};
+ghost use Rattle.std.specs.Prelude.{◌≡◌, ◌≤◌, ◌+◌, ◌||◌, [], IfOk, length};
 ghost use Rattle.thp_model.specs.Sets.{has, set_of};
-ghost use Rattle.thp_read.specs.SetTexts.{covers_number, longer_run, run_from, run_of, run_of_one, set_of_runs, set_of_text, subpage_number};
+ghost use Rattle.thp_read.specs.SetTexts.{covers_number, longer_run, run_from, run_of, run_of_one, set_of_runs, set_of_text, set_with, subpage_number};
 
 use thp_model::SubSet;
 use thp_text::{TextKind, cut_at, number};
@@ -106,13 +106,20 @@ fn set_of_runs(text: &[u8]) -> Result<SubSet, TextKind>
     }
 }
 
+#[tactic(auto, unfolding(crate::specs::SetTexts::set_with))]
+fn set_of_none() -> SubSet
+    ensures { result ≡ set_with [] }
+{
+    SubSet::empty()
+}
+
 /// The set that a text writes: its maximal runs, ascending, with commas between them, or `-` where it is empty.
 #[tactic(auto, unfolding(crate::specs::SetTexts::set_of_text))]
 pub(crate) fn set_of_text(text: &[u8]) -> Result<SubSet, TextKind>
     ensures { result ≡ set_of_text text.now }
 {
     if text == b"-".as_slice() {
-        return Ok(SubSet::empty());
+        return Ok(set_of_none());
     }
     set_of_runs(text)
 }

@@ -34,5 +34,5 @@ loop-run-preserved c =
         c.put_run.ensures whole ∙ ap (λ (s : List Bool). set_of (λ i. has s i || covers_number i run)) read.1 ∙ set_with_push read.0 run,
         read_run_more c.args.text.now read.0 c.loop-run.least c.loop-run.rest.now c.cut_at.result.0.now c.in-Some.after.now run read.2 (search rules) (search rules),
       );
-      least = omega arith;
+      least = omega (arith, c.in-Ok.ensures.bound);
     }
