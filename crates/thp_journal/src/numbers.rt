@@ -51,6 +51,7 @@ fn digit(number: u64) -> u8
 }
 
 // a number of any length
+#[inline(never)]
 fn put_long(text: &mut Vec<u8>, number: u64, after: u8) -> Result<(), AllocError>
     ensures { OnOk result (text.new.items ≡ text.old.items ++ decimal number ++ after ∷ []) }
 {
