@@ -13,7 +13,8 @@ use Rattle.thp_text.specs.declared.vocabulary.Vocabulary.{Vocabulary}
 use Rattle.thp_text.specs.declared.vocabulary.Vocabulary.TheVariants.{SetupOnly, Whole}
 use Rattle.thp_text.specs.Readings.{◌>>=◌}
 use Rattle.thp_text.specs.Words.{Text, lines_of}
-use Rattle.thp_text.specs.Statements.{statement_in, section_after, fault_behind, IsInRange, IsSectionFor}
+use Rattle.thp_text.specs.Lines.{fault_behind}
+use Rattle.thp_text.specs.Statements.{statement_in, section_after, IsInRange, IsSectionFor}
 use Rattle.thp_text.specs.Scripts.{Fault, Placed, placed, commands_from, end_of, script_with, script_of}
 use Rattle.thp_text.proofs.PieceLaws.{has_first}
 use Rattle.thp_text.proofs.SectionLaws.{PlacedFor}

@@ -5,7 +5,7 @@ use Rattle.thp_text.specs.declared.fault.TextKind.{TextKind}
 use Rattle.thp_text.specs.declared.fault.TextKind.TheVariants.{BadWord, BadCount, BadNumber}
 use Rattle.thp_text.specs.declared.script.Command.{Command}
 use Rattle.thp_text.specs.declared.script.Op.{Op}
-use Rattle.thp_text.specs.declared.script.Op.TheVariants.{Alloc, MapWhole, UnmapWhole, Map, Unmap, SplitPmd, Pin, Unpin, Close, Scan, Count, Take, SplitNext, PutBack}
+use Rattle.thp_text.specs.declared.script.Op.TheVariants.{Alloc, MapWhole, UnmapWhole, Map, Unmap, Write, Zero, SplitPmd, Pin, Unpin, Close, Scan, Count, Take, SplitNext, PutBack}
 use Rattle.thp_text.specs.declared.settings.Settings.{Settings}
 use Rattle.thp_text.specs.declared.vocabulary.Vocabulary.{Vocabulary}
 use Rattle.thp_text.specs.declared.vocabulary.Vocabulary.TheVariants.{SetupOnly, Whole}
@@ -75,11 +75,13 @@ further_command s name words =
     else if bytes_eq name (codes "take") then batch_command (λ count. Take count) s words
     else if bytes_eq name (codes "splitnext") then node_command SplitNext s words
     else if bytes_eq name (codes "putback") then node_command PutBack s words
+    else if bytes_eq name (codes "write") then range_command (λ page first count. Write first count page) s words
+    else if bytes_eq name (codes "zero") then range_command (λ page first count. Zero first count page) s words
     else Err BadWord
 
 -- one of their words
 abbrev pub is_further : Text → Bool
-is_further name = bytes_eq name (codes "count") || bytes_eq name (codes "take") || bytes_eq name (codes "splitnext") || bytes_eq name (codes "putback")
+is_further name = bytes_eq name (codes "count") || bytes_eq name (codes "take") || bytes_eq name (codes "splitnext") || bytes_eq name (codes "putback") || bytes_eq name (codes "write") || bytes_eq name (codes "zero")
 
 -- the commands that are one call of a node each
 unfoldable pub call_command : Settings → Text → List Text → Result Command TextKind
@@ -113,6 +115,8 @@ IsKnown v Count = v ≡ Whole
 IsKnown v (Take count) = v ≡ Whole
 IsKnown v SplitNext = v ≡ Whole
 IsKnown v PutBack = v ≡ Whole
+IsKnown v (Write first count page) = v ≡ Whole
+IsKnown v (Zero first count page) = v ≡ Whole
 IsKnown v _ = ⊤
 
 -- a command of the vocabulary, for a node that there is

@@ -8,7 +8,7 @@ use Rattle.thp_text.specs.declared.operands.PageCall.TheVariants as page
 use Rattle.thp_text.specs.declared.operands.RangeCall.{RangeCall}
 use Rattle.thp_text.specs.declared.operands.RangeCall.TheVariants as range
 use Rattle.thp_text.specs.declared.script.Op.{Op}
-use Rattle.thp_text.specs.declared.script.Op.TheVariants.{MapWhole, UnmapWhole, Map, Unmap, SplitPmd, Pin, Unpin, Scan, Take}
+use Rattle.thp_text.specs.declared.script.Op.TheVariants.{MapWhole, UnmapWhole, Map, Unmap, Write, Zero, SplitPmd, Pin, Unpin, Scan, Take}
 
 -- the command on as many pages as a batch holds
 abbrev pub batch_op : BatchCall → ℕ → Op
@@ -27,3 +27,5 @@ page_op page.Unpin = Unpin
 abbrev pub range_op : RangeCall → ℕ → ℕ → ℕ → Op
 range_op range.Map page first count = Map first count page
 range_op range.Unmap page first count = Unmap first count page
+range_op range.Write page first count = Write first count page
+range_op range.Zero page first count = Zero first count page

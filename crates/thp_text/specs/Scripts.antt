@@ -15,7 +15,8 @@ use Rattle.thp_text.specs.declared.vocabulary.Vocabulary.TheVariants.{SetupOnly,
 use Rattle.thp_text.specs.Readings.{◌>>=◌}
 use Rattle.thp_text.specs.Words.{Text, lines_of}
 use Rattle.thp_text.specs.Commands.{IsCommandFor}
-use Rattle.thp_text.specs.Statements.{statement_in, section_after, fault_behind}
+use Rattle.thp_text.specs.Lines.{fault_behind}
+use Rattle.thp_text.specs.Statements.{statement_in, section_after}
 
 -- the line and the kind of a fault
 abbrev pub Fault : Type 0

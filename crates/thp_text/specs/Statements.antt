@@ -1,9 +1,9 @@
 -- What a line of a script says, and where it may stand (this project's script format).
-use Rattle.std.specs.Prelude.{◌≡◌, ◌==◌, ◌&&◌, ◌≤◌, not, nat_lt, nat_le, ℕ, zero, suc, Bool, true, false, ⊤, List, [], ◌∷◌, length, Option, Some, None, Result, Ok, Err, codes, if◌then◌else◌}
+use Rattle.std.specs.Prelude.{◌≡◌, ◌==◌, ◌≤◌, not, nat_lt, ℕ, zero, suc, Bool, true, false, ⊤, List, [], ◌∷◌, Option, Some, None, Result, Ok, Err, codes, if◌then◌else◌}
 use Rattle.std.specs.List.{list_all, list_any}
 use Rattle.std.specs.Str.{bytes_eq}
 use Rattle.thp_text.specs.declared.fault.TextKind.{TextKind}
-use Rattle.thp_text.specs.declared.fault.TextKind.TheVariants.{BadByte, Cut, BadWord, BadCount, BadNumber, BadOrder}
+use Rattle.thp_text.specs.declared.fault.TextKind.TheVariants.{BadByte, BadWord, BadCount, BadNumber, BadOrder}
 use Rattle.thp_text.specs.declared.settings.Settings.{Settings}
 use Rattle.thp_text.specs.declared.statement.Statement.{Statement}
 use Rattle.thp_text.specs.declared.statement.Statement.TheVariants.{Nothing, Section, Call}
@@ -11,6 +11,7 @@ use Rattle.thp_text.specs.declared.vocabulary.Vocabulary.{Vocabulary}
 use Rattle.thp_text.specs.declared.vocabulary.Vocabulary.TheVariants.{SetupOnly, Whole}
 use Rattle.thp_text.specs.Readings.{◌>>=◌}
 use Rattle.thp_text.specs.Words.{Text, words_of}
+use Rattle.thp_text.specs.Lines.{is_empty, is_printable}
 use Rattle.thp_text.specs.Commands.{command_of, number_up_to, one_word, IsCommandFor}
 
 -- `setup`, which is section 0
@@ -54,17 +55,10 @@ abbrev pub by_words : Vocabulary → Settings → List Text → Result Statement
 by_words v s [] = Err BadWord
 by_words v s (name ∷ words) = section_or_call v s name words
 
--- a printable character of ASCII, 0x20 to 0x7E
-abbrev pub is_printable : ℕ → Bool
-is_printable b = nat_le 32 b && nat_le b 126
-
 -- an empty line, or one that begins with `#` (35)
 abbrev pub says_nothing : Text → Bool
 says_nothing [] = true
 says_nothing (b ∷ _) = b == 35
-
-abbrev pub is_empty : Text → Bool
-is_empty word = length word == 0
 
 -- what a whole line says, wherever it stands; the faults are in their order
 unfoldable pub statement_of : Vocabulary → Settings → Text → Result Statement TextKind
@@ -94,11 +88,6 @@ unfoldable pub statement_in : Vocabulary → Settings → Option ℕ → Text �
 statement_in v s section line = do
   statement ← statement_of v s line
   if may_stand section statement then Ok statement else Err BadOrder
-
--- what stands behind the last line feed: nothing, or a line that is cut
-unfoldable pub fault_behind : Text → Option TextKind
-fault_behind [] = None
-fault_behind (b ∷ line) = Some (if list_all is_printable (b ∷ line) then Cut else BadByte)
 
 -- the section `setup`, or, where the vocabulary has workers, that of a worker that there is
 abbrev pub IsSectionFor : Vocabulary → Settings → ℕ → Type 0

@@ -21,6 +21,8 @@ pub enum TextKind {
     BadCount,
     /// An operand isn't a number, or is out of its range.
     BadNumber,
+    /// A set of subpages isn't written as its maximal runs in ascending order.
+    BadSet,
     /// The line can't stand at this place.
     BadOrder,
 }
@@ -37,6 +39,7 @@ impl TextKind {
             TextKind::BadWord => "bad-word",
             TextKind::BadCount => "bad-count",
             TextKind::BadNumber => "bad-number",
+            TextKind::BadSet => "bad-set",
             TextKind::BadOrder => "bad-order",
         }
     }

@@ -3,6 +3,8 @@
 
 mod fault;
 mod input;
+mod lines;
+mod lists;
 mod operands;
 mod script;
 mod script_reader;
@@ -14,8 +16,11 @@ mod words;
 
 pub use fault::{ReadFault, TextKind};
 pub use input::MAX_INPUT;
+pub use lines::{fault_behind, fault_of_line, has_empty_word, is_printable};
+pub use lists::{read_orders, read_underused};
 pub use script::{Command, Op, Script};
 pub use script_reader::{read_script, read_script_of};
 pub use sequence::Sequence;
 pub use settings::{MAX_NODES, Report, Settings};
 pub use vocabulary::Vocabulary;
+pub use words::{Words, cut_at, number};

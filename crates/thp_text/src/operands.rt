@@ -38,6 +38,8 @@ impl PageCall {
 enum RangeCall {
     Map,
     Unmap,
+    Write,
+    Zero,
 }
 
 impl RangeCall {
@@ -47,6 +49,8 @@ impl RangeCall {
         match self {
             RangeCall::Map => Op::Map { first, count, page },
             RangeCall::Unmap => Op::Unmap { first, count, page },
+            RangeCall::Write => Op::Write { first, count, page },
+            RangeCall::Zero => Op::Zero { first, count, page },
         }
     }
 }
@@ -179,6 +183,8 @@ fn further_command(settings: &Settings, name: &[u8], words: Words) -> Result<Com
         b"take" => batch_command(settings, BatchCall::Take, words),
         b"splitnext" => node_command(settings, Op::SplitNext, words),
         b"putback" => node_command(settings, Op::PutBack, words),
+        b"write" => range_command(settings, RangeCall::Write, words),
+        b"zero" => range_command(settings, RangeCall::Zero, words),
         _ => Err(TextKind::BadWord),
     }
 }
@@ -191,6 +197,8 @@ fn is_further(name: &[u8]) -> bool
         || name == b"take".as_slice()
         || name == b"splitnext".as_slice()
         || name == b"putback".as_slice()
+        || name == b"write".as_slice()
+        || name == b"zero".as_slice()
 }
 
 /// The commands that are one call of a node each.

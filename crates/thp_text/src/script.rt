@@ -14,6 +14,10 @@ pub enum Op {
     Map { first: u16, count: u16, page: u64 },
     /// Takes one PTE mapping of each of `count` subpages of a page away, from subpage `first` on.
     Unmap { first: u16, count: u16, page: u64 },
+    /// Writes to `count` subpages of a page, from subpage `first` on: they aren't zero-filled from then on.
+    Write { first: u16, count: u16, page: u64 },
+    /// Fills `count` subpages of a page with zeros, from subpage `first` on.
+    Zero { first: u16, count: u16, page: u64 },
     /// Splits the PMD mapping of a page.
     SplitPmd { page: u64 },
     /// Pins a page once more.

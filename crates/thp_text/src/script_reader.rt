@@ -6,10 +6,11 @@ ghost use Rattle.thp_text.specs.declared.fault.ReadFault.TheVariants.{OutOfMemor
 
 use crate::fault::{ReadFault, TextKind};
 use crate::input::MAX_INPUT;
+use crate::lines::fault_behind;
 use crate::script::{Command, Script};
 use crate::sequence::Sequence;
 use crate::settings::Settings;
-use crate::statement::{Statement, fault_behind, section_after, statement_in};
+use crate::statement::{Statement, section_after, statement_in};
 use crate::vocabulary::Vocabulary;
 use crate::words::cut_at;
 use std::alloc::Global;

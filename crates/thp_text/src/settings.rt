@@ -1,7 +1,7 @@
 //! What a run is made of: its nodes, their blocks, its workers and its report.
-ghost use Rattle.std.specs.Prelude.{◌≡◌, ◌↔◌, ◌++◌, IsSome, IfSome, drop, replicate, true};
+ghost use Rattle.std.specs.Prelude.{◌≡◌, ◌↔◌, ◌++◌, IsSome, IfSome, IsTrue, None, drop, replicate, true};
 ghost use Rattle.std.specs.List.{list_all};
-ghost use Rattle.thp_text.specs.Settings.{is_order, AreOrdersFor, IsWithinLimits};
+ghost use Rattle.thp_text.specs.Settings.{is_low, is_order, AreLow, AreOrdersFor, AreThresholdsFor, IsWithinLimits};
 
 /// The most nodes of a run.
 pub const MAX_NODES: usize = 8;
@@ -11,6 +11,10 @@ pub const MAX_NODES: usize = 8;
 pub enum Report {
     /// The totals of each node.
     Totals,
+    /// The journal of each node.
+    Journal,
+    /// The answer to each command.
+    Answers,
 }
 
 /// The nodes, blocks and workers of a run, within this project's limits, and its report.
@@ -26,13 +30,17 @@ pub struct Settings {
     pub report: Report,
     /// The order of the pages of each node, 2 to 9; those beyond the nodes aren't looked at.
     pub orders: [u32; MAX_NODES],
+    /// How many zero-filled subpages a page of each node may have before it is worth a split, where the node splits
+    /// underused pages at all; those beyond the nodes aren't looked at.
+    pub underused: [Option<u32>; MAX_NODES],
     pub ghost within_limits: { IsWithinLimits nodes blocks workers },
     pub ghost orders_fit: { list_all is_order orders ≡ true },
+    pub ghost thresholds_fit: { AreLow orders underused },
 }
 
 impl Settings {
-    /// Settings of these numbers, with pages of order 9 on each node, or `None` exactly where one is outside its limits
-    /// (this project's profile).
+    /// Settings of these numbers, with pages of order 9 on each node and no node that splits underused pages, or `None`
+    /// exactly where one is outside its limits (this project's profile).
     pub fn new(nodes: u32, blocks: u32, workers: u32, report: Report) -> Option<Settings>
         ensures limits { IsSome result ↔ IsWithinLimits nodes blocks workers }
         ensures nodes { IfSome result (λ settings. settings.nodes ≡ nodes) }
@@ -40,6 +48,7 @@ impl Settings {
         ensures workers { IfSome result (λ settings. settings.workers ≡ workers) }
         ensures report { IfSome result (λ settings. settings.report ≡ report) }
         ensures orders { IfSome result (λ settings. settings.orders ≡ replicate 8 9) }
+        ensures underused { IfSome result (λ settings. settings.underused ≡ replicate 8 None) }
     {
         if (1..=8).contains(&nodes) && (1..=4096).contains(&blocks) && (1..=63).contains(&workers) {
             Some(Settings {
@@ -48,23 +57,28 @@ impl Settings {
                 workers,
                 report,
                 orders: [9; MAX_NODES],
+                underused: [None; MAX_NODES],
             })
         } else {
             None
         }
     }
 
-    /// These settings with an order for each node, or `None` exactly where there aren't as many as nodes, or one isn't 2
-    /// to 9.
+    /// These settings with an order for each node, or `None` exactly where there aren't as many as nodes, one isn't 2 to 9,
+    /// or one is too small for the threshold of its node.
     pub fn with_orders(self, orders: &[u32]) -> Option<Settings>
-        ensures limits { IsSome result ↔ AreOrdersFor self.nodes orders.now }
+        ensures limits { IsSome result ↔ AreOrdersFor self.nodes self.underused orders.now }
         ensures orders { IfSome result (λ settings. settings.orders ≡ orders.now ++ drop self.nodes self.orders) }
+        ensures underused { IfSome result (λ settings. settings.underused ≡ self.underused) }
         ensures nodes { IfSome result (λ settings. settings.nodes ≡ self.nodes) }
         ensures blocks { IfSome result (λ settings. settings.blocks ≡ self.blocks) }
         ensures workers { IfSome result (λ settings. settings.workers ≡ self.workers) }
         ensures report { IfSome result (λ settings. settings.report ≡ self.report) }
     {
         if orders.len() != self.nodes as usize || !are_orders(orders) {
+            return None;
+        }
+        if !are_low(orders, &self.underused) {
             return None;
         }
         let mut all = self.orders;
@@ -75,6 +89,33 @@ impl Settings {
             workers: self.workers,
             report: self.report,
             orders: all,
+            underused: self.underused,
+        })
+    }
+
+    /// These settings with a threshold for each node that splits underused pages, and `None` for the others. `None` exactly
+    /// where there aren't as many as nodes, or one isn't below the number of subpages of its node's pages.
+    pub fn with_underused(self, thresholds: &[Option<u32>]) -> Option<Settings>
+        ensures limits { IsSome result ↔ AreThresholdsFor self.nodes self.orders thresholds.now }
+        ensures underused { IfSome result (λ settings. settings.underused ≡ thresholds.now ++ drop self.nodes self.underused) }
+        ensures orders { IfSome result (λ settings. settings.orders ≡ self.orders) }
+        ensures nodes { IfSome result (λ settings. settings.nodes ≡ self.nodes) }
+        ensures blocks { IfSome result (λ settings. settings.blocks ≡ self.blocks) }
+        ensures workers { IfSome result (λ settings. settings.workers ≡ self.workers) }
+        ensures report { IfSome result (λ settings. settings.report ≡ self.report) }
+    {
+        if thresholds.len() != self.nodes as usize || !are_low(&self.orders, thresholds) {
+            return None;
+        }
+        let mut all = self.underused;
+        all[..thresholds.len()].copy_from_slice(thresholds);
+        Some(Settings {
+            nodes: self.nodes,
+            blocks: self.blocks,
+            workers: self.workers,
+            report: self.report,
+            orders: self.orders,
+            underused: all,
         })
     }
 }
@@ -83,4 +124,28 @@ fn are_orders(orders: &[u32]) -> bool
     ensures { result ≡ list_all is_order orders.now }
 {
     orders.iter().all(|order| (2..=9).contains(order))
+}
+
+/// Whether a threshold, if there is one, is below the number of subpages of a page of this order.
+fn is_low(order: u32, threshold: Option<u32>) -> bool
+    requires { is_order order ≡ true }
+    ensures { result ≡ is_low order threshold }
+{
+    match threshold {
+        None => true,
+        Some(threshold) => threshold < 1 << order,
+    }
+}
+
+/// Whether each threshold is below the number of subpages of a page of the order at its place.
+fn are_low(orders: &[u32], thresholds: &[Option<u32>]) -> bool
+    requires { list_all is_order orders.now ≡ true }
+    ensures { IsTrue result ↔ AreLow orders.now thresholds.now }
+{
+    for k in 0..orders.len().min(thresholds.len()) {
+        if !is_low(orders[k], thresholds[k]) {
+            return false;
+        }
+    }
+    true
 }

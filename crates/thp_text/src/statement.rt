@@ -1,11 +1,9 @@
 //! What a line of a script says.
-ghost use Rattle.std.specs.Prelude.{◌≡◌, Err, Ok, if◌then◌else◌};
-ghost use Rattle.std.specs.List.{list_all, list_any};
-ghost use Rattle.thp_text.specs.Words.{words_of};
-ghost use Rattle.thp_text.specs.declared.fault.TextKind.TheVariants.{BadByte, BadWord};
-ghost use Rattle.thp_text.specs.Statements.{by_words, call_of, fault_behind, is_empty, is_printable, may_stand, says_nothing, section_after, section_or_call, setup_of, statement_in, statement_of, worker_of, worker_or_call};
+ghost use Rattle.std.specs.Prelude.{◌≡◌};
+ghost use Rattle.thp_text.specs.Statements.{by_words, call_of, may_stand, says_nothing, section_after, section_or_call, setup_of, statement_in, statement_of, worker_of, worker_or_call};
 
 use crate::fault::TextKind;
+use crate::lines::{fault_of_line, is_printable};
 use crate::operands::{command_of, number_up_to};
 use crate::script::Command;
 use crate::settings::Settings;
@@ -105,12 +103,6 @@ fn by_words(
     }
 }
 
-fn is_printable(line: &[u8]) -> bool
-    ensures { result ≡ list_all is_printable line.now }
-{
-    line.iter().all(|b| (b' '..=b'~').contains(b))
-}
-
 fn says_nothing(line: &[u8]) -> bool
     ensures { result ≡ says_nothing line.now }
 {
@@ -118,25 +110,6 @@ fn says_nothing(line: &[u8]) -> bool
         [] => true,
         [first, ..] => *first == b'#',
     }
-}
-
-fn has_empty_word(line: &[u8]) -> bool
-    ensures { result ≡ list_any is_empty (words_of line.now) }
-{
-    line.split(|b| *b == b' ').any(|word| word.is_empty())
-}
-
-/// The fault of a line that doesn't read as a statement, for the reason given.
-fn fault_of(line: &[u8], reading: TextKind) -> TextKind
-    ensures { result ≡ (if list_all is_printable line.now then (if list_any is_empty (words_of line.now) then BadWord else reading) else BadByte) }
-{
-    if !is_printable(line) {
-        return TextKind::BadByte;
-    }
-    if has_empty_word(line) {
-        return TextKind::BadWord;
-    }
-    reading
 }
 
 /// What a whole line says. Where it reads as a statement it has neither bad bytes nor empty words, so its bytes are looked
@@ -157,7 +130,7 @@ fn statement_of(
     }
     match by_words(vocabulary, settings, Words::of_line(line)) {
         Ok(statement) => Ok(statement),
-        Err(reading) => Err(fault_of(line, reading)),
+        Err(reading) => Err(fault_of_line(line, reading)),
     }
 }
 
@@ -198,19 +171,4 @@ pub(crate) fn statement_in(
         return Err(TextKind::BadOrder);
     }
     Ok(statement)
-}
-
-/// The fault of what stands behind the last line feed.
-#[tactic(auto, unfolding(crate::specs::Statements::fault_behind))]
-pub(crate) fn fault_behind(line: &[u8]) -> Option<TextKind>
-    ensures { result ≡ fault_behind line.now }
-{
-    if line.is_empty() {
-        return None;
-    }
-    if is_printable(line) {
-        Some(TextKind::Cut)
-    } else {
-        Some(TextKind::BadByte)
-    }
 }

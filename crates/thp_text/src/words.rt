@@ -16,7 +16,7 @@ fn place_of(byte: u8, text: &[u8]) -> Option<usize>
 }
 
 /// The text up to the first separator, and what follows that separator, where there is one.
-pub(crate) fn cut_at(separator: u8, text: &[u8]) -> (&[u8], Option<&[u8]>)
+pub fn cut_at(separator: u8, text: &[u8]) -> (&[u8], Option<&[u8]>)
     ensures pieces { pieces_at separator text.now ≡ result.0.now ∷ pieces_left separator (option_copied result.1) }
     ensures shorter { IfSome result.1 (λ rest. length rest.now < length text.now) }
 {
@@ -28,7 +28,7 @@ pub(crate) fn cut_at(separator: u8, text: &[u8]) -> (&[u8], Option<&[u8]>)
 
 /// The words of a line that are still to be read.
 #[derive(Drop)]
-pub(crate) struct Words<'a> {
+pub struct Words<'a> {
     // `None` once the last word was read.
     rest: Option<&'a [u8]>,
 }
@@ -44,14 +44,14 @@ impl<'a> Model for Words<'a> {
 }
 
 impl<'a> Words<'a> {
-    pub(crate) fn of_line(line: &'a [u8]) -> Words<'a>
+    pub fn of_line(line: &'a [u8]) -> Words<'a>
         ensures { result ≡ words_of line.entry.now }
     {
         Words { rest: Some(line) }
     }
 
     /// The next word.
-    pub(crate) fn next(&mut self) -> Option<&'a [u8]>
+    pub fn next(&mut self) -> Option<&'a [u8]>
         ensures { MatchOption result ((self.old ≡ []) × (self.new ≡ [])) (λ word. self.old ≡ word.now ∷ self.new) }
     {
         let (word, rest) = cut_at(b' ', self.rest?);
@@ -93,7 +93,7 @@ fn value_of(word: &[u8]) -> Option<u64>
 }
 
 /// The number that a word writes in decimal, without a sign or a leading zero, where it is at most `most`.
-pub(crate) fn number(most: u64, word: &[u8]) -> Option<u64>
+pub fn number(most: u64, word: &[u8]) -> Option<u64>
     ensures value { result ≡ number_of most word.now }
     ensures in_range { IfSome result (λ n. n ≤ most) }
     ensures written { IfSome result (λ n. word.now ≡ decimal n) }

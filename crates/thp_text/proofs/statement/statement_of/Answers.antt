@@ -6,4 +6,4 @@ pub returns-in-Ok : goal.returns-in-Ok
 returns-in-Ok c = statement_of-read c.args.vocabulary c.args.settings.now c.args.line.now c.in-Ok.statement (search rules) (rw c.of_line.ensures at c.in-Ok.ensures)
 
 pub returns-in-Err : goal.returns-in-Err
-returns-in-Err c = rw c.fault_of.ensures (statement_of-fails c.args.vocabulary c.args.settings.now c.args.line.now c.in-Err.reading (search rules) (rw c.of_line.ensures at c.in-Err.ensures))
+returns-in-Err c = rw c.fault_of_line.ensures (statement_of-fails c.args.vocabulary c.args.settings.now c.args.line.now c.in-Err.reading (search rules) (rw c.of_line.ensures at c.in-Err.ensures))
