@@ -63,21 +63,26 @@ line_by_number v n words lt =
 pub number_back : (most n : ℕ) → n ≤ most → most < 2 ^ 64 → number_up_to most (decimal n) ≡ Ok n
 number_back most n le lt = ap (λ o. ok_or o BadNumber) (number_of-decimal most n le lt)
 
+-- a caller
 caller_back : (c : ℕ) → c < 64 → caller_number (decimal c) ≡ Ok c
 caller_back c lt = number_back 63 c (omega arith) (omega arith)
 
+-- a page
 page_back : (p : ℕ) → p < 2 ^ 64 → page_number (decimal p) ≡ Ok p
 page_back p lt = number_back 18446744073709551615 p (omega arith) (omega arith)
 
+-- the first of a range of subpages, or how many they are
 range_back : (n : ℕ) → n < 2 ^ 16 → range_number (decimal n) ≡ Ok n
 range_back n lt = number_back 65535 n (omega arith) (omega arith)
 
+-- an outcome's word is read as that outcome
 outcome_back : (o : Outcome) → outcome_of (outcome_word o) ≡ Ok o
 unfolding outcome_of
 outcome_back Stays = refl
 outcome_back Queued = refl
 outcome_back Freed = refl
 
+-- and is a plain word
 outcome_plain : (o : Outcome) → is_plain (outcome_word o) ≡ true
 outcome_plain Stays = refl
 outcome_plain Queued = refl
@@ -90,26 +95,32 @@ ending_back o word = rw (outcome_back o) refl
 
 -- ---- events, by the words behind their name
 
+-- an event that tells a page alone
 page_event_back : (name : PageWord) (c p : ℕ) → c < 64 → p < 2 ^ 64 → page_event name (decimal c) (decimal p ∷ []) ≡ Ok (by c (page_what name p))
 unfolding page_event
 page_event_back name c p small lt = rw (caller_back c small, page_back p lt) refl
 
+-- one that tells a range of its subpages
 range_event_back : (name : RangeWord) (c p first count : ℕ) → c < 64 → p < 2 ^ 64 → first < 2 ^ 16 → count < 2 ^ 16 → range_event name (decimal c) (decimal p ∷ decimal first ∷ decimal count ∷ []) ≡ Ok (by c (range_what name p first count))
 unfolding range_event
 range_event_back name c p first count small lt low high = rw (caller_back c small, page_back p lt, range_back first low, range_back count high) refl
 
+-- one that tells what became of the page and what it gave back
 loss_event_back : (name : LossWord) (o : Outcome) (c p : ℕ) (set : List Bool) → c < 64 → p < 2 ^ 64 → length set ≡ 512 → loss_event name (decimal c) (decimal p ∷ outcome_word o ∷ set_text set ∷ []) ≡ Ok (by c (loss_what name o p set))
 unfolding loss_event
 loss_event_back name o c p set small lt full = rw (ending_back o (set_text set), caller_back c small, page_back p lt, set_back set full) refl
 
+-- an unmap of a range
 unmap_event_back : (o : Outcome) (c p first count : ℕ) (set : List Bool) → c < 64 → p < 2 ^ 64 → first < 2 ^ 16 → count < 2 ^ 16 → length set ≡ 512 → unmap_event (decimal c) (decimal p ∷ decimal first ∷ decimal count ∷ outcome_word o ∷ set_text set ∷ []) ≡ Ok (by c (UnmapSub o p first count set))
 unfolding unmap_event
 unmap_event_back o c p first count set small lt low high full = rw (ending_back o (set_text set), caller_back c small, page_back p lt, range_back first low, range_back count high, set_back set full) refl
 
+-- a split
 split_event_back : (c p : ℕ) (set : List Bool) → c < 64 → p < 2 ^ 64 → length set ≡ 512 → split_event (decimal c) (decimal p ∷ set_text set ∷ []) ≡ Ok (by c (Split p set))
 unfolding split_event
 split_event_back c p set small lt full = rw (caller_back c small, page_back p lt, set_back set full) refl
 
+-- a close
 close_event_back : (c : ℕ) → c < 64 → close_event (decimal c) [] ≡ Ok (by c Close)
 unfolding close_event
 close_event_back c small = rw (caller_back c small) refl
@@ -155,21 +166,27 @@ what_back v c Close small of fit = event_by_word v (codes "close") _ _ word.Clos
 
 -- ---- its words are plain
 
+-- the name of an event and its page
 page_plain : (name : Text) (p : ℕ) → is_plain name ≡ true → p < 2 ^ 64 → list_all is_plain (name ∷ decimal p ∷ []) ≡ true
 page_plain name p is lt = rw (is, decimal_plain p lt) refl
 
+-- and a range
 range_plain : (name : Text) (p first count : ℕ) → is_plain name ≡ true → p < 2 ^ 64 → first < 2 ^ 16 → count < 2 ^ 16 → list_all is_plain (name ∷ decimal p ∷ decimal first ∷ decimal count ∷ []) ≡ true
 range_plain name p first count is lt low high = rw (is, decimal_plain p lt, decimal_plain first (omega arith), decimal_plain count (omega arith)) refl
 
+-- and an outcome and a set
 loss_plain : (name : Text) (p : ℕ) (o : Outcome) (set : List Bool) → is_plain name ≡ true → p < 2 ^ 64 → length set ≡ 512 → list_all is_plain (name ∷ decimal p ∷ outcome_word o ∷ set_text set ∷ []) ≡ true
 loss_plain name p o set is lt full = rw (is, decimal_plain p lt, outcome_plain o, set_plain set full) refl
 
+-- and a range, an outcome and a set
 unmap_plain : (name : Text) (p first count : ℕ) (o : Outcome) (set : List Bool) → is_plain name ≡ true → p < 2 ^ 64 → first < 2 ^ 16 → count < 2 ^ 16 → length set ≡ 512 → list_all is_plain (name ∷ decimal p ∷ decimal first ∷ decimal count ∷ outcome_word o ∷ set_text set ∷ []) ≡ true
 unmap_plain name p first count o set is lt low high full = rw (is, decimal_plain p lt, decimal_plain first (omega arith), decimal_plain count (omega arith), outcome_plain o, set_plain set full) refl
 
+-- and a set
 split_plain : (name : Text) (p : ℕ) (set : List Bool) → is_plain name ≡ true → p < 2 ^ 64 → length set ≡ 512 → list_all is_plain (name ∷ decimal p ∷ set_text set ∷ []) ≡ true
 split_plain name p set is lt full = rw (is, decimal_plain p lt, set_plain set full) refl
 
+-- those of what happened
 what_plain : (w : What) → HasSmallNumbers w → list_all is_plain (what_words w) ≡ true
 what_plain (Alloc p b) fit = page_plain (codes "alloc") p refl fit
 what_plain (MapWhole p) fit = page_plain (codes "mapwhole") p refl fit
@@ -189,6 +206,7 @@ what_plain (Back p) fit = page_plain (codes "back") p refl fit
 what_plain (Dropped p) fit = page_plain (codes "dropped") p refl fit
 what_plain Close fit = refl
 
+-- those of an event
 pub event_plain : (v : Version) (e : Event) → IsTellable v e → list_all is_plain (event_words e) ≡ true
 unfolding event_words
 event_plain v e t = let small = t.caller in and_from _ _ (decimal_plain e.caller (omega arith)) (what_plain e.what t.numbers)

@@ -33,6 +33,7 @@ use Rattle.thp_laws.proofs.Splitting.{all_append, is_without, lines_back}
 
 -- ---- blocks
 
+-- the block that an event had doesn't matter to one that is put in its place
 block_again : (b : ℕ) (w : What) → with_block b (with_block 0 w) ≡ with_block b w
 block_again b (Alloc p c) = refl
 block_again b (MapWhole p) = refl
@@ -52,6 +53,7 @@ block_again b (Back p) = refl
 block_again b (Dropped p) = refl
 block_again b Close = refl
 
+-- the same of an event with its caller
 event_again : (b : ℕ) (e : Event) → event_with b (event_with 0 e) ≡ event_with b e
 event_again b e = ap (by e.caller) (block_again b e.what)
 
@@ -60,6 +62,7 @@ least_again : (s : Shape) (k h : History) → fold (λ k (e : Event). k ++ event
 least_again s k [] = refl
 least_again s k (e ∷ h) = ap (λ (x : Event). fold (λ k (e : Event). k ++ event_with (least_free s k) e ∷ []) (k ++ x ∷ []) (map (event_with 0) h)) (event_again (least_free s k) e) ∙ least_again s (k ++ event_with (least_free s k) e ∷ []) h
 
+-- so the least blocks of events without blocks are those of the events
 pub least_of_none : (s : Shape) (h : History) → with_least_blocks s (map (event_with 0) h) ≡ with_least_blocks s h
 unfolding with_least_blocks
 least_of_none s h = least_again s [] h
@@ -70,16 +73,19 @@ least_of_none s h = least_again s [] h
 EndsEvents : List Line → Type 0
 EndsEvents lines = reading.events_of lines ≡ []
 
+-- the events that lines tell, up to the next node
 events_back : (h : History) (rest : List Line) → EndsEvents rest → reading.events_of (map happened h ++ rest) ≡ map (event_with 0) h
 unfolding EndsEvents happened
 events_back [] rest ends = ends
 events_back (e ∷ h) rest ends = ap (λ es. event_with 0 e ∷ es) (events_back h rest ends)
 
+-- the next node's line ends them, and so does the last line
 ends_at_node : (n : ℕ) (js : List Journal) → EndsEvents (nodes_told n js ++ End ∷ [])
 unfolding EndsEvents nodes_told node_told
 ends_at_node n [] = refl
 ends_at_node n (j ∷ js) = refl
 
+-- the nodes behind events
 behind_events : (line : ℕ) (h : History) (rest : List Line) → nodes_of line (map happened h ++ rest) ≡ nodes_of (line + length h) rest
 unfolding happened
 behind_events line [] rest = ap (λ k. nodes_of k rest) (sym (add-zero line))
@@ -96,6 +102,7 @@ node_back line n j rest ends =
     let behind : nodes_of (line + 1) (map happened j.1 ++ rest) ≡ nodes_of (line + 1 + length j.1) rest = behind_events (line + 1) j.1 rest in
     rw (least, behind) refl
 
+-- all nodes
 nodes_back : (line n : ℕ) (js : List Journal) → nodes_of line (nodes_told n js ++ End ∷ []) ≡ nodes_from line js
 unfolding nodes_told
 nodes_back line n [] = refl
@@ -106,22 +113,27 @@ nodes_back line n (j ∷ js) =
 
 -- ---- the lines of a text
 
+-- an event's line has no line feed
 event_whole : (v : Version) (e : Event) → IsTellable v e → is_without 10 (written.event_line e) ≡ true
 unfolding written.event_line
 event_whole v e t = line_whole (event_words e) (event_plain v e t)
 
+-- nor have those of a history
 events_whole : (v : Version) (h : History) → AllByRecursion (IsTellable v) h → list_all (is_without 10) (map written.event_line h) ≡ true
 events_whole v [] h = refl
 events_whole v (e ∷ events) h = and_from _ _ (event_whole v e h.0) (events_whole v events h.1)
 
+-- nor have those of a node
 node_whole : (v : Written) (n : ℕ) (j : Journal) → n < 8 → IsToldJournal (read_version v) j → list_all (is_without 10) (lines_of_node v n j) ≡ true
 unfolding lines_of_node journal.node_line
 node_whole v n j few t = and_from _ _ (line_whole (journal.node_words v n j.0) (node_plain v n j.0 few t.shape)) (events_whole (read_version v) j.1 t.events)
 
+-- nor those of nodes
 nodes_whole : (v : Written) (n : ℕ) (js : List Journal) → n + length js ≤ 8 → AllByRecursion (IsToldJournal (read_version v)) js → list_all (is_without 10) (journal.lines_from v n js) ≡ true
 nodes_whole v n [] few h = refl
 nodes_whole v n (j ∷ js) few h = all_append (is_without 10) (lines_of_node v n j) (journal.lines_from v (n + 1) js) (node_whole v n j (omega arith) h.0) (nodes_whole v (n + 1) js (omega arith) h.1)
 
+-- nor has the first line
 version_whole : (v : Written) → is_without 10 (journal.version_line v) ≡ true
 version_whole v = line_whole (version_words v) (version_plain v)
 

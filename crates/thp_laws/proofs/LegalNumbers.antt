@@ -29,6 +29,7 @@ few_pages : (h : History) → allocations h ≤ length h
 unfolding count_of
 few_pages h = count_by-le-length (λ (e : Event). is_alloc e.what) h
 
+-- and so by the events of the whole history
 fewer_before : (h : History) (k : ℕ) → allocations (take k h) ≤ length h
 fewer_before h k = let few = few_pages (take k h) in let short : length (take k h) ≤ length h = omega (arith, length-take k h) in omega arith
 

@@ -38,10 +38,12 @@ quiet_in v (Zero p first count) access used = absurd cc
 quiet_in v (Used p) access used = absurd cc
 quiet_in v _ access used = tt
 
+-- what isn't there is none
 no_threshold : (u : Option ℕ) → is_some u ≡ false → u ≡ None
 no_threshold None e = refl
 no_threshold (Some t) e = absurd cc
 
+-- without a threshold the switch is off
 switch_off : (s : Shape) → s.underused ≡ None → shrinks_underused s ≡ false
 switch_off s off = rw off refl
 
@@ -50,6 +52,7 @@ record IsQuiet (j : Journal) : Type 0 where
   off : j.0.underused ≡ None
   events : (v : Version) (k : ℕ) (e : Event) → slice_get j.1 k ≡ Some e → IsOfVersion v e.what
 
+-- such a node, if version 3 has nothing more to tell of it
 quiet : (j : Journal) → IsLegal j.0 j.1 → tells_underused j ≡ false → IsQuiet j
 unfolding tells_underused
 quiet j legal no_more =
@@ -64,18 +67,22 @@ quiet j legal no_more =
 abbrev pub Legal : Journal → Type 0
 Legal j = IsLegal j.0 j.1
 
+-- such nodes
 each_quiet : (js : List Journal) → AllByRecursion Legal js → list_any tells_underused js ≡ false → AllByRecursion IsQuiet js
 each_quiet [] legal e = tt
 each_quiet (j ∷ js) legal e = let t = or_parts _ _ e in (quiet j legal.0 t.0, each_quiet js legal.1 t.1)
 
+-- version 3 tells all
 in_3 : (js : List Journal) → AllByRecursion (IsToldBy Underused) js
 in_3 [] = tt
 in_3 (j ∷ js) = (record { shape = tt; events = λ k e at. each_in_3 e.what }, in_3 js)
 
+-- version 2 tells nodes without the switch and without accesses
 in_2 : (js : List Journal) → AllByRecursion IsQuiet js → AllByRecursion (IsToldBy Orders) js
 in_2 [] h = tt
 in_2 (j ∷ js) h = (record { shape = h.0.off; events = h.0.events Orders }, in_2 js h.1)
 
+-- version 1 tells those of order 9
 in_1 : (js : List Journal) → AllByRecursion IsQuiet js → list_all has_order_9 js ≡ true → AllByRecursion (IsToldBy Plain) js
 in_1 [] h e = tt
 in_1 (j ∷ js) h e = let t = and_parts _ _ e in (record { shape = (eqb-true j.0.order 9 t.0, h.0.off); events = h.0.events Plain }, in_1 js h.1 t.1)

@@ -40,6 +40,7 @@ pub place_behind : Place → List Line → Place
 place_behind place [] = place
 place_behind place (line ∷ lines) = place_behind (place_after place line) lines
 
+-- lines and then others
 says_append : (place : Place) (texts others : List Text) (lines more : List Line) → Says place texts lines → Says (place_behind place lines) others more → Says place (texts ++ others) (lines ++ more)
 unfolding Says place_behind
 says_append place [] others [] more h k = k
@@ -47,6 +48,7 @@ says_append place (text ∷ texts) others (line ∷ lines) more h k = (h.0, says
 says_append place [] others (line ∷ lines) more h k = absurd h
 says_append place (text ∷ texts) others [] more h k = absurd h
 
+-- the place behind both
 behind_append : (place : Place) (lines more : List Line) → place_behind place (lines ++ more) ≡ place_behind (place_behind place lines) more
 unfolding place_behind
 behind_append place [] more = refl
@@ -78,9 +80,11 @@ read_all number v place (text ∷ next ∷ texts) (line ∷ lines) h e = one_mor
 
 -- ---- the lines of nodes
 
+-- a place as a function of the nodes before it
 inside : Version → ℕ → Place
 inside v n = Inside v n
 
+-- a node later
 one_later : (n k : ℕ) → n + 1 + k ≡ n + suc k
 one_later n k = omega arith
 
@@ -103,6 +107,7 @@ unfolding Says happened
 events_say v nodes [] some h = tt
 events_say v nodes (e ∷ events) some h = (stands (Inside v nodes) (written.event_line e) (happened e) (event_line_back v e h.0) (lt-ltb 0 nodes some), events_say v nodes events some h.1)
 
+-- events leave the place
 events_behind : (place : Place) (h : History) → place_behind place (map happened h) ≡ place
 unfolding place_behind happened
 events_behind place [] = refl
@@ -113,10 +118,12 @@ node_says : (v : Written) (n : ℕ) (j : Journal) → n < 8 → IsToldJournal (r
 unfolding Says node_told lines_of_node
 node_says v n j few told = (stands (Inside (read_version v) n) (journal.node_line v n j.0) (Node n j.0) (node_line_back v n j.0 few told.shape told.tells_shape) (eq-eqb n n refl), events_say (read_version v) (n + 1) j.1 (omega arith) told.events)
 
+-- a node is one more
 node_behind : (v : Version) (n : ℕ) (j : Journal) → place_behind (Inside v n) (node_told n j) ≡ Inside v (n + 1)
 unfolding place_behind node_told
 node_behind v n j = events_behind (Inside v (n + 1)) j.1
 
+-- nodes
 nodes_say : (v : Written) (n : ℕ) (js : List Journal) → n + length js ≤ 8 → AllByRecursion (IsToldJournal (read_version v)) js → Says (Inside (read_version v) n) (journal.lines_from v n js) (nodes_told n js)
 unfolding Says nodes_told
 nodes_say v n [] few told = tt
@@ -124,6 +131,7 @@ nodes_say v n (j ∷ js) few told =
     says_append (Inside (read_version v) n) (lines_of_node v n j) (journal.lines_from v (n + 1) js) (node_told n j) (nodes_told (n + 1) js) (node_says v n j (omega arith) told.0)
     (subst (λ p. Says p (journal.lines_from v (n + 1) js) (nodes_told (n + 1) js)) (sym (node_behind (read_version v) n j)) (nodes_say v (n + 1) js (omega arith) told.1))
 
+-- and the place behind them
 nodes_behind : (v : Version) (n : ℕ) (js : List Journal) → place_behind (Inside v n) (nodes_told n js) ≡ Inside v (n + length js)
 unfolding nodes_told place_behind inside
 nodes_behind v n [] = ap (λ k. inside v k) (sym (add-zero n))

@@ -29,6 +29,7 @@ use Rattle.thp_laws.proofs.EventsBack.{line_of_words, number_back}
 abbrev pub version_words : Written → List Text
 version_words v = codes "thp-journal" ∷ decimal (journal.version_number v) ∷ []
 
+-- the number of a version is small
 small_version : (v : Written) → journal.version_number v < 2 ^ 64
 small_version writing.Plain = omega arith
 small_version writing.Orders = omega arith
@@ -60,15 +61,19 @@ end_line_back v = line_of_words v (codes "end") [] refl
 said : Line → Result Line TextKind
 said line = Ok line
 
+-- a number between bounds
 between_back : (least most n : ℕ) → least ≤ n → n ≤ most → most < 2 ^ 64 → number_between least most (decimal n) ≡ Ok n
 between_back least most n low high lt = rw (number_back most n high lt, le-leb least n low) refl
 
+-- a node's number and its blocks
 node_with_back : (n blocks order : ℕ) (underused : Option ℕ) → n < 8 → 1 ≤ blocks → blocks ≤ 4096 → node_with (decimal n) (decimal blocks) order underused ≡ Ok (Node n (record { blocks = blocks; order = order; underused = underused }))
 node_with_back n blocks order underused few some most = rw (number_back 7 n (omega arith) (omega arith), between_back 1 4096 blocks some most (omega arith)) refl
 
+-- an order
 order_back : (order : ℕ) → 2 ≤ order → order ≤ 9 → number_between 2 9 (decimal order) ≡ Ok order
 order_back order low high = between_back 2 9 order low high (omega arith)
 
+-- a threshold, or none
 threshold_back : (order : ℕ) (underused : Option ℕ) → order ≤ 9 → ((t : ℕ) → underused ≡ Some t → t < 2 ^ order) → threshold_of order (underused_word underused) ≡ Ok underused
 unfolding threshold_of
 threshold_back order None high low = refl
@@ -95,6 +100,7 @@ node_said writing.Underused n s few is told =
     ∙ ap (λ r. r >>= λ threshold. node_with (decimal n) (decimal s.blocks) s.order threshold) (threshold_back s.order s.underused is.most_order is.low_threshold)
     ∙ node_with_back n s.blocks s.order s.underused few is.some_blocks is.few_blocks
 
+-- the word of a threshold is plain
 underused_plain : (s : Shape) → IsShape s → is_plain (underused_word s.underused) ≡ true
 unfolding subpages
 underused_plain s is = go s.underused is.low_threshold where

@@ -21,18 +21,23 @@ is_solid b = nat_le 33 b && nat_le b 126
 abbrev pub is_plain : Text → Bool
 is_plain word = not (is_empty word) && list_all is_solid word
 
+-- between which bytes it lies
 solid_range : (b : ℕ) → is_solid b ≡ true → (33 ≤ b) × (b ≤ 126)
 solid_range b h = let t = and_parts _ _ h in (leb-true _ _ t.0, leb-true _ _ t.1)
 
+-- a byte from 32 to 126
 printable_range : (b : ℕ) → 32 ≤ b → b ≤ 126 → is_printable b ≡ true
 printable_range b low high = and_from _ _ (le-leb 32 b low) (le-leb b 126 high)
 
+-- what is printable and no space is printable
 solid_printable : (b : ℕ) → is_solid b ≡ true → is_printable b ≡ true
 solid_printable b h = let r = solid_range b h in printable_range b (omega arith) (omega arith)
 
+-- and no space
 no_space : (b : ℕ) → is_solid b ≡ true → not (b == 32) ≡ true
 no_space b h = let r = solid_range b h in not_from_false _ (ne_eqb b 32 (λ e. omega arith))
 
+-- a printable character is no line feed
 no_feed : (b : ℕ) → is_printable b ≡ true → not (b == 10) ≡ true
 no_feed b h = let t = and_parts _ _ h in let low : 32 ≤ b = leb-true _ _ t.0 in not_from_false _ (ne_eqb b 10 (λ e. omega arith))
 
@@ -40,9 +45,11 @@ no_feed b h = let t = and_parts _ _ h in let low : 32 ≤ b = leb-true _ _ t.0 i
 pub plain_solid : (word : Text) → is_plain word ≡ true → list_all is_solid word ≡ true
 plain_solid word h = (and_parts _ _ h).1
 
+-- a plain word has no space
 plain_apart : (word : Text) → is_plain word ≡ true → is_without 32 word ≡ true
 plain_apart word h = all_wider is_solid (λ b. not (b == 32)) no_space word (plain_solid word h)
 
+-- and is printable
 plain_printable : (word : Text) → is_plain word ≡ true → list_all is_printable word ≡ true
 plain_printable word h = all_wider is_solid is_printable solid_printable word (plain_solid word h)
 
@@ -72,12 +79,15 @@ none_empty (word ∷ words) h = let t = and_parts _ _ h in let p = and_parts _ _
 pub decimal_digits : (n : ℕ) → n < 2 ^ 64 → list_all is_ascii_digit (decimal n) ≡ true
 decimal_digits n lt = digits_decimal digits n lt
 
+-- between which bytes a digit lies
 digit_range : (b : ℕ) → is_ascii_digit b ≡ true → (48 ≤ b) × (b ≤ 57)
 digit_range b h = let t = and_parts _ _ h in (leb-true _ _ t.0, leb-true _ _ t.1)
 
+-- a digit is printable and no space
 digit_solid : (b : ℕ) → is_ascii_digit b ≡ true → is_solid b ≡ true
 digit_solid b h = let r = digit_range b h in and_from _ _ (le-leb 33 b (omega arith)) (le-leb b 126 (omega arith))
 
+-- a word with a byte
 some_byte : (word : Text) → 0 < length word → not (is_empty word) ≡ true
 some_byte word lt = not_from_false _ (ne_eqb (length word) 0 (λ e. omega arith))
 

@@ -38,6 +38,7 @@ few_events v n most (j ∷ js) short =
     let own = length-map j.1 written.event_line in
     (omega arith, few_events v (n + 1) most js (omega arith))
 
+-- nor than the text has bytes
 fewer_than_bytes : (js : List Journal) → AllByRecursion (λ (j : Journal). length j.1 ≤ length (journal_text js)) js
 unfolding journal_text journal_lines
 fewer_than_bytes js =
@@ -68,10 +69,12 @@ tellable v j is told few = record {
   });
 }
 
+-- the same of each journal
 each_tellable : (v : Version) (most : ℕ) (js : List Journal) → most < 2 ^ 64 → AllByRecursion IsJournal js → AllByRecursion (IsToldBy v) js → AllByRecursion (λ (j : Journal). length j.1 ≤ most) js → AllByRecursion (IsToldJournal v) js
 each_tellable v most [] lt is told few = tt
 each_tellable v most (j ∷ js) lt is told few = (tellable v j is.0 told.0 (let le = few.0 in omega arith), each_tellable v most js lt is.1 told.1 few.1)
 
+-- each of them is legal
 each_legal : (js : List Journal) → AllByRecursion IsJournal js → AllByRecursion Legal js
 each_legal [] is = tt
 each_legal (j ∷ js) is = (is.0.legal, each_legal js is.1)
@@ -85,6 +88,7 @@ all_read_back js are =
     let short = are.short in
     text_back js are.some_nodes are.few_nodes (each_tellable (read_version (version_of js)) (length (journal_text js)) js (omega arith) each (version_tells js (each_legal js each)) (fewer_than_bytes js)) are.short
 
+-- the nodes from a line on are those that were written
 same_from : (line : ℕ) (js : List Journal) → AllZip IsSameNode js (nodes_from line js)
 same_from line [] = tt
 same_from line (j ∷ js) = (record { shape = refl; events = least_same j.0 j.1 }, same_from (line + 1 + length j.1) js)
@@ -93,6 +97,7 @@ same_from line (j ∷ js) = (record { shape = refl; events = least_same j.0 j.1 
 pub all_same : NothingElseChanges
 all_same js = same_from 2 js
 
+-- and legal
 legal_from : (line : ℕ) (js : List Journal) → AllByRecursion IsJournal js → All (λ (node : NodeJournal). IsLegal node.shape node.events) (nodes_from line js)
 legal_from line [] is = All-nil (λ (node : NodeJournal). IsLegal node.shape node.events)
 legal_from line (j ∷ js) is =

@@ -32,11 +32,13 @@ AreApart : ℕ → ℕ → List Run → Type 0
 AreApart least end [] = ⊤
 AreApart least end (run ∷ runs) = (least ≤ run.0) × (run.0 ≤ run.1) × (run.1 < end) × AreApart (run.1 + 2) end runs
 
+-- such runs ascend from a smaller number too
 apart_from_less : (least more end : ℕ) (runs : List Run) → least ≤ more → AreApart more end runs → AreApart least end runs
 unfolding AreApart
 apart_from_less least more end [] le h = tt
 apart_from_less least more end (run ∷ runs) le h = let low = h.0 in (omega arith, h.1, h.2, h.3)
 
+-- with the number before them they ascend from that number
 with_number_apart : (i end : ℕ) (runs : List Run) → i < end → AreApart (i + 1) end runs → AreApart i end (with_number i runs)
 unfolding AreApart
 with_number_apart i end [] lt h = (omega arith, omega arith, lt, tt)
@@ -45,6 +47,7 @@ with_number_apart i end (run ∷ runs) lt h = go (run.0 == i + 1) refl where
   go true e = let low = h.0 in let grows = h.1 in (omega arith, omega arith, h.2, h.3)
   go false e = let low = h.0 in let other = eqb-false (run.0) (i + 1) e in (omega arith, omega arith, lt, (omega arith, h.1, h.2, h.3))
 
+-- the runs of a set do
 runs_apart : (i end : ℕ) (truths : List Bool) → i + length truths ≤ end → AreApart i end (runs_from i truths)
 unfolding AreApart
 runs_apart i end [] le = tt
@@ -55,6 +58,7 @@ runs_apart i end (false ∷ truths) le = apart_from_less i (i + 1) end (runs_fro
 covers_parts : (j : ℕ) (run : Run) → covers_number j run ≡ true → (run.0 ≤ j) × (j ≤ run.1)
 covers_parts j run e = let t = and_parts _ _ e in (leb-true _ _ t.0, leb-true _ _ t.1)
 
+-- and from that fact
 covers_from : (j : ℕ) (run : Run) → run.0 ≤ j → j ≤ run.1 → covers_number j run ≡ true
 covers_from j run low high = and_from _ _ (le-leb (run.0) j low) (le-leb j (run.1) high)
 
@@ -133,6 +137,7 @@ set_of_its_runs set full =
 
 -- ---- the texts of runs
 
+-- what is read, where nothing is at fault
 ok_run : Run → Result Run TextKind
 ok_run run = Ok run
 
@@ -172,6 +177,7 @@ run_text_of test run numbers dash grows lt = go (run.0 == run.1) where
   go true = numbers run.0 (omega arith)
   go false = ap (list_all test) (append_assoc (decimal run.0) (codes "-") (decimal run.1)) ∙ all_append test (decimal run.0) (codes "-" ++ decimal run.1) (numbers run.0 (omega arith)) (and_from _ _ dash (numbers run.1 lt))
 
+-- the texts of runs likewise
 run_texts_of : (test : ℕ → Bool) (least : ℕ) (runs : List Run) → ((n : ℕ) → n < 512 → list_all test (decimal n) ≡ true) → test 45 ≡ true → AreApart least 512 runs → list_all (list_all test) (map run_text runs) ≡ true
 unfolding AreApart
 run_texts_of test least [] numbers dash h = refl
@@ -209,10 +215,12 @@ set_back set full = text_of_runs_back (runs_from 0 set) (runs_apart 0 512 set (o
 solid_digits : (n : ℕ) → n < 512 → list_all is_solid (decimal n) ≡ true
 solid_digits n lt = plain_solid (decimal n) (decimal_plain n (omega arith))
 
+-- a text that begins with a word that has a byte has one
 some_of_some : (text rest : Text) → not (is_empty text) ≡ true → not (is_empty (text ++ rest)) ≡ true
 some_of_some [] rest some = absurd cc
 some_of_some (b ∷ text) rest some = not_from_false _ (ne_eqb (suc (length (text ++ rest))) 0 (λ e. omega arith))
 
+-- the text of a run has a byte
 run_some : (run : Run) → run.1 < 512 → run.0 ≤ run.1 → not (is_empty (run_text run)) ≡ true
 run_some run lt grows = go (run.0 == run.1) where
   first : not (is_empty (decimal run.0)) ≡ true

@@ -15,6 +15,7 @@ all_wider p q f (x ∷ xs) h = let t = and_parts _ _ h in and_from _ _ (f x t.0)
 abbrev pub is_without : ℕ → Text → Bool
 is_without c text = list_all (λ b. not (b == c)) text
 
+-- no byte is the separator, as a fact of each
 others : (c : ℕ) (text : Text) → is_without c text ≡ true → AllByRecursion (λ b. (b == c) ≡ false) text
 others c [] h = tt
 others c (b ∷ text) h = let t = and_parts _ _ h in (not-true _ t.0, others c text t.1)
@@ -23,6 +24,7 @@ others c (b ∷ text) h = let t = and_parts _ _ h in (not-true _ t.0, others c t
 pub single : (c : ℕ) (text : Text) → is_without c text ≡ true → pieces_at c text ≡ text ∷ []
 single c text h = slice_split_none (λ b. b == c) text (All-from_recursion (λ b. (b == c) ≡ false) text (others c text h))
 
+-- the separator is itself
 self_equal : (c : ℕ) → (c == c) ≡ true
 self_equal c = eq-eqb c c refl
 

@@ -28,14 +28,17 @@ use Rattle.thp_laws.proofs.ReadingBack.{all_read_back}
 
 -- ---- totals don't look at blocks
 
+-- a split
 splits_blind : Blind is_page_split
 splits_blind (Alloc p b) = refl
 splits_blind w = refl
 
+-- a failed try
 tries_blind : Blind is_failed_try
 tries_blind (Alloc p b) = refl
 tries_blind w = refl
 
+-- an outcome
 queues_blind : Blind queues
 queues_blind (Alloc p b) = refl
 queues_blind w = refl
@@ -45,6 +48,7 @@ gives_blind : (c : ℕ) (w : What) → gives_back (by c (with_block 0 w)) ≡ gi
 gives_blind c (Alloc p b) = refl
 gives_blind c w = refl
 
+-- so the record of frames given back has no block
 given_bare : (h : History) → given (without_blocks h) ≡ given h
 unfolding given without_blocks
 given_bare [] = refl
@@ -52,6 +56,7 @@ given_bare (e ∷ h) = more (gives_back (event_with 0 e)) (gives_back e) (gives_
   more : (o p : Option (ℕ × List Bool)) → o ≡ p → (gs hs : List (ℕ × List Bool)) → gs ≡ hs → cons_option o gs ≡ cons_option p hs
   more o p e gs hs f = cc
 
+-- and is one for both histories
 given_alike : (h k : History) → SameButBlocks h k → given h ≡ given k
 given_alike h k e = sym (given_bare h) ∙ ap given e ∙ given_bare k
 
@@ -62,12 +67,14 @@ same_step k h e s = without_blocks_push k (event_with 0 e) ∙ ap₂ (λ hs x. h
   twice (Alloc p b) = refl
   twice w = refl
 
+-- how many PMD mappings an event splits
 pmds_alike : (k h : History) (w : What) → SameButBlocks k h → splits_pmds k (with_block 0 w) ≡ splits_pmds h w
 pmds_alike k h (Alloc p b) s = refl
 pmds_alike k h (SplitPmd p) s = refl
 pmds_alike k h (Split p set) s = (alike k h s).whole p
 pmds_alike k h w s = refl
 
+-- and all events
 pmds_run : (s t : History × ℕ) (h : History) → SameButBlocks s.0 t.0 → s.1 ≡ t.1 → (fold add_split_pmds s (without_blocks h)).1 ≡ (fold add_split_pmds t h).1
 unfolding without_blocks
 pmds_run s t [] e f = f
@@ -75,16 +82,19 @@ pmds_run s t (x ∷ h) e f =
     pmds_run (s.0 ++ event_with 0 x ∷ [], s.1 + splits_pmds s.0 (with_block 0 x.what)) (t.0 ++ x ∷ [], t.1 + splits_pmds t.0 x.what) h (same_step s.0 t.0 x e)
     (ap₂ (λ a b. a + b) f (pmds_alike s.0 t.0 x.what e))
 
+-- so as many were split in both
 split_pmd_alike : (h k : History) → SameButBlocks h k → thp_split_pmd h ≡ thp_split_pmd k
 unfolding thp_split_pmd
 split_pmd_alike h k e =
     sym (pmds_run ([], 0) ([], 0) h refl refl) ∙ ap (λ x. (fold add_split_pmds ([], 0) x).1) e ∙ pmds_run ([], 0) ([], 0) k refl refl
 
+-- how many pages an event splits as underused
 underused_alike : (shape : Shape) (k h : History) (w : What) → SameButBlocks k h → splits_underused shape k (with_block 0 w) ≡ splits_underused shape h w
 underused_alike shape k h (Alloc p b) s = refl
 underused_alike shape k h (Split p set) s = ap (λ b. cond b 0 1) ((alike k h s).partly shape p)
 underused_alike shape k h w s = refl
 
+-- and all events
 underused_run : (shape : Shape) (s t : History × ℕ) (h : History) → SameButBlocks s.0 t.0 → s.1 ≡ t.1 → (fold (add_split_underused shape) s (without_blocks h)).1 ≡ (fold (add_split_underused shape) t h).1
 unfolding without_blocks
 underused_run shape s t [] e f = f
@@ -92,11 +102,13 @@ underused_run shape s t (x ∷ h) e f =
     underused_run shape (s.0 ++ event_with 0 x ∷ [], s.1 + splits_underused shape s.0 (with_block 0 x.what)) (t.0 ++ x ∷ [], t.1 + splits_underused shape t.0 x.what) h (same_step s.0 t.0 x e)
     (ap₂ (λ a b. a + b) f (underused_alike shape s.0 t.0 x.what e))
 
+-- so as many were split in both
 split_underused_alike : (shape : Shape) (h k : History) → SameButBlocks h k → thp_underused_split_page shape h ≡ thp_underused_split_page shape k
 unfolding thp_underused_split_page
 split_underused_alike shape h k e =
     sym (underused_run shape ([], 0) ([], 0) h refl refl) ∙ ap (λ x. (fold (add_split_underused shape) ([], 0) x).1) e ∙ underused_run shape ([], 0) ([], 0) k refl refl
 
+-- both hold the same frames
 frames_alike : (shape : Shape) (h k : History) → Alike h k → frames_held shape h ≡ frames_held shape k
 frames_alike shape h k a =
     sum_below-ext (allocations h) _ _ (λ p l. sum_below-ext (subpages shape) _ _ (λ i m. ap (λ b. cond b 1 0) (held_alike shape h k a p i)))
@@ -119,6 +131,7 @@ same_totals s h k e =
       underused_splits = split_underused_alike s h k e;
     }
 
+-- as a fact of journals
 totals_of_same : (j k : Journal) → IsSameJournal j k → HaveSameTotals j k
 totals_of_same j k same = subst (λ (s : Shape). HaveSameTotals j (s, k.1)) same.shape (same_totals j.0 j.1 k.1 same.events)
 
@@ -128,6 +141,7 @@ totals_of_same j k same = subst (λ (s : Shape). HaveSameTotals j (s, k.1)) same
 journals_read : Journals → Result Journals Fault
 journals_read js = Ok js
 
+-- a history without its blocks has as many events
 bare_length : (h : History) → length (without_blocks h) ≡ length h
 unfolding without_blocks
 bare_length h = length-map h (event_with 0)
@@ -157,6 +171,7 @@ one_run js ks ours theirs same =
     let nodes : nodes_from 2 js ≡ nodes_from 2 ks = ap (λ r. (result_unwrap_or r (with_lines js)).nodes) read in
     same_nodes 2 js ks nodes
 
+-- journals that are the same but for blocks have the same totals, one by one
 each_same : (js ks : List Journal) → AllZip IsSameJournal js ks → AllZip HaveSameTotals js ks
 each_same [] [] h = tt
 each_same [] (k ∷ ks) h = absurd h

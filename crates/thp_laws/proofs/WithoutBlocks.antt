@@ -19,19 +19,23 @@ use Rattle.thp_laws.specs.SameTotals.{IsSameJournal, NoBlockShows}
 
 -- ---- one event, one history
 
+-- the words of what happened
 words_blind : (w : What) → what_words (with_block 0 w) ≡ what_words w
 words_blind (Alloc p b) = refl
 words_blind w = refl
 
+-- the line of an event
 line_blind : (e : Event) → event_line (event_with 0 e) ≡ event_line e
 unfolding event_line event_words
 line_blind e = ap (λ words. line_of (decimal e.caller ∷ words)) (words_blind e.what)
 
+-- the lines of a history
 lines_bare : (h : History) → map event_line (without_blocks h) ≡ map event_line h
 unfolding without_blocks
 lines_bare [] = refl
 lines_bare (e ∷ h) = ap₂ (λ line lines. line ∷ lines) (line_blind e) (lines_bare h)
 
+-- an access has no block
 access_blind : Blind is_access
 access_blind (Alloc p b) = refl
 access_blind w = refl
@@ -44,18 +48,22 @@ record AreOneText (js ks : List Journal) : Type 0 where
   orders : list_all has_order_9 js ≡ list_all has_order_9 ks
   lines : (v : Written) (n : ℕ) → journal.lines_from v n js ≡ journal.lines_from v n ks
 
+-- both need version 3 or neither does
 underused_alike : (j k : Journal) → IsSameJournal j k → tells_underused j ≡ tells_underused k
 unfolding tells_underused
 underused_alike j k same = ap₂ (λ a b. a || b) (ap (λ (s : Shape). is_some s.underused) same.shape) (some_alike is_access access_blind j.1 k.1 same.events)
 
+-- both have order 9 or neither has
 order_alike : (j k : Journal) → IsSameJournal j k → has_order_9 j ≡ has_order_9 k
 order_alike j k same = ap (λ (s : Shape). s.order == 9) same.shape
 
+-- the lines of a node
 node_alike : (v : Written) (n : ℕ) (j k : Journal) → IsSameJournal j k → lines_of_node v n j ≡ lines_of_node v n k
 unfolding lines_of_node
 node_alike v n j k same =
     ap₂ (λ line lines. line ∷ lines) (ap (journal.node_line v n) same.shape) (sym (lines_bare j.1) ∙ ap (map event_line) same.events ∙ lines_bare k.1)
 
+-- journals that are the same but for blocks
 each_alike : (js ks : List Journal) → AllZip IsSameJournal js ks → AreOneText js ks
 each_alike [] [] h = record { underused = refl; orders = refl; lines = λ v n. refl }
 each_alike [] (k ∷ ks) h = absurd h
@@ -68,6 +76,7 @@ each_alike (j ∷ js) (k ∷ ks) h =
       lines = λ v n. ap₂ (λ xs ys. xs ++ ys) (node_alike v n j k h.0) (rest.lines v (n + 1));
     }
 
+-- their version
 version_alike : (js ks : List Journal) → AreOneText js ks → version_of js ≡ version_of ks
 unfolding version_of
 version_alike js ks one = ap₂ (λ a b. cond a writing.Underused (cond b writing.Plain writing.Orders)) one.underused one.orders

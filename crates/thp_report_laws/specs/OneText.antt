@@ -1,0 +1,10 @@
+-- Journals and totals as texts.
+use Rattle.std.specs.Prelude.{◌≡◌, List}
+use Rattle.thp_journal.specs.Journals.{Journal, journal_text}
+use Rattle.thp_laws.specs.ReadBack.{AreTellable}
+use Rattle.thp_report.specs.Totals.{totals_text}
+
+-- nodes whose journals have one text have one text of totals
+abbrev pub OneJournalHasOneTotals : Type 0
+OneJournalHasOneTotals =
+    (nodes others : List Journal) → AreTellable nodes → AreTellable others → journal_text nodes ≡ journal_text others → totals_text nodes ≡ totals_text others
