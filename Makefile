@@ -3,7 +3,7 @@
 # make install: puts the proved program and its man page below PREFIX (default /usr/local; DESTDIR as usual)
 # make test:    every check (all proofs from nothing, must-fail edits, tests, stored runs); ends in 'N passed, M failed'
 # make fuzz:    random scripts on the built program and on a plain reading of the model in Python: CASES=n SEED=s
-# make bench:   times on large scripts and of single calls (docs/PROOFS.md has the figures)
+# make bench:   times on large scripts, of single calls and of texts (docs/PROOFS.md has the figures)
 # How long each takes: README.md, "First minutes".
 PREFIX ?= /usr/local
 PROGRAM = crates/thpsplit/out/thpsplit

@@ -1,16 +1,18 @@
-//! Times of texts: journals written, beside how long copying their bytes takes.
+//! Times of texts: journals written and scripts read, beside how long copying their bytes takes.
 //!
-//! Its one argument is the number of bytes of each journal, about; 20,000 where there is none. The times go to standard
+//! Its one argument is the number of bytes of each text, about; 20,000 where there is none. The times go to standard
 //! error.
 #![tactic(auto)]
 
 mod histories;
+mod scripts;
 
 use anyhow::{Context, Result};
 use std::env::{self, Env};
-use std::time::CpuClock;
+use std::time::{CpuClock, Duration};
 use thp_journal::{NodeHistory, journal_text};
 use thp_model::{Event, Shape};
+use thp_text::{Report, Settings, read_script};
 
 // The shape of the node whose journal is written.
 const SHAPE: Shape = Shape {
@@ -21,8 +23,7 @@ const SHAPE: Shape = Shape {
 
 fn main(rt: HostRuntime) -> Result<()> {
     let bytes = asked_bytes(&rt)?;
-    let alloc = rt.alloc();
-    time_journal(&rt, "halves split", &histories::halves(alloc, bytes)?)?;
+    time_journal(&rt, "halves split", &histories::halves(rt.alloc(), bytes)?)?;
     time_journal(
         &rt,
         "takes and returns",
@@ -32,6 +33,16 @@ fn main(rt: HostRuntime) -> Result<()> {
         &rt,
         "scattered sets",
         &histories::scattered(rt.alloc(), bytes)?,
+    )?;
+    time_script(
+        &rt,
+        "script of halves",
+        &scripts::halves(rt.alloc(), bytes)?,
+    )?;
+    time_script(
+        &rt,
+        "script of short commands",
+        &scripts::short(rt.alloc(), bytes)?,
     )?;
     Ok(())
 }
@@ -59,15 +70,40 @@ fn time_journal<R: CpuClock + Eprint + AllocGlobal>(
         }],
     )?;
     let written = rt.thread_cpu_time()?.saturating_sub(start);
-    let start = rt.thread_cpu_time()?;
-    let copy = Vec::from_slice(rt.alloc(), &text)?;
-    let copied = rt.thread_cpu_time()?.saturating_sub(start);
-    let bytes = copy.len();
-    let each = written.as_nanos() * 1000 / bytes.max(1) as u128;
-    let least = copied.as_nanos() * 1000 / bytes.max(1) as u128;
+    let bytes = text.len();
+    let each = ps_each(written, bytes);
+    let least = ps_each(copy_time(rt, &text)?, bytes);
     let lines = events.len();
     eprintln!(rt;
         "{what}: {lines} events, {bytes} bytes: written {each} ps a byte, copied {least} ps a byte"
     )?;
     Ok(())
+}
+
+// Reads a script, copies its text, and prints the times of both.
+fn time_script<R: CpuClock + Eprint + AllocGlobal>(rt: &R, what: &str, text: &[u8]) -> Result<()> {
+    let settings = Settings::new(1, 4096, 1, Report::Totals).context("settings")?;
+    let start = rt.thread_cpu_time()?;
+    let answer = read_script(rt.alloc(), &settings, text);
+    let spent = rt.thread_cpu_time()?.saturating_sub(start);
+    let commands = answer.map_or(0, |script| script.setup.len());
+    let bytes = text.len();
+    let each = ps_each(spent, bytes);
+    let least = ps_each(copy_time(rt, text)?, bytes);
+    eprintln!(rt;
+        "{what}: {commands} commands, {bytes} bytes: read {each} ps a byte, copied {least} ps a byte"
+    )?;
+    Ok(())
+}
+
+// How long copying the bytes into fresh memory takes.
+fn copy_time<R: CpuClock + AllocGlobal>(rt: &R, text: &[u8]) -> Result<Duration> {
+    let start = rt.thread_cpu_time()?;
+    let _copy = Vec::from_slice(rt.alloc(), text)?;
+    Ok(rt.thread_cpu_time()?.saturating_sub(start))
+}
+
+// Picoseconds of one of so many bytes.
+fn ps_each(spent: Duration, bytes: usize) -> u128 {
+    spent.as_nanos() * 1000 / bytes.max(1) as u128
 }

@@ -6,6 +6,8 @@ mod stutter;
 pub use stutter::Stutter;
 
 #[cfg(test)]
+mod gated;
+#[cfg(test)]
 mod rows;
 #[cfg(test)]
 mod sections;
