@@ -5,7 +5,11 @@
 //! `least_free`). The events needn't be legal.
 #![tactic(auto)]
 
+mod free_blocks;
+mod holders;
 mod least_blocks;
+mod page_blocks;
+mod pages;
 mod past;
 
 pub use least_blocks::LeastBlocks;

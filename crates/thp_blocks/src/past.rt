@@ -39,11 +39,11 @@ impl Past {
     }
 
     // One more event.
-    pub(crate) fn push(&mut self, event: Event)
-        ensures { self.new ≡ self.old ++ event ∷ [] }
+    pub(crate) fn push(&mut self, event: &Event)
+        ensures { self.new ≡ self.old ++ event.now ∷ [] }
     {
         let start = Snapshot::of(&Steps::Start);
         let steps = std::mem::replace(&mut self.steps, start);
-        self.steps = Snapshot::of(&Steps::Then(event, steps));
+        self.steps = Snapshot::of(&Steps::Then(*event, steps));
     }
 }

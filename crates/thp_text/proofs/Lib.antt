@@ -5,3 +5,4 @@ pub mod GrammarLaws
 pub mod SectionLaws
 pub mod ScriptLaws
 pub mod ThresholdLaws
+pub mod ListLaws

@@ -1,6 +1,7 @@
 pub mod Settings
 pub mod Words
 pub mod Lines
+pub mod NumberLists
 pub mod TextKinds
 pub mod Readings
 pub mod Commands

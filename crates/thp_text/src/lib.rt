@@ -4,6 +4,7 @@
 mod fault;
 mod input;
 mod lines;
+mod lists;
 mod operands;
 mod script;
 mod script_reader;
@@ -16,6 +17,7 @@ mod words;
 pub use fault::{ReadFault, TextKind};
 pub use input::MAX_INPUT;
 pub use lines::{fault_behind, fault_of_line, has_empty_word, is_printable};
+pub use lists::{read_orders, read_underused};
 pub use script::{Command, Op, Script};
 pub use script_reader::{read_script, read_script_of};
 pub use sequence::Sequence;

@@ -1,0 +1,4 @@
+pub mod OptionLaws
+pub mod ChainLaws
+pub mod CommandLineLaws
+pub mod LineLaws
