@@ -35,3 +35,4 @@ pub mod OneAnswer
 pub mod Requests
 pub mod WorkedRows
 pub mod WordLemmas
+mod WordMarks

@@ -1,5 +1,5 @@
 //! A set of subpages of one page.
-ghost use Rattle.std.specs.Prelude.{◌≡◌, ℕ, ◌+◌, ◌-◌, ◌*◌, ◌^◌, ◌<◌, ◌≤◌, not, ◌&&◌, ◌||◌, IsTrue, ◌↔◌, min, nat_lt, slice_set, true, false};
+ghost use Rattle.std.specs.Prelude.{◌≡◌, ℕ, ◌+◌, ◌-◌, ◌*◌, ◌^◌, ◌<◌, ◌≤◌, not, ◌&&◌, ◌||◌, IsTrue, ◌↔◌, min, nat_lt, slice_set, length, true, false, if◌then◌else◌};
 ghost use Rattle.thp_model.specs.Sets.{has, set_of, set_size, covers, same_set, same_set-equiv, same_set-partial_equiv};
 
 use std::marker::Model;
@@ -140,6 +140,50 @@ impl SubSet {
         count
     }
 
+    /// The first subpage from `from` on that is in the set, or 512 where there is none.
+    pub fn first_in(&self, from: u32) -> u32
+        requires { from ≤ 512 }
+        ensures size { length self.now ≡ 512 }
+        ensures from { from ≤ result }
+        ensures within { result ≤ 512 }
+        ensures none_before { (i : ℕ) → from ≤ i → i < result → has self.now i ≡ false }
+        ensures found { result < 512 → has self.now result ≡ true }
+    {
+        self.first_that(true, from)
+    }
+
+    /// The first subpage from `from` on that isn't in the set, or 512 where there is none.
+    pub fn first_out(&self, from: u32) -> u32
+        requires { from ≤ 512 }
+        ensures from { from ≤ result }
+        ensures within { result ≤ 512 }
+        ensures all_before { (i : ℕ) → from ≤ i → i < result → has self.now i ≡ true }
+        ensures found { result < 512 → has self.now result ≡ false }
+    {
+        self.first_that(false, from)
+    }
+
+    // the first number from `from` on that is in the set as `is_in` says, or 512
+    fn first_that(&self, is_in: bool, from: u32) -> u32
+        requires { from ≤ 512 }
+        ensures size { length self.now ≡ 512 }
+        ensures from { from ≤ result }
+        ensures within { result ≤ 512 }
+        ensures none_before { (i : ℕ) → from ≤ i → i < result → has self.now i ≡ not is_in }
+        ensures found { result < 512 → has self.now result ≡ is_in }
+    {
+        let mut at = from;
+        while at < 512 {
+            let word = self.words[at as usize / 64];
+            let ahead = marks(word, is_in) >> (at % 64);
+            if ahead != 0 {
+                return at + ahead.trailing_zeros();
+            }
+            at += 64 - at % 64;
+        }
+        at
+    }
+
     // the set of the numbers below n
     fn below(n: u32) -> SubSet
         requires { n ≤ 512 }
@@ -158,6 +202,13 @@ impl SubSet {
             ],
         }
     }
+}
+
+// the bits of a word that are set as `is_in` says
+fn marks(word: u64, is_in: bool) -> u64
+    ensures { result ≡ (if is_in then word else 18446744073709551615 - word) }
+{
+    if is_in { word } else { !word }
 }
 
 // word k of the set of the numbers below n: so many ones

@@ -41,13 +41,13 @@ not_begun o = record { count = refl; so_far = inl (refl, refl) }
 
 -- ---- answers by their numbers
 
-answers-push : (k : ℕ) (ts : List Turn) (t : Turn) → answers_from k (ts ++ t ∷ []) ≡ answers_from k ts ++ record { command = k + length ts; reply = t.answer } ∷ []
+answers-push : (k : ℕ) (ts : List Turn) (t : Turn) → answers_from k (ts ++ t ∷ []) ≡ answers_from k ts ++ record { command = k + length ts; node = t.command.node; reply = t.answer } ∷ []
 answers-push k [] t = let e : k + 0 ≡ k = omega arith in rw e refl
 answers-push k (x ∷ ts) t =
     let e : k + 1 + length ts ≡ k + length (x ∷ ts) = omega arith in
     rw (answers-push (k + 1) ts t, e) refl
 
-answers-push_first : (ts : List Turn) (t : Turn) → answers_from 0 (ts ++ t ∷ []) ≡ answers_from 0 ts ++ record { command = length ts; reply = t.answer } ∷ []
+answers-push_first : (ts : List Turn) (t : Turn) → answers_from 0 (ts ++ t ∷ []) ≡ answers_from 0 ts ++ record { command = length ts; node = t.command.node; reply = t.answer } ∷ []
 answers-push_first ts t = let e : 0 + length ts ≡ length ts = omega arith in let push = answers-push 0 ts t in rw e at push
 
 pub length-answers : (k : ℕ) (ts : List Turn) → length (answers_from k ts) ≡ length ts
@@ -89,14 +89,14 @@ module _ (c : ℕ) (old mid new : Fronts) (commands : List Command) (answers : L
   next = subst (λ o. IsNext (mid.batches c) o b.made begun) here b.next
 
   -- the command that comes next was done
-  pub begins_more : (answer : Reaction) → Proceeds c command begun mid new (Ended answer) → Begins c old new commands (answers ++ record { command = length answers; reply = answer } ∷ []) first_begun
+  pub begins_more : (answer : Reaction) → Proceeds c command begun mid new (Ended answer) → Begins c old new commands (answers ++ record { command = length answers; node = command.node; reply = answer } ∷ []) first_begun
   begins_more answer p =
       let turn : Turn = record { command = command; steps = b.made ++ p.made; answer = answer } in
       let st : Steps c old new ((steps_of b.turns ++ b.made) ++ p.made) = steps_then c old mid new (steps_of b.turns ++ b.made) p.made b.grows (goes_grows c mid new g) b.steps p.steps in
       let all : steps_of (b.turns ++ turn ∷ []) ++ [] ≡ (steps_of b.turns ++ b.made) ++ p.made = append-nil (steps_of (b.turns ++ turn ∷ [])) ∙ steps_of-push b.turns turn ∙ sym (append_assoc (steps_of b.turns) b.made p.made) in
       let told : told_by (b.made ++ p.made) ≡ told_by b.made ++ told_by p.made = map-append (λ (m : Made). m.told) b.made p.made in
       let len : length (b.turns ++ turn ∷ []) ≡ suc (length b.turns) = omega (arith, length-append b.turns (turn ∷ [])) in
-      let said : answers_from 0 b.turns ++ record { command = length b.turns; reply = answer } ∷ [] ≡ answers ++ record { command = length answers; reply = answer } ∷ [] = λ i. sym b.answered i ++ record { command = as_many i; reply = answer } ∷ [] in
+      let said : answers_from 0 b.turns ++ record { command = length b.turns; node = command.node; reply = answer } ∷ [] ≡ answers ++ record { command = length answers; node = command.node; reply = answer } ∷ [] = λ i. sym b.answered i ++ record { command = as_many i; node = command.node; reply = answer } ∷ [] in
       record {
         turns = b.turns ++ turn ∷ [];
         made = [];

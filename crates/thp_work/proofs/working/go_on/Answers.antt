@@ -61,7 +61,7 @@ loop-index-preserved g c =
       goes = goes_trans c.args.worker f0 mid new inv.goes c.do_command.ensures.goes;
       begins = λ old b.
           rw (c.push_reserved.ensures.items, c.first_begun-begun.ensures)
-          (subst (λ (k : ℕ). Begins c.args.worker old new commands (answers ++ record { command = k; reply = c.in-Ended.reply } ∷ []) first_begun) len
+          (subst (λ (k : ℕ). Begins c.args.worker old new commands (answers ++ record { command = k; node = command.node; reply = c.in-Ended.reply } ∷ []) first_begun) len
           (begins_more c.args.worker old mid new commands answers c.loop-index.begun command at (inv.begins old b) c.do_command.ensures.goes c.in-Ended.reply p));
       count = omega (arith, c.push_reserved.ensures.len, inv.count);
       room = omega (arith, c.push_reserved.ensures.capacity, inv.room);

@@ -1,0 +1,14 @@
+-- What contracts see of the choice of blocks.
+use Rattle.std.specs.Prelude.{[], ◌∷◌, ◌++◌}
+use Rattle.thp_model.specs.declared.events.Event.{Event}
+use Rattle.thp_model.specs.declared.shape.Shape.{Shape}
+use Rattle.thp_model.specs.History.{History}
+
+-- the node's shape, and the events so far with their blocks
+pub record BlocksState : Type 0 where
+  pub shape : Shape
+  pub history : History
+
+-- the same with one more event
+abbrev pub with_event : BlocksState → Event → BlocksState
+with_event b e = record { shape = b.shape; history = b.history ++ e ∷ [] }

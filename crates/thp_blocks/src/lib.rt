@@ -1,0 +1,15 @@
+//! The blocks of a journal's pages.
+//!
+//! A journal's text says which pages were allocated, and not in which blocks. [`LeastBlocks`] goes along with its events and
+//! gives each allocation the least block that no live page holds, or block 0 where each is held (`thp_model`,
+//! `least_free`). The events needn't be legal.
+#![tactic(auto)]
+
+mod free_blocks;
+mod holders;
+mod least_blocks;
+mod page_blocks;
+mod pages;
+mod past;
+
+pub use least_blocks::LeastBlocks;

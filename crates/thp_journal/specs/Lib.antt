@@ -1,0 +1,4 @@
+pub mod SetTexts
+pub mod EventLines
+pub mod Journals
+pub mod Histories

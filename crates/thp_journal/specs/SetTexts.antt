@@ -1,0 +1,32 @@
+-- Sets of subpages as text (this project's journal format).
+use Rattle.std.specs.Prelude.{ℕ, ◌+◌, ◌==◌, Bool, true, false, List, [], ◌∷◌, ◌++◌, map, codes, if◌then◌else◌}
+use Rattle.std.specs.List.{join_with_byte}
+use Rattle.std.specs.Fmt.{decimal}
+
+-- the first and the last of some numbers in a row
+abbrev pub Run : Type 0
+Run = ℕ × ℕ
+
+-- i, in front of runs of greater numbers: it joins a run that begins right behind it
+abbrev pub with_number : ℕ → List Run → List Run
+with_number i [] = (i, i) ∷ []
+with_number i (run ∷ runs) = if run.0 == i + 1 then (i, run.1) ∷ runs else (i, i) ∷ run ∷ runs
+
+-- the maximal runs of the numbers whose truth is true, ascending; the first truth is that of i
+abbrev pub runs_from : ℕ → List Bool → List Run
+runs_from i [] = []
+runs_from i (true ∷ truths) = with_number i (runs_from (i + 1) truths)
+runs_from i (false ∷ truths) = runs_from (i + 1) truths
+
+-- a run of one is its number, a longer one `FIRST-LAST`
+abbrev pub run_text : Run → List ℕ
+run_text run = if run.0 == run.1 then decimal run.0 else decimal run.0 ++ codes "-" ++ decimal run.1
+
+-- runs, joined by commas (44); `-` where there is none
+abbrev pub runs_text : List Run → List ℕ
+runs_text [] = codes "-"
+runs_text (run ∷ runs) = join_with_byte 44 (map run_text (run ∷ runs))
+
+-- the text of a set: its maximal runs
+unfoldable pub set_text : List Bool → List ℕ
+set_text set = runs_text (runs_from 0 set)

@@ -1,0 +1,60 @@
+//! Numbers and words behind a text.
+ghost use Rattle.std.specs.Prelude.{◌≡◌, ◌+◌, ◌<◌, [], ◌∷◌, ◌++◌, OnOk};
+ghost use Rattle.std.specs.Fmt.{decimal};
+
+use itoa::write_digits;
+use std::alloc::AllocError;
+
+// Where a number of 64 bits ends in its buffer: it has at most so many digits.
+const DIGITS: usize = 20;
+
+/// Writes the bytes of a word.
+#[inline(always)]
+pub(crate) fn put(text: &mut Vec<u8>, word: &[u8]) -> Result<(), AllocError>
+    ensures { OnOk result (text.new.items ≡ text.old.items ++ word.now) }
+{
+    text.extend_from_slice(word)
+}
+
+/// Writes a number in decimal, and the byte `after` behind it.
+#[inline]
+pub(crate) fn put_number(text: &mut Vec<u8>, number: u64, after: u8) -> Result<(), AllocError>
+    ensures { OnOk result (text.new.items ≡ text.old.items ++ decimal number ++ after ∷ []) }
+{
+    if number < 10 {
+        put(text, &[digit(number), after])
+    } else if number < 100 {
+        put(text, &[digit(number / 10), digit(number % 10), after])
+    } else if number < 1000 {
+        let tens = number / 10;
+        put(
+            text,
+            &[
+                digit(tens / 10),
+                digit(tens % 10),
+                digit(number % 10),
+                after,
+            ],
+        )
+    } else {
+        put_long(text, number, after)
+    }
+}
+
+// the digit of a number below 10
+#[inline(always)]
+fn digit(number: u64) -> u8
+    requires { number < 10 }
+    ensures { result ≡ 48 + number }
+{
+    b'0' + number as u8
+}
+
+// a number of any length
+fn put_long(text: &mut Vec<u8>, number: u64, after: u8) -> Result<(), AllocError>
+    ensures { OnOk result (text.new.items ≡ text.old.items ++ decimal number ++ after ∷ []) }
+{
+    let mut digits = [after; DIGITS + 1];
+    let start = write_digits(number, &mut digits, DIGITS);
+    put(text, &digits[start..])
+}

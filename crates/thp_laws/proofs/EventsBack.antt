@@ -1,0 +1,203 @@
+-- The line of an event is read back as that event, but for a new page's block.
+use Rattle.std.proofs.Common.{◌≡◌, ◌<◌, ◌≤◌, ◌^◌, ℕ, Bool, true, false, cond, not, List, [], ◌∷◌, length, Ok, Err, refl, ap, ◌∙◌, arith, codes}
+use Rattle.std.specs.Prelude.{ok_or}
+use Rattle.std.specs.Fmt.{decimal}
+use Rattle.std.specs.List.{list_all, list_any}
+use Rattle.std.proofs.lemmas.Bool.{and_from}
+use Rattle.thp_model.specs.declared.events.Event.{Event}
+use Rattle.thp_model.specs.declared.events.Outcome.{Outcome}
+use Rattle.thp_model.specs.declared.events.Outcome.TheVariants.{Stays, Queued, Freed}
+use Rattle.thp_model.specs.declared.events.What.{What}
+use Rattle.thp_model.specs.declared.events.What.TheVariants.{Alloc, MapWhole, UnmapWhole, MapSub, UnmapSub, SplitPmd, Pin, Unpin, Write, Zero, Taken, Split, Pinned, Used, Back, Dropped, Close}
+use Rattle.thp_model.specs.BlockLaws.{event_with, with_block}
+use Rattle.thp_model.specs.History.{by}
+use Rattle.thp_text.specs.declared.fault.TextKind.TheVariants.{BadByte, BadNumber, BadWord}
+use Rattle.thp_text.specs.Commands.{number_up_to}
+use Rattle.thp_text.specs.Lines.{is_empty, is_printable}
+use Rattle.thp_text.specs.Readings.{◌>>=◌}
+use Rattle.thp_text.specs.Words.{Text, words_of}
+use Rattle.thp_text.proofs.NumberLaws.{number_of-decimal}
+use Rattle.thp_journal.specs.EventLines as written
+use Rattle.thp_journal.specs.EventLines.{event_words, outcome_word, what_words}
+use Rattle.thp_journal.specs.SetTexts.{set_text}
+use Rattle.thp_read.specs.declared.event_word.EventWord.{EventWord}
+use Rattle.thp_read.specs.declared.event_word.EventWord.TheVariants as word
+use Rattle.thp_read.specs.declared.event_word.LossWord.{LossWord}
+use Rattle.thp_read.specs.declared.event_word.LossWord.TheVariants as loss
+use Rattle.thp_read.specs.declared.event_word.PageWord.{PageWord}
+use Rattle.thp_read.specs.declared.event_word.PageWord.TheVariants as page
+use Rattle.thp_read.specs.declared.event_word.RangeWord.{RangeWord}
+use Rattle.thp_read.specs.declared.event_word.RangeWord.TheVariants as range
+use Rattle.thp_read.specs.declared.line.Line.TheVariants.{Happened}
+use Rattle.thp_read.specs.declared.version.Version.{Version}
+use Rattle.thp_read.specs.declared.version.Version.TheVariants.{Plain, Orders, Underused}
+use Rattle.thp_read.specs.EventLines.{caller_number, page_number, range_number, page_event, range_event, loss_event, unmap_event, split_event, close_event, outcome_and_word, event_by, event_of}
+use Rattle.thp_read.specs.EventWords.{common_word, later_word, event_word, outcome_of, page_what, range_what, loss_what}
+use Rattle.thp_read.specs.JournalLines as read
+use Rattle.thp_read.specs.JournalLines.{line_by, by_words}
+use Rattle.thp_laws.specs.Tellable.{HasSmallNumbers, IsOfVersion, IsTellable}
+use Rattle.thp_laws.proofs.PlainWords.{decimal_plain, is_plain, line_printable, no_number, none_empty, words_back}
+use Rattle.thp_laws.proofs.SetsBack.{set_back, set_plain}
+
+-- a line of plain words says what its words say
+pub line_of_words : (v : Version) (name : Text) (words : List Text) → list_all is_plain (name ∷ words) ≡ true → read.line_of v (written.line_of (name ∷ words)) ≡ line_by v name words
+unfolding read.line_of
+line_of_words v name words plain =
+    let line : Text = written.line_of (name ∷ words) in
+    let printable : list_all is_printable line ≡ true = line_printable (name ∷ words) plain in
+    let back : words_of line ≡ name ∷ words = words_back name words plain in
+    let some : list_any is_empty (words_of line) ≡ false = ap (list_any is_empty) back ∙ none_empty (name ∷ words) plain in
+    ap (λ b. cond (not b) (Err BadByte) (cond (list_any is_empty (words_of line)) (Err BadWord) (by_words v (words_of line)))) printable
+    ∙ ap (λ b. cond b (Err BadWord) (by_words v (words_of line))) some
+    ∙ ap (by_words v) back
+
+-- a line that begins with a number tells an event
+line_by_number : (v : Version) (n : ℕ) (words : List Text) → n < 2 ^ 64 → line_by v (decimal n) words ≡ read.event_line v (decimal n) words
+unfolding line_by
+line_by_number v n words lt =
+    rw (no_number n (codes "thp-journal") lt refl, no_number n (codes "node") lt refl, no_number n (codes "end") lt refl) refl
+
+-- ---- operands
+
+-- a number within a bound
+pub number_back : (most n : ℕ) → n ≤ most → most < 2 ^ 64 → number_up_to most (decimal n) ≡ Ok n
+number_back most n le lt = ap (λ o. ok_or o BadNumber) (number_of-decimal most n le lt)
+
+caller_back : (c : ℕ) → c < 64 → caller_number (decimal c) ≡ Ok c
+caller_back c lt = number_back 63 c (omega arith) (omega arith)
+
+page_back : (p : ℕ) → p < 2 ^ 64 → page_number (decimal p) ≡ Ok p
+page_back p lt = number_back 18446744073709551615 p (omega arith) (omega arith)
+
+range_back : (n : ℕ) → n < 2 ^ 16 → range_number (decimal n) ≡ Ok n
+range_back n lt = number_back 65535 n (omega arith) (omega arith)
+
+outcome_back : (o : Outcome) → outcome_of (outcome_word o) ≡ Ok o
+unfolding outcome_of
+outcome_back Stays = refl
+outcome_back Queued = refl
+outcome_back Freed = refl
+
+outcome_plain : (o : Outcome) → is_plain (outcome_word o) ≡ true
+outcome_plain Stays = refl
+outcome_plain Queued = refl
+outcome_plain Freed = refl
+
+-- an outcome, and a word behind it
+ending_back : (o : Outcome) (word : Text) → outcome_and_word (outcome_word o ∷ word ∷ []) ≡ Ok (o, word)
+unfolding outcome_and_word
+ending_back o word = rw (outcome_back o) refl
+
+-- ---- events, by the words behind their name
+
+page_event_back : (name : PageWord) (c p : ℕ) → c < 64 → p < 2 ^ 64 → page_event name (decimal c) (decimal p ∷ []) ≡ Ok (by c (page_what name p))
+unfolding page_event
+page_event_back name c p small lt = rw (caller_back c small, page_back p lt) refl
+
+range_event_back : (name : RangeWord) (c p first count : ℕ) → c < 64 → p < 2 ^ 64 → first < 2 ^ 16 → count < 2 ^ 16 → range_event name (decimal c) (decimal p ∷ decimal first ∷ decimal count ∷ []) ≡ Ok (by c (range_what name p first count))
+unfolding range_event
+range_event_back name c p first count small lt low high = rw (caller_back c small, page_back p lt, range_back first low, range_back count high) refl
+
+loss_event_back : (name : LossWord) (o : Outcome) (c p : ℕ) (set : List Bool) → c < 64 → p < 2 ^ 64 → length set ≡ 512 → loss_event name (decimal c) (decimal p ∷ outcome_word o ∷ set_text set ∷ []) ≡ Ok (by c (loss_what name o p set))
+unfolding loss_event
+loss_event_back name o c p set small lt full = rw (ending_back o (set_text set), caller_back c small, page_back p lt, set_back set full) refl
+
+unmap_event_back : (o : Outcome) (c p first count : ℕ) (set : List Bool) → c < 64 → p < 2 ^ 64 → first < 2 ^ 16 → count < 2 ^ 16 → length set ≡ 512 → unmap_event (decimal c) (decimal p ∷ decimal first ∷ decimal count ∷ outcome_word o ∷ set_text set ∷ []) ≡ Ok (by c (UnmapSub o p first count set))
+unfolding unmap_event
+unmap_event_back o c p first count set small lt low high full = rw (ending_back o (set_text set), caller_back c small, page_back p lt, range_back first low, range_back count high, set_back set full) refl
+
+split_event_back : (c p : ℕ) (set : List Bool) → c < 64 → p < 2 ^ 64 → length set ≡ 512 → split_event (decimal c) (decimal p ∷ set_text set ∷ []) ≡ Ok (by c (Split p set))
+unfolding split_event
+split_event_back c p set small lt full = rw (caller_back c small, page_back p lt, set_back set full) refl
+
+close_event_back : (c : ℕ) → c < 64 → close_event (decimal c) [] ≡ Ok (by c Close)
+unfolding close_event
+close_event_back c small = rw (caller_back c small) refl
+
+-- ---- event words
+
+-- a word of every version
+known : (v : Version) (name : Text) (word : EventWord) → common_word name ≡ Ok word → later_word name ≡ Ok word → event_word v name ≡ Ok word
+known Plain name word common later = common
+known Orders name word common later = common
+known Underused name word common later = later
+
+-- the event by its word
+event_by_word : (v : Version) (name caller : Text) (words : List Text) (word : EventWord) (e : Event) → event_word v name ≡ Ok word → event_by word caller words ≡ Ok e → event_of v caller (name ∷ words) ≡ Ok e
+event_by_word v name caller words word e is said = ap (λ r. r >>= λ w. event_by w caller words) is ∙ said
+
+-- what happened, behind the caller's number
+what_back : (v : Version) (c : ℕ) (w : What) → c < 64 → IsOfVersion v w → HasSmallNumbers w → event_of v (decimal c) (what_words w) ≡ Ok (by c (with_block 0 w))
+unfolding common_word later_word
+what_back v c (Alloc p b) small of fit = event_by_word v (codes "alloc") _ _ (word.OfPage page.Alloc) _ (known v _ _ refl refl) (page_event_back page.Alloc c p small fit)
+what_back v c (MapWhole p) small of fit = event_by_word v (codes "mapwhole") _ _ (word.OfPage page.MapWhole) _ (known v _ _ refl refl) (page_event_back page.MapWhole c p small fit)
+what_back v c (UnmapWhole o p set) small of fit = event_by_word v (codes "unmapwhole") _ _ (word.OfLoss loss.UnmapWhole) _ (known v _ _ refl refl) (loss_event_back loss.UnmapWhole o c p set small fit.0 fit.1)
+what_back v c (MapSub p first count) small of fit = event_by_word v (codes "mapsub") _ _ (word.OfRange range.MapSub) _ (known v _ _ refl refl) (range_event_back range.MapSub c p first count small fit.0 fit.1 fit.2)
+what_back v c (UnmapSub o p first count set) small of fit = event_by_word v (codes "unmapsub") _ _ word.UnmapSub _ (known v _ _ refl refl) (unmap_event_back o c p first count set small fit.0 fit.1 fit.2 fit.3)
+what_back v c (SplitPmd p) small of fit = event_by_word v (codes "splitpmd") _ _ (word.OfPage page.SplitPmd) _ (known v _ _ refl refl) (page_event_back page.SplitPmd c p small fit)
+what_back v c (Pin p) small of fit = event_by_word v (codes "pin") _ _ (word.OfPage page.Pin) _ (known v _ _ refl refl) (page_event_back page.Pin c p small fit)
+what_back v c (Unpin o p set) small of fit = event_by_word v (codes "unpin") _ _ (word.OfLoss loss.Unpin) _ (known v _ _ refl refl) (loss_event_back loss.Unpin o c p set small fit.0 fit.1)
+what_back Underused c (Write p first count) small of fit = event_by_word Underused (codes "write") _ _ (word.OfRange range.Write) _ refl (range_event_back range.Write c p first count small fit.0 fit.1 fit.2)
+what_back Underused c (Zero p first count) small of fit = event_by_word Underused (codes "zero") _ _ (word.OfRange range.Zero) _ refl (range_event_back range.Zero c p first count small fit.0 fit.1 fit.2)
+what_back Plain c (Write p first count) small of fit = absurd of
+what_back Plain c (Zero p first count) small of fit = absurd of
+what_back Orders c (Write p first count) small of fit = absurd of
+what_back Orders c (Zero p first count) small of fit = absurd of
+what_back v c (Taken p) small of fit = event_by_word v (codes "taken") _ _ (word.OfPage page.Taken) _ (known v _ _ refl refl) (page_event_back page.Taken c p small fit)
+what_back v c (Split p set) small of fit = event_by_word v (codes "split") _ _ word.Split _ (known v _ _ refl refl) (split_event_back c p set small fit.0 fit.1)
+what_back v c (Pinned p) small of fit = event_by_word v (codes "pinned") _ _ (word.OfPage page.Pinned) _ (known v _ _ refl refl) (page_event_back page.Pinned c p small fit)
+what_back Underused c (Used p) small of fit = event_by_word Underused (codes "used") _ _ (word.OfPage page.Used) _ refl (page_event_back page.Used c p small fit)
+what_back Plain c (Used p) small of fit = absurd of
+what_back Orders c (Used p) small of fit = absurd of
+what_back v c (Back p) small of fit = event_by_word v (codes "back") _ _ (word.OfPage page.Back) _ (known v _ _ refl refl) (page_event_back page.Back c p small fit)
+what_back v c (Dropped p) small of fit = event_by_word v (codes "dropped") _ _ (word.OfPage page.Dropped) _ (known v _ _ refl refl) (page_event_back page.Dropped c p small fit)
+what_back v c Close small of fit = event_by_word v (codes "close") _ _ word.Close _ (known v _ _ refl refl) (close_event_back c small)
+
+-- ---- its words are plain
+
+page_plain : (name : Text) (p : ℕ) → is_plain name ≡ true → p < 2 ^ 64 → list_all is_plain (name ∷ decimal p ∷ []) ≡ true
+page_plain name p is lt = rw (is, decimal_plain p lt) refl
+
+range_plain : (name : Text) (p first count : ℕ) → is_plain name ≡ true → p < 2 ^ 64 → first < 2 ^ 16 → count < 2 ^ 16 → list_all is_plain (name ∷ decimal p ∷ decimal first ∷ decimal count ∷ []) ≡ true
+range_plain name p first count is lt low high = rw (is, decimal_plain p lt, decimal_plain first (omega arith), decimal_plain count (omega arith)) refl
+
+loss_plain : (name : Text) (p : ℕ) (o : Outcome) (set : List Bool) → is_plain name ≡ true → p < 2 ^ 64 → length set ≡ 512 → list_all is_plain (name ∷ decimal p ∷ outcome_word o ∷ set_text set ∷ []) ≡ true
+loss_plain name p o set is lt full = rw (is, decimal_plain p lt, outcome_plain o, set_plain set full) refl
+
+unmap_plain : (name : Text) (p first count : ℕ) (o : Outcome) (set : List Bool) → is_plain name ≡ true → p < 2 ^ 64 → first < 2 ^ 16 → count < 2 ^ 16 → length set ≡ 512 → list_all is_plain (name ∷ decimal p ∷ decimal first ∷ decimal count ∷ outcome_word o ∷ set_text set ∷ []) ≡ true
+unmap_plain name p first count o set is lt low high full = rw (is, decimal_plain p lt, decimal_plain first (omega arith), decimal_plain count (omega arith), outcome_plain o, set_plain set full) refl
+
+split_plain : (name : Text) (p : ℕ) (set : List Bool) → is_plain name ≡ true → p < 2 ^ 64 → length set ≡ 512 → list_all is_plain (name ∷ decimal p ∷ set_text set ∷ []) ≡ true
+split_plain name p set is lt full = rw (is, decimal_plain p lt, set_plain set full) refl
+
+what_plain : (w : What) → HasSmallNumbers w → list_all is_plain (what_words w) ≡ true
+what_plain (Alloc p b) fit = page_plain (codes "alloc") p refl fit
+what_plain (MapWhole p) fit = page_plain (codes "mapwhole") p refl fit
+what_plain (UnmapWhole o p set) fit = loss_plain (codes "unmapwhole") p o set refl fit.0 fit.1
+what_plain (MapSub p first count) fit = range_plain (codes "mapsub") p first count refl fit.0 fit.1 fit.2
+what_plain (UnmapSub o p first count set) fit = unmap_plain (codes "unmapsub") p first count o set refl fit.0 fit.1 fit.2 fit.3
+what_plain (SplitPmd p) fit = page_plain (codes "splitpmd") p refl fit
+what_plain (Pin p) fit = page_plain (codes "pin") p refl fit
+what_plain (Unpin o p set) fit = loss_plain (codes "unpin") p o set refl fit.0 fit.1
+what_plain (Write p first count) fit = range_plain (codes "write") p first count refl fit.0 fit.1 fit.2
+what_plain (Zero p first count) fit = range_plain (codes "zero") p first count refl fit.0 fit.1 fit.2
+what_plain (Taken p) fit = page_plain (codes "taken") p refl fit
+what_plain (Split p set) fit = split_plain (codes "split") p set refl fit.0 fit.1
+what_plain (Pinned p) fit = page_plain (codes "pinned") p refl fit
+what_plain (Used p) fit = page_plain (codes "used") p refl fit
+what_plain (Back p) fit = page_plain (codes "back") p refl fit
+what_plain (Dropped p) fit = page_plain (codes "dropped") p refl fit
+what_plain Close fit = refl
+
+pub event_plain : (v : Version) (e : Event) → IsTellable v e → list_all is_plain (event_words e) ≡ true
+unfolding event_words
+event_plain v e t = let small = t.caller in and_from _ _ (decimal_plain e.caller (omega arith)) (what_plain e.what t.numbers)
+
+-- an event's line tells that event, but for its block
+pub event_line_back : (v : Version) (e : Event) → IsTellable v e → read.line_of v (written.event_line e) ≡ Ok (Happened (event_with 0 e))
+unfolding written.event_line event_words
+event_line_back v e t =
+    let small = t.caller in
+    line_of_words v (decimal e.caller) (what_words e.what) (event_plain v e t)
+    ∙ line_by_number v e.caller (what_words e.what) (omega arith)
+    ∙ ap (λ r. r >>= λ event. Ok (Happened event)) (what_back v e.caller e.what small t.version t.numbers)

@@ -1,0 +1,149 @@
+-- A journal text is read as the journals that it was written of, but for their blocks.
+use Rattle.std.proofs.Common.{◌≡◌, ◌<◌, ◌≤◌, ◌+◌, ℕ, suc, true, false, List, [], ◌∷◌, ◌++◌, map, length, Result, Ok, refl, ap, sym, ◌∙◌, arith, append_assoc, codes}
+use Rattle.std.specs.Prelude.{nat_lt}
+use Rattle.std.specs.List.{list_all, AllByRecursion, fold}
+use Rattle.std.proofs.Math.Nat.{add-zero}
+use Rattle.std.proofs.lemmas.Bool.{and_from, le-ltb}
+use Rattle.thp_model.specs.declared.events.Event.{Event}
+use Rattle.thp_model.specs.declared.events.What.{What}
+use Rattle.thp_model.specs.declared.events.What.TheVariants.{Alloc, MapWhole, UnmapWhole, MapSub, UnmapSub, SplitPmd, Pin, Unpin, Write, Zero, Taken, Split, Pinned, Used, Back, Dropped, Close}
+use Rattle.thp_model.specs.declared.shape.Shape.{Shape}
+use Rattle.thp_model.specs.BlockLaws.{event_with, with_block, with_least_blocks, least_free}
+use Rattle.thp_model.specs.History.{History, by}
+use Rattle.thp_text.specs.Scripts.{Fault}
+use Rattle.thp_text.specs.Words.{lines_of}
+use Rattle.thp_journal.specs.declared.version.Version.{Version as Written}
+use Rattle.thp_journal.specs.EventLines as written
+use Rattle.thp_journal.specs.EventLines.{event_words}
+use Rattle.thp_journal.specs.Journals as journal
+use Rattle.thp_journal.specs.Journals.{Journal, version_of, lines_of_node, journal_lines, journal_text}
+use Rattle.thp_read.specs.declared.line.Line.{Line}
+use Rattle.thp_read.specs.declared.line.Line.TheVariants.{End}
+use Rattle.thp_read.specs.declared.place.Place.TheVariants.{Start}
+use Rattle.thp_read.specs.declared.version.Version.{Version}
+use Rattle.thp_read.specs.Journals as reading
+use Rattle.thp_read.specs.Journals.{node_journal, nodes_of, journals_with, journals_of}
+use Rattle.thp_laws.specs.Tellable.{read_version, IsTellable, IsToldJournal}
+use Rattle.thp_laws.specs.ReadBack.{nodes_from}
+use Rattle.thp_laws.proofs.EventsBack.{event_plain}
+use Rattle.thp_laws.proofs.NodesBack.{node_plain, version_plain, version_words}
+use Rattle.thp_laws.proofs.LinesBack.{all_behind, all_say, happened, node_told, nodes_told, read_all, told}
+use Rattle.thp_laws.proofs.PlainWords.{line_whole}
+use Rattle.thp_laws.proofs.Splitting.{all_append, is_without, lines_back}
+
+-- ---- blocks
+
+block_again : (b : ℕ) (w : What) → with_block b (with_block 0 w) ≡ with_block b w
+block_again b (Alloc p c) = refl
+block_again b (MapWhole p) = refl
+block_again b (UnmapWhole o p set) = refl
+block_again b (MapSub p first count) = refl
+block_again b (UnmapSub o p first count set) = refl
+block_again b (SplitPmd p) = refl
+block_again b (Pin p) = refl
+block_again b (Unpin o p set) = refl
+block_again b (Write p first count) = refl
+block_again b (Zero p first count) = refl
+block_again b (Taken p) = refl
+block_again b (Split p set) = refl
+block_again b (Pinned p) = refl
+block_again b (Used p) = refl
+block_again b (Back p) = refl
+block_again b (Dropped p) = refl
+block_again b Close = refl
+
+event_again : (b : ℕ) (e : Event) → event_with b (event_with 0 e) ≡ event_with b e
+event_again b e = ap (by e.caller) (block_again b e.what)
+
+-- the least blocks don't go by the blocks that there were
+least_again : (s : Shape) (k h : History) → fold (λ k (e : Event). k ++ event_with (least_free s k) e ∷ []) k (map (event_with 0) h) ≡ fold (λ k (e : Event). k ++ event_with (least_free s k) e ∷ []) k h
+least_again s k [] = refl
+least_again s k (e ∷ h) = ap (λ (x : Event). fold (λ k (e : Event). k ++ event_with (least_free s k) e ∷ []) (k ++ x ∷ []) (map (event_with 0) h)) (event_again (least_free s k) e) ∙ least_again s (k ++ event_with (least_free s k) e ∷ []) h
+
+pub least_of_none : (s : Shape) (h : History) → with_least_blocks s (map (event_with 0) h) ≡ with_least_blocks s h
+unfolding with_least_blocks
+least_of_none s h = least_again s [] h
+
+-- ---- the nodes of lines
+
+-- lines behind a node's events: none, or one that isn't an event
+EndsEvents : List Line → Type 0
+EndsEvents lines = reading.events_of lines ≡ []
+
+events_back : (h : History) (rest : List Line) → EndsEvents rest → reading.events_of (map happened h ++ rest) ≡ map (event_with 0) h
+unfolding EndsEvents happened
+events_back [] rest ends = ends
+events_back (e ∷ h) rest ends = ap (λ es. event_with 0 e ∷ es) (events_back h rest ends)
+
+ends_at_node : (n : ℕ) (js : List Journal) → EndsEvents (nodes_told n js ++ End ∷ [])
+unfolding EndsEvents nodes_told node_told
+ends_at_node n [] = refl
+ends_at_node n (j ∷ js) = refl
+
+behind_events : (line : ℕ) (h : History) (rest : List Line) → nodes_of line (map happened h ++ rest) ≡ nodes_of (line + length h) rest
+unfolding happened
+behind_events line [] rest = ap (λ k. nodes_of k rest) (sym (add-zero line))
+behind_events line (e ∷ h) rest = behind_events (line + 1) h rest ∙ ap (λ k. nodes_of k rest) (one_later line (length h)) where
+  one_later : (n k : ℕ) → n + 1 + k ≡ n + suc k
+  one_later n k = omega arith
+
+-- a node and what stands behind it
+node_back : (line n : ℕ) (j : Journal) (rest : List Line) → EndsEvents rest → nodes_of line (node_told n j ++ rest) ≡ node_journal (line + 1) j.0 j.1 ∷ nodes_of (line + 1 + length j.1) rest
+unfolding node_told
+node_back line n j rest ends =
+    let events : reading.events_of (map happened j.1 ++ rest) ≡ map (event_with 0) j.1 = events_back j.1 rest ends in
+    let least : with_least_blocks j.0 (reading.events_of (map happened j.1 ++ rest)) ≡ with_least_blocks j.0 j.1 = ap (with_least_blocks j.0) events ∙ least_of_none j.0 j.1 in
+    let behind : nodes_of (line + 1) (map happened j.1 ++ rest) ≡ nodes_of (line + 1 + length j.1) rest = behind_events (line + 1) j.1 rest in
+    rw (least, behind) refl
+
+nodes_back : (line n : ℕ) (js : List Journal) → nodes_of line (nodes_told n js ++ End ∷ []) ≡ nodes_from line js
+unfolding nodes_told
+nodes_back line n [] = refl
+nodes_back line n (j ∷ js) =
+    ap (nodes_of line) (append_assoc (node_told n j) (nodes_told (n + 1) js) (End ∷ []))
+    ∙ node_back line n j (nodes_told (n + 1) js ++ End ∷ []) (ends_at_node (n + 1) js)
+    ∙ ap (λ ns. node_journal (line + 1) j.0 j.1 ∷ ns) (nodes_back (line + 1 + length j.1) (n + 1) js)
+
+-- ---- the lines of a text
+
+event_whole : (v : Version) (e : Event) → IsTellable v e → is_without 10 (written.event_line e) ≡ true
+unfolding written.event_line
+event_whole v e t = line_whole (event_words e) (event_plain v e t)
+
+events_whole : (v : Version) (h : History) → AllByRecursion (IsTellable v) h → list_all (is_without 10) (map written.event_line h) ≡ true
+events_whole v [] h = refl
+events_whole v (e ∷ events) h = and_from _ _ (event_whole v e h.0) (events_whole v events h.1)
+
+node_whole : (v : Written) (n : ℕ) (j : Journal) → n < 8 → IsToldJournal (read_version v) j → list_all (is_without 10) (lines_of_node v n j) ≡ true
+unfolding lines_of_node journal.node_line
+node_whole v n j few t = and_from _ _ (line_whole (journal.node_words v n j.0) (node_plain v n j.0 few t.shape)) (events_whole (read_version v) j.1 t.events)
+
+nodes_whole : (v : Written) (n : ℕ) (js : List Journal) → n + length js ≤ 8 → AllByRecursion (IsToldJournal (read_version v)) js → list_all (is_without 10) (journal.lines_from v n js) ≡ true
+nodes_whole v n [] few h = refl
+nodes_whole v n (j ∷ js) few h = all_append (is_without 10) (lines_of_node v n j) (journal.lines_from v (n + 1) js) (node_whole v n j (omega arith) h.0) (nodes_whole v (n + 1) js (omega arith) h.1)
+
+version_whole : (v : Written) → is_without 10 (journal.version_line v) ≡ true
+version_whole v = line_whole (version_words v) (version_plain v)
+
+-- a text's lines are those it was written of, and nothing stands behind them
+text_lines : (js : List Journal) → length js ≤ 8 → AllByRecursion (IsToldJournal (read_version (version_of js))) js → lines_of (journal_text js) ≡ journal_lines js ++ [] ∷ []
+unfolding journal_text journal_lines
+text_lines js few h =
+    let v : Written = version_of js in
+    lines_back (journal_lines js) (and_from _ _ (version_whole v) (all_append (is_without 10) (journal.lines_from v 0 js) (codes "end" ∷ []) (nodes_whole v 0 js (omega arith) h) refl))
+
+-- ---- the whole text
+
+-- what is read, where nothing is at fault
+read : {A : Type 0} → A → Result A Fault
+read x = Ok x
+
+-- the journals that a text's lines can tell are read back, but for their blocks
+pub text_back : (js : List Journal) → 0 < length js → length js ≤ 8 → AllByRecursion (IsToldJournal (read_version (version_of js))) js → length (journal_text js) ≤ 16777216 → journals_of (journal_text js) ≡ Ok (record { nodes = nodes_from 2 js })
+unfolding journals_of journals_with journal_lines told read
+text_back js some few h short =
+    let v : Written = version_of js in
+    let lines : reading.lines_from 1 Start (lines_of (journal_text js)) ≡ Ok (told v js) = ap (reading.lines_from 1 Start) (text_lines js few h) ∙ read_all 1 (read_version v) Start (journal_lines js) (told v js) (all_say v js some few h) (all_behind v js) in
+    let fits : nat_lt 16777216 (length (journal_text js)) ≡ false = le-ltb _ _ short in
+    let nodes : nodes_of 1 (told v js) ≡ nodes_from 2 js = nodes_back 2 0 js in
+    rw (fits, lines) (ap (λ ns. read (record { nodes = ns })) nodes)

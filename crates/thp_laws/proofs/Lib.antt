@@ -1,0 +1,12 @@
+pub mod Splitting
+pub mod PlainWords
+pub mod SetsBack
+pub mod EventsBack
+pub mod NodesBack
+pub mod LinesBack
+pub mod JournalsBack
+pub mod LegalNumbers
+pub mod LegalVersions
+pub mod ReadingBack
+pub mod TotalsAlike
+pub mod WithoutBlocks

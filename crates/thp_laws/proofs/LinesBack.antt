@@ -1,0 +1,158 @@
+-- The lines of journals are read back, one after another.
+use Rattle.std.proofs.Common.{◌≡◌, ◌<◌, ◌≤◌, ◌+◌, ℕ, suc, true, List, [], ◌∷◌, ◌++◌, map, length, Ok, refl, ap, sym, subst, ◌∙◌, arith, codes}
+use Rattle.std.specs.Prelude.{⊤}
+use Rattle.std.specs.List.{AllByRecursion}
+use Rattle.std.proofs.lemmas.Bool.{eq-eqb, lt-ltb}
+use Rattle.std.proofs.Math.Nat.{add-zero}
+use Rattle.thp_model.specs.declared.events.Event.{Event}
+use Rattle.thp_model.specs.BlockLaws.{event_with}
+use Rattle.thp_model.specs.History.{History}
+use Rattle.thp_text.specs.Readings.{◌>>=◌}
+use Rattle.thp_text.specs.Lines.{fault_behind}
+use Rattle.thp_text.specs.Words.{Text}
+use Rattle.thp_journal.specs.declared.version.Version.{Version as Written}
+use Rattle.thp_journal.specs.EventLines as written
+use Rattle.thp_journal.specs.Journals as journal
+use Rattle.thp_journal.specs.Journals.{Journal, version_of, lines_of_node, journal_lines}
+use Rattle.thp_read.specs.declared.line.Line.{Line}
+use Rattle.thp_read.specs.declared.line.Line.TheVariants.{Head, Node, Happened, End}
+use Rattle.thp_read.specs.declared.place.Place.{Place}
+use Rattle.thp_read.specs.declared.place.Place.TheVariants.{Start, Inside, Ended}
+use Rattle.thp_read.specs.declared.version.Version.{Version}
+use Rattle.thp_read.specs.JournalLines as read
+use Rattle.thp_read.specs.JournalLines.{line_in, may_stand, place_after, version_at}
+use Rattle.thp_read.specs.Journals as reading
+use Rattle.thp_laws.specs.Tellable.{read_version, IsTellable, IsToldJournal}
+use Rattle.thp_laws.proofs.EventsBack.{event_line_back}
+use Rattle.thp_laws.proofs.NodesBack.{end_line_back, node_line_back, version_line_back}
+
+-- ---- lines in their places
+
+-- from this place on each text says the line beside it, which may stand there
+pub Says : Place → List Text → List Line → Type 0
+Says place [] [] = ⊤
+Says place (text ∷ texts) (line ∷ lines) = (line_in place text ≡ Ok line) × Says (place_after place line) texts lines
+Says place [] (line ∷ lines) = ⊥
+Says place (text ∷ texts) [] = ⊥
+
+-- the place behind lines
+pub place_behind : Place → List Line → Place
+place_behind place [] = place
+place_behind place (line ∷ lines) = place_behind (place_after place line) lines
+
+says_append : (place : Place) (texts others : List Text) (lines more : List Line) → Says place texts lines → Says (place_behind place lines) others more → Says place (texts ++ others) (lines ++ more)
+unfolding Says place_behind
+says_append place [] others [] more h k = k
+says_append place (text ∷ texts) others (line ∷ lines) more h k = (h.0, says_append (place_after place line) texts others lines more h.1 k)
+says_append place [] others (line ∷ lines) more h k = absurd h
+says_append place (text ∷ texts) others [] more h k = absurd h
+
+behind_append : (place : Place) (lines more : List Line) → place_behind place (lines ++ more) ≡ place_behind (place_behind place lines) more
+unfolding place_behind
+behind_append place [] more = refl
+behind_append place (line ∷ lines) more = behind_append (place_after place line) lines more
+
+-- a line that may stand in its place
+stands : (place : Place) (text : Text) (line : Line) → read.line_of (version_at place) text ≡ Ok line → may_stand place line ≡ true → line_in place text ≡ Ok line
+unfolding line_in
+stands place text line is may = rw (is, may) refl
+
+-- one more line
+one_more : (number : ℕ) (place : Place) (text next : Text) (texts : List Text) (line : Line) → line_in place text ≡ Ok line → reading.lines_from number place (text ∷ next ∷ texts) ≡ (reading.lines_from (number + 1) (place_after place line) (next ∷ texts) >>= λ lines. Ok (line ∷ lines))
+unfolding reading.lines_from
+one_more number place text next texts line is = rw is refl
+
+-- behind the end stands nothing
+nothing : (number : ℕ) (v : Version) → reading.lines_from number (Ended v) ([] ∷ []) ≡ Ok []
+unfolding reading.lines_from fault_behind
+nothing number v = refl
+
+-- lines that end at the end of the journals are read
+pub read_all : (number : ℕ) (v : Version) (place : Place) (texts : List Text) (lines : List Line) → Says place texts lines → place_behind place lines ≡ Ended v → reading.lines_from number place (texts ++ [] ∷ []) ≡ Ok lines
+unfolding Says place_behind
+read_all number v place [] [] h e = subst (λ p. reading.lines_from number p ([] ∷ []) ≡ Ok []) (sym e) (nothing number v)
+read_all number v place [] (line ∷ lines) h e = absurd h
+read_all number v place (text ∷ texts) [] h e = absurd h
+read_all number v place (text ∷ []) (line ∷ lines) h e = one_more number place text [] [] line h.0 ∙ ap (λ r. r >>= λ ls. Ok (line ∷ ls)) (read_all (number + 1) v (place_after place line) [] lines h.1 e)
+read_all number v place (text ∷ next ∷ texts) (line ∷ lines) h e = one_more number place text next (texts ++ [] ∷ []) line h.0 ∙ ap (λ r. r >>= λ ls. Ok (line ∷ ls)) (read_all (number + 1) v (place_after place line) (next ∷ texts) lines h.1 e)
+
+-- ---- the lines of nodes
+
+inside : Version → ℕ → Place
+inside v n = Inside v n
+
+one_later : (n k : ℕ) → n + 1 + k ≡ n + suc k
+one_later n k = omega arith
+
+-- what an event's line tells
+unfoldable pub happened : Event → Line
+happened e = Happened (event_with 0 e)
+
+-- the lines that tell a node and its events
+unfoldable pub node_told : ℕ → Journal → List Line
+node_told n j = Node n j.0 ∷ map happened j.1
+
+-- those that tell nodes from number n on
+unfoldable pub nodes_told : ℕ → List Journal → List Line
+nodes_told n [] = []
+nodes_told n (j ∷ js) = node_told n j ++ nodes_told (n + 1) js
+
+-- the events of a node
+events_say : (v : Version) (nodes : ℕ) (h : History) → 0 < nodes → AllByRecursion (IsTellable v) h → Says (Inside v nodes) (map written.event_line h) (map happened h)
+unfolding Says happened
+events_say v nodes [] some h = tt
+events_say v nodes (e ∷ events) some h = (stands (Inside v nodes) (written.event_line e) (happened e) (event_line_back v e h.0) (lt-ltb 0 nodes some), events_say v nodes events some h.1)
+
+events_behind : (place : Place) (h : History) → place_behind place (map happened h) ≡ place
+unfolding place_behind happened
+events_behind place [] = refl
+events_behind place (e ∷ h) = events_behind place h
+
+-- a node
+node_says : (v : Written) (n : ℕ) (j : Journal) → n < 8 → IsToldJournal (read_version v) j → Says (Inside (read_version v) n) (lines_of_node v n j) (node_told n j)
+unfolding Says node_told lines_of_node
+node_says v n j few told = (stands (Inside (read_version v) n) (journal.node_line v n j.0) (Node n j.0) (node_line_back v n j.0 few told.shape told.tells_shape) (eq-eqb n n refl), events_say (read_version v) (n + 1) j.1 (omega arith) told.events)
+
+node_behind : (v : Version) (n : ℕ) (j : Journal) → place_behind (Inside v n) (node_told n j) ≡ Inside v (n + 1)
+unfolding place_behind node_told
+node_behind v n j = events_behind (Inside v (n + 1)) j.1
+
+nodes_say : (v : Written) (n : ℕ) (js : List Journal) → n + length js ≤ 8 → AllByRecursion (IsToldJournal (read_version v)) js → Says (Inside (read_version v) n) (journal.lines_from v n js) (nodes_told n js)
+unfolding Says nodes_told
+nodes_say v n [] few told = tt
+nodes_say v n (j ∷ js) few told =
+    says_append (Inside (read_version v) n) (lines_of_node v n j) (journal.lines_from v (n + 1) js) (node_told n j) (nodes_told (n + 1) js) (node_says v n j (omega arith) told.0)
+    (subst (λ p. Says p (journal.lines_from v (n + 1) js) (nodes_told (n + 1) js)) (sym (node_behind (read_version v) n j)) (nodes_say v (n + 1) js (omega arith) told.1))
+
+nodes_behind : (v : Version) (n : ℕ) (js : List Journal) → place_behind (Inside v n) (nodes_told n js) ≡ Inside v (n + length js)
+unfolding nodes_told place_behind inside
+nodes_behind v n [] = ap (λ k. inside v k) (sym (add-zero n))
+nodes_behind v n (j ∷ js) =
+    behind_append (Inside v n) (node_told n j) (nodes_told (n + 1) js)
+    ∙ ap (λ p. place_behind p (nodes_told (n + 1) js)) (node_behind v n j)
+    ∙ nodes_behind v (n + 1) js
+    ∙ ap (λ k. inside v k) (one_later n (length js))
+
+-- ---- whole journals
+
+-- all lines
+unfoldable pub told : Written → List Journal → List Line
+told v js = Head (read_version v) ∷ nodes_told 0 js ++ End ∷ []
+
+-- each line of a journal text says what it tells, where it stands
+pub all_say : (v : Written) (js : List Journal) → 0 < length js → length js ≤ 8 → AllByRecursion (IsToldJournal (read_version v)) js → Says Start (journal.version_line v ∷ journal.lines_from v 0 js ++ codes "end" ∷ []) (told v js)
+unfolding Says told
+all_say v js some few h =
+    let w : Version = read_version v in
+    let behind : place_behind (Inside w 0) (nodes_told 0 js) ≡ Inside w (0 + length js) = nodes_behind w 0 js in
+    let last : Says (Inside w (0 + length js)) (codes "end" ∷ []) (End ∷ []) = (stands (Inside w (0 + length js)) (codes "end") End (end_line_back w) (lt-ltb 0 (0 + length js) (omega arith)), tt) in (
+      stands Start (journal.version_line v) (Head w) (version_line_back v) refl,
+      says_append (Inside w 0) (journal.lines_from v 0 js) (codes "end" ∷ []) (nodes_told 0 js) (End ∷ []) (nodes_say v 0 js (omega arith) h) (subst (λ p. Says p (codes "end" ∷ []) (End ∷ [])) (sym behind) last),
+    )
+
+-- and the last stands at the end
+pub all_behind : (v : Written) (js : List Journal) → place_behind Start (told v js) ≡ Ended (read_version v)
+unfolding place_behind told
+all_behind v js =
+    behind_append (Inside (read_version v) 0) (nodes_told 0 js) (End ∷ [])
+    ∙ ap (λ p. place_behind p (End ∷ [])) (nodes_behind (read_version v) 0 js)

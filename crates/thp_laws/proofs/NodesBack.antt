@@ -1,0 +1,126 @@
+-- The first line, the lines of nodes and the last line are read back.
+use Rattle.std.proofs.Common.{◌≡◌, ◌<◌, ◌≤◌, ◌-◌, ◌^◌, ℕ, true, List, [], ◌∷◌, Option, Result, Ok, Some, None, refl, ap, ◌∙◌, arith, codes}
+use Rattle.std.specs.Fmt.{decimal}
+use Rattle.std.specs.List.{list_all}
+use Rattle.std.proofs.lemmas.Bool.{le-leb}
+use Rattle.std.proofs.lemmas.Fmt.{decimal_digit}
+use Rattle.std.proofs.Math.Pow.{pow_mono}
+use Rattle.thp_model.specs.declared.shape.Shape.{Shape}
+use Rattle.thp_model.specs.Shapes.{IsShape, subpages}
+use Rattle.thp_text.specs.declared.fault.TextKind.{TextKind}
+use Rattle.thp_text.specs.Readings.{◌>>=◌}
+use Rattle.thp_text.specs.Words.{Text}
+use Rattle.thp_journal.specs.declared.version.Version.{Version as Written}
+use Rattle.thp_journal.specs.declared.version.Version.TheVariants as writing
+use Rattle.thp_journal.specs.EventLines as written
+use Rattle.thp_journal.specs.Journals as journal
+use Rattle.thp_journal.specs.Journals.{node_words, underused_word}
+use Rattle.thp_read.specs.declared.line.Line.{Line}
+use Rattle.thp_read.specs.declared.line.Line.TheVariants.{Head, Node, End}
+use Rattle.thp_read.specs.declared.version.Version.{Version}
+use Rattle.thp_read.specs.declared.version.Version.TheVariants.{Plain, Orders, Underused}
+use Rattle.thp_read.specs.JournalLines as read
+use Rattle.thp_read.specs.JournalLines.{by_words, line_by, head_of, node_of, end_of, number_between, threshold_of, node_with, plain_node, ordered_node, underused_node}
+use Rattle.thp_laws.specs.Tellable.{read_version, IsToldShape}
+use Rattle.thp_laws.proofs.PlainWords.{decimal_plain, is_plain, no_number}
+use Rattle.thp_laws.proofs.EventsBack.{line_of_words, number_back}
+
+-- the words of the first line
+abbrev pub version_words : Written → List Text
+version_words v = codes "thp-journal" ∷ decimal (journal.version_number v) ∷ []
+
+small_version : (v : Written) → journal.version_number v < 2 ^ 64
+small_version writing.Plain = omega arith
+small_version writing.Orders = omega arith
+small_version writing.Underused = omega arith
+
+-- are plain
+pub version_plain : (v : Written) → list_all is_plain (version_words v) ≡ true
+version_plain v = rw (decimal_plain (journal.version_number v) (small_version v)) refl
+
+-- the version by its number
+head_said : (v : Written) → line_by Plain (codes "thp-journal") (decimal (journal.version_number v) ∷ []) ≡ Ok (Head (read_version v))
+unfolding line_by head_of read.version_of
+head_said writing.Plain = rw (decimal_digit 1 (omega arith)) refl
+head_said writing.Orders = rw (decimal_digit 2 (omega arith)) refl
+head_said writing.Underused = rw (decimal_digit 3 (omega arith)) refl
+
+-- the first line tells the version
+pub version_line_back : (v : Written) → read.line_of Plain (journal.version_line v) ≡ Ok (Head (read_version v))
+version_line_back v = line_of_words Plain (codes "thp-journal") (decimal (journal.version_number v) ∷ []) (version_plain v) ∙ head_said v
+
+-- the last line tells the end
+pub end_line_back : (v : Version) → read.line_of v (codes "end") ≡ Ok End
+unfolding line_by
+end_line_back v = line_of_words v (codes "end") [] refl
+
+-- ---- the lines of nodes
+
+-- what a line says, where nothing is at fault
+said : Line → Result Line TextKind
+said line = Ok line
+
+between_back : (least most n : ℕ) → least ≤ n → n ≤ most → most < 2 ^ 64 → number_between least most (decimal n) ≡ Ok n
+between_back least most n low high lt = rw (number_back most n high lt, le-leb least n low) refl
+
+node_with_back : (n blocks order : ℕ) (underused : Option ℕ) → n < 8 → 1 ≤ blocks → blocks ≤ 4096 → node_with (decimal n) (decimal blocks) order underused ≡ Ok (Node n (record { blocks = blocks; order = order; underused = underused }))
+node_with_back n blocks order underused few some most = rw (number_back 7 n (omega arith) (omega arith), between_back 1 4096 blocks some most (omega arith)) refl
+
+order_back : (order : ℕ) → 2 ≤ order → order ≤ 9 → number_between 2 9 (decimal order) ≡ Ok order
+order_back order low high = between_back 2 9 order low high (omega arith)
+
+threshold_back : (order : ℕ) (underused : Option ℕ) → order ≤ 9 → ((t : ℕ) → underused ≡ Some t → t < 2 ^ order) → threshold_of order (underused_word underused) ≡ Ok underused
+unfolding threshold_of
+threshold_back order None high low = refl
+threshold_back order (Some t) high low =
+    let lt : t < 2 ^ order = low t refl in
+    let most : 2 ^ order ≤ 2 ^ 9 = pow_mono high in
+    rw (no_number t (codes "off") (omega arith) refl, number_back (2 ^ order - 1) t (omega arith) (omega arith)) refl
+
+-- the shape that the line told is the node's
+same_shape : (n order : ℕ) (s : Shape) (underused : Option ℕ) → s.order ≡ order → s.underused ≡ underused → said (Node n (record { blocks = s.blocks; order = order; underused = underused })) ≡ said (Node n s)
+unfolding said
+same_shape n order s underused e f = rw (← e, ← f) refl
+
+-- node n of this shape, by its words
+node_said : (v : Written) (n : ℕ) (s : Shape) → n < 8 → IsShape s → IsToldShape (read_version v) s → by_words (read_version v) (node_words v n s) ≡ Ok (Node n s)
+unfolding line_by plain_node ordered_node underused_node said subpages
+node_said writing.Plain n s few is told = node_with_back n s.blocks 9 None few is.some_blocks is.few_blocks ∙ same_shape n 9 s None told.0 told.1
+node_said writing.Orders n s few is told =
+    ap (λ r. r >>= λ order. node_with (decimal n) (decimal s.blocks) order None) (order_back s.order is.least_order is.most_order)
+    ∙ node_with_back n s.blocks s.order None few is.some_blocks is.few_blocks
+    ∙ same_shape n s.order s None refl told
+node_said writing.Underused n s few is told =
+    ap (λ r. r >>= λ order. threshold_of order (underused_word s.underused) >>= λ threshold. node_with (decimal n) (decimal s.blocks) order threshold) (order_back s.order is.least_order is.most_order)
+    ∙ ap (λ r. r >>= λ threshold. node_with (decimal n) (decimal s.blocks) s.order threshold) (threshold_back s.order s.underused is.most_order is.low_threshold)
+    ∙ node_with_back n s.blocks s.order s.underused few is.some_blocks is.few_blocks
+
+underused_plain : (s : Shape) → IsShape s → is_plain (underused_word s.underused) ≡ true
+unfolding subpages
+underused_plain s is = go s.underused is.low_threshold where
+  go : (u : Option ℕ) → ((t : ℕ) → u ≡ Some t → t < 2 ^ s.order) → is_plain (underused_word u) ≡ true
+  go None low = refl
+  go (Some t) low = let lt : t < 2 ^ s.order = low t refl in let most : 2 ^ s.order ≤ 2 ^ 9 = pow_mono is.most_order in decimal_plain t (omega arith)
+
+-- its words are plain
+pub node_plain : (v : Written) (n : ℕ) (s : Shape) → n < 8 → IsShape s → list_all is_plain (node_words v n s) ≡ true
+node_plain v n s few is =
+    let some = is.some_blocks in
+    let blocks : is_plain (decimal s.blocks) ≡ true = let most = is.few_blocks in decimal_plain s.blocks (omega arith) in
+    let number : is_plain (decimal n) ≡ true = decimal_plain n (omega arith) in
+    let order : is_plain (decimal s.order) ≡ true = let most = is.most_order in decimal_plain s.order (omega arith) in
+    go v number blocks order (underused_plain s is)
+  where
+    go : (v : Written) → is_plain (decimal n) ≡ true → is_plain (decimal s.blocks) ≡ true → is_plain (decimal s.order) ≡ true → is_plain (underused_word s.underused) ≡ true → list_all is_plain (node_words v n s) ≡ true
+    go writing.Plain a b c d = rw (a, b) refl
+    go writing.Orders a b c d = rw (a, b, c) refl
+    go writing.Underused a b c d = rw (a, b, c, d) refl
+
+-- the line of a node tells its number and its shape
+pub node_line_back : (v : Written) (n : ℕ) (s : Shape) → n < 8 → IsShape s → IsToldShape (read_version v) s → read.line_of (read_version v) (journal.node_line v n s) ≡ Ok (Node n s)
+unfolding journal.node_line
+node_line_back v n s few is told = by_version v (node_plain v n s few is) (node_said v n s few is told) where
+  by_version : (v : Written) → list_all is_plain (node_words v n s) ≡ true → by_words (read_version v) (node_words v n s) ≡ Ok (Node n s) → read.line_of (read_version v) (written.line_of (node_words v n s)) ≡ Ok (Node n s)
+  by_version writing.Plain plain is = line_of_words Plain (codes "node") _ plain ∙ is
+  by_version writing.Orders plain is = line_of_words Orders (codes "node") _ plain ∙ is
+  by_version writing.Underused plain is = line_of_words Underused (codes "node") _ plain ∙ is

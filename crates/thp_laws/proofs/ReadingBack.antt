@@ -1,0 +1,104 @@
+-- Legal journals are read back from their text.
+use Rattle.std.proofs.Common.{◌≡◌, ◌<◌, ◌≤◌, ◌+◌, ◌^◌, ℕ, zero, suc, List, [], ◌∷◌, length, Some, refl, subst, arith, length-append, codes}
+use Rattle.std.specs.Prelude.{All, slice_get}
+use Rattle.std.specs.List.{AllByRecursion, AllZip, flat_map}
+use Rattle.std.proofs.lemmas.List.{length-map}
+use Rattle.std.proofs.lemmas.List.Elements.{recursion_from_All, All-cons, All-nil}
+use Rattle.thp_model.specs.declared.events.Event.{Event}
+use Rattle.thp_model.specs.History.{History}
+use Rattle.thp_model.specs.Legal.{IsLegal}
+use Rattle.thp_model.proofs.LeastBlocks.{least_same, legal_with_least}
+use Rattle.thp_text.specs.Words.{Text}
+use Rattle.thp_journal.specs.declared.version.Version.{Version as Written}
+use Rattle.thp_journal.specs.EventLines as written
+use Rattle.thp_journal.specs.Journals as journal
+use Rattle.thp_journal.specs.Journals.{Journal, version_of, lines_of_node, journal_lines, journal_text}
+use Rattle.thp_read.specs.declared.journals.NodeJournal.{NodeJournal}
+use Rattle.thp_read.specs.declared.version.Version.{Version}
+use Rattle.thp_read.specs.Journals.{node_journal}
+use Rattle.thp_laws.specs.ReadBack.{IsJournal, IsSameNode, nodes_from, TextsAreReadBack, NothingElseChanges, WhatIsReadIsLegal}
+use Rattle.thp_laws.specs.Tellable.{read_version, IsTellable, IsToldJournal}
+use Rattle.thp_laws.proofs.JournalsBack.{text_back}
+use Rattle.thp_laws.proofs.LegalNumbers.{each_from_places, legal_numbers}
+use Rattle.thp_laws.proofs.LegalVersions.{IsToldBy, Legal, version_tells}
+
+-- ---- a text has a byte for each event
+
+-- a text of lines has a byte for each line
+each_ended : (lines : List Text) → length lines ≤ length (flat_map journal.ended lines)
+each_ended [] = omega arith
+each_ended (line ∷ lines) = omega (arith, each_ended lines, length-append (journal.ended line) (flat_map journal.ended lines), length-append line (10 ∷ []))
+
+-- no node has more events than there are lines
+few_events : (v : Written) (n most : ℕ) (js : List Journal) → length (journal.lines_from v n js) ≤ most → AllByRecursion (λ (j : Journal). length j.1 ≤ most) js
+unfolding lines_of_node
+few_events v n most [] short = tt
+few_events v n most (j ∷ js) short =
+    let both = length-append (lines_of_node v n j) (journal.lines_from v (n + 1) js) in
+    let own = length-map j.1 written.event_line in
+    (omega arith, few_events v (n + 1) most js (omega arith))
+
+fewer_than_bytes : (js : List Journal) → AllByRecursion (λ (j : Journal). length j.1 ≤ length (journal_text js)) js
+unfolding journal_text journal_lines
+fewer_than_bytes js =
+    let v : Written = version_of js in
+    let whole = each_ended (journal_lines js) in
+    let two = length-append (journal.lines_from v 0 js) (codes "end" ∷ []) in
+    few_events v 0 (length (journal_text js)) js (omega arith)
+
+-- ---- what the lines of a journal can tell
+
+-- what holds of each holds at a place
+at_place : (P : Event → Type 0) (h : History) → All P h → (k : ℕ) (e : Event) → slice_get h k ≡ Some e → P e
+at_place P h all k e at = go h (recursion_from_All P h all) k e at where
+  go : (h : History) → AllByRecursion P h → (k : ℕ) (e : Event) → slice_get h k ≡ Some e → P e
+  go [] each k e at = absurd cc
+  go (x ∷ h) each zero e at = let same : x ≡ e = cc in subst P same each.0
+  go (x ∷ h) each (suc k) e at = go h each.1 k e at
+
+-- the events of a legal history, by a version that tells them
+tellable : (v : Version) (j : Journal) → IsJournal j → IsToldBy v j → length j.1 < 2 ^ 64 → IsToldJournal v j
+tellable v j is told few = record {
+  shape = is.shape;
+  tells_shape = told.shape;
+  events = each_from_places (IsTellable v) j.1 (λ k e at. record {
+    caller = at_place (λ (x : Event). x.caller < 64) j.1 is.callers k e at;
+    numbers = legal_numbers j.0 j.1 is.shape is.legal few k e at;
+    version = told.events k e at;
+  });
+}
+
+each_tellable : (v : Version) (most : ℕ) (js : List Journal) → most < 2 ^ 64 → AllByRecursion IsJournal js → AllByRecursion (IsToldBy v) js → AllByRecursion (λ (j : Journal). length j.1 ≤ most) js → AllByRecursion (IsToldJournal v) js
+each_tellable v most [] lt is told few = tt
+each_tellable v most (j ∷ js) lt is told few = (tellable v j is.0 told.0 (let le = few.0 in omega arith), each_tellable v most js lt is.1 told.1 few.1)
+
+each_legal : (js : List Journal) → AllByRecursion IsJournal js → AllByRecursion Legal js
+each_legal [] is = tt
+each_legal (j ∷ js) is = (is.0.legal, each_legal js is.1)
+
+-- ---- the laws
+
+-- the text of journals is read as those journals, with the least blocks
+pub all_read_back : TextsAreReadBack
+all_read_back js are =
+    let each : AllByRecursion IsJournal js = recursion_from_All IsJournal js are.each in
+    let short = are.short in
+    text_back js are.some_nodes are.few_nodes (each_tellable (read_version (version_of js)) (length (journal_text js)) js (omega arith) each (version_tells js (each_legal js each)) (fewer_than_bytes js)) are.short
+
+same_from : (line : ℕ) (js : List Journal) → AllZip IsSameNode js (nodes_from line js)
+same_from line [] = tt
+same_from line (j ∷ js) = (record { shape = refl; events = least_same j.0 j.1 }, same_from (line + 1 + length j.1) js)
+
+-- nothing else changes
+pub all_same : NothingElseChanges
+all_same js = same_from 2 js
+
+legal_from : (line : ℕ) (js : List Journal) → AllByRecursion IsJournal js → All (λ (node : NodeJournal). IsLegal node.shape node.events) (nodes_from line js)
+legal_from line [] is = All-nil (λ (node : NodeJournal). IsLegal node.shape node.events)
+legal_from line (j ∷ js) is =
+    All-cons (λ (node : NodeJournal). IsLegal node.shape node.events) (node_journal (line + 1) j.0 j.1) (nodes_from (line + 1 + length j.1) js)
+    (legal_with_least j.0 j.1 is.0.legal) (legal_from (line + 1 + length j.1) js is.1)
+
+-- what is read is legal
+pub all_legal : WhatIsReadIsLegal
+all_legal js are = legal_from 2 js (recursion_from_All IsJournal js are.each)

@@ -1,0 +1,80 @@
+-- No line of a journal text tells a block.
+use Rattle.std.proofs.Common.{◌≡◌, ◌==◌, ◌+◌, ℕ, cond, ◌&&◌, ◌||◌, List, [], ◌∷◌, ◌++◌, map, refl, ap, ap₂, sym, ◌∙◌, codes}
+use Rattle.std.specs.Prelude.{is_some}
+use Rattle.std.specs.List.{AllZip, flat_map, list_all, list_any}
+use Rattle.thp_model.specs.declared.events.Event.{Event}
+use Rattle.thp_model.specs.declared.events.What.{What}
+use Rattle.thp_model.specs.declared.events.What.TheVariants.{Alloc}
+use Rattle.thp_model.specs.declared.shape.Shape.{Shape}
+use Rattle.thp_model.specs.BlockLaws.{event_with, with_block, without_blocks}
+use Rattle.thp_model.specs.History.{History}
+use Rattle.thp_model.proofs.Alike.{Blind, some_alike}
+use Rattle.thp_journal.specs.declared.version.Version.{Version as Written}
+use Rattle.thp_journal.specs.declared.version.Version.TheVariants as writing
+use Rattle.thp_journal.specs.EventLines.{event_line, event_words, what_words, line_of}
+use Rattle.thp_journal.specs.Journals as journal
+use Rattle.thp_journal.specs.Journals.{Journal, has_order_9, is_access, journal_lines, journal_text, lines_of_node, tells_underused, version_of}
+use Rattle.std.specs.Fmt.{decimal}
+use Rattle.thp_laws.specs.SameTotals.{IsSameJournal, NoBlockShows}
+
+-- ---- one event, one history
+
+words_blind : (w : What) → what_words (with_block 0 w) ≡ what_words w
+words_blind (Alloc p b) = refl
+words_blind w = refl
+
+line_blind : (e : Event) → event_line (event_with 0 e) ≡ event_line e
+unfolding event_line event_words
+line_blind e = ap (λ words. line_of (decimal e.caller ∷ words)) (words_blind e.what)
+
+lines_bare : (h : History) → map event_line (without_blocks h) ≡ map event_line h
+unfolding without_blocks
+lines_bare [] = refl
+lines_bare (e ∷ h) = ap₂ (λ line lines. line ∷ lines) (line_blind e) (lines_bare h)
+
+access_blind : Blind is_access
+access_blind (Alloc p b) = refl
+access_blind w = refl
+
+-- ---- journals
+
+-- the journals have one text, version and lines
+record AreOneText (js ks : List Journal) : Type 0 where
+  underused : list_any tells_underused js ≡ list_any tells_underused ks
+  orders : list_all has_order_9 js ≡ list_all has_order_9 ks
+  lines : (v : Written) (n : ℕ) → journal.lines_from v n js ≡ journal.lines_from v n ks
+
+underused_alike : (j k : Journal) → IsSameJournal j k → tells_underused j ≡ tells_underused k
+unfolding tells_underused
+underused_alike j k same = ap₂ (λ a b. a || b) (ap (λ (s : Shape). is_some s.underused) same.shape) (some_alike is_access access_blind j.1 k.1 same.events)
+
+order_alike : (j k : Journal) → IsSameJournal j k → has_order_9 j ≡ has_order_9 k
+order_alike j k same = ap (λ (s : Shape). s.order == 9) same.shape
+
+node_alike : (v : Written) (n : ℕ) (j k : Journal) → IsSameJournal j k → lines_of_node v n j ≡ lines_of_node v n k
+unfolding lines_of_node
+node_alike v n j k same =
+    ap₂ (λ line lines. line ∷ lines) (ap (journal.node_line v n) same.shape) (sym (lines_bare j.1) ∙ ap (map event_line) same.events ∙ lines_bare k.1)
+
+each_alike : (js ks : List Journal) → AllZip IsSameJournal js ks → AreOneText js ks
+each_alike [] [] h = record { underused = refl; orders = refl; lines = λ v n. refl }
+each_alike [] (k ∷ ks) h = absurd h
+each_alike (j ∷ js) [] h = absurd h
+each_alike (j ∷ js) (k ∷ ks) h =
+    let rest : AreOneText js ks = each_alike js ks h.1 in
+    record {
+      underused = ap₂ (λ a b. a || b) (underused_alike j k h.0) rest.underused;
+      orders = ap₂ (λ a b. a && b) (order_alike j k h.0) rest.orders;
+      lines = λ v n. ap₂ (λ xs ys. xs ++ ys) (node_alike v n j k h.0) (rest.lines v (n + 1));
+    }
+
+version_alike : (js ks : List Journal) → AreOneText js ks → version_of js ≡ version_of ks
+unfolding version_of
+version_alike js ks one = ap₂ (λ a b. cond a writing.Underused (cond b writing.Plain writing.Orders)) one.underused one.orders
+
+-- what is the same but for blocks has one text
+pub one_text : NoBlockShows
+unfolding journal_text journal_lines
+one_text js ks same =
+    let one : AreOneText js ks = each_alike js ks same in
+    ap₂ (λ v lines. flat_map journal.ended (journal.version_line v ∷ lines ++ codes "end" ∷ [])) (version_alike js ks one) (one.lines (version_of js) 0 ∙ ap (λ v. journal.lines_from v 0 ks) (version_alike js ks one))

@@ -1,0 +1,11 @@
+use Rattle.thp_laws.proofs.ReadingBack.{all_read_back, all_same, all_legal}
+use Rattle.thp_laws.proofs.laws.journals_are_read_back.Goals as goal
+
+pub returns-clause-read : goal.returns-clause-read
+returns-clause-read c = all_read_back
+
+pub returns-clause-same : goal.returns-clause-same
+returns-clause-same c = all_same
+
+pub returns-clause-legal : goal.returns-clause-legal
+returns-clause-legal c = all_legal

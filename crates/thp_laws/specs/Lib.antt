@@ -1,0 +1,3 @@
+pub mod Tellable
+pub mod ReadBack
+pub mod SameTotals

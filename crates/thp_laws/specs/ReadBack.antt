@@ -1,0 +1,51 @@
+-- What is read of a journal text: the journals that it was written of, but for their blocks.
+use Rattle.std.specs.Prelude.{◌≡◌, ◌≤◌, ◌<◌, ◌+◌, ℕ, All, List, [], ◌∷◌, length, Ok}
+use Rattle.std.specs.List.{AllZip}
+use Rattle.thp_model.specs.declared.events.Event.{Event}
+use Rattle.thp_model.specs.BlockLaws.{SameButBlocks}
+use Rattle.thp_model.specs.Legal.{IsLegal}
+use Rattle.thp_model.specs.Shapes.{IsShape}
+use Rattle.thp_journal.specs.Journals.{Journal, journal_text}
+use Rattle.thp_read.specs.declared.journals.Journals.{Journals}
+use Rattle.thp_read.specs.declared.journals.NodeJournal.{NodeJournal}
+use Rattle.thp_read.specs.Journals.{journals_of, node_journal}
+
+-- what happened on a node is legal, and its callers are numbered below 64
+pub record IsJournal (journal : Journal) : Type 0 where
+  pub shape : IsShape journal.0
+  pub legal : IsLegal journal.0 journal.1
+  pub callers : All (λ (e : Event). e.caller < 64) journal.1
+
+-- 1 to 8 such nodes, whose text isn't longer than what is read
+pub record AreTellable (journals : List Journal) : Type 0 where
+  pub some_nodes : 1 ≤ length journals
+  pub few_nodes : length journals ≤ 8
+  pub each : All IsJournal journals
+  pub short : length (journal_text journals) ≤ 16777216
+
+-- each journal with its shape and its first line, where the line of the first node is line `line`; each new page has the
+-- least block that no live page holds
+abbrev pub nodes_from : ℕ → List Journal → List NodeJournal
+nodes_from line [] = []
+nodes_from line (journal ∷ journals) = node_journal (line + 1) journal.0 journal.1 ∷ nodes_from (line + 1 + length journal.1) journals
+
+-- line 1 tells the version, and line 2 the first node
+abbrev pub with_lines : List Journal → Journals
+with_lines journals = record { nodes = nodes_from 2 journals }
+
+-- the text of journals is read as those journals, with the least blocks
+abbrev pub TextsAreReadBack : Type 0
+TextsAreReadBack = (journals : List Journal) → AreTellable journals → journals_of (journal_text journals) ≡ Ok (with_lines journals)
+
+-- the node that was read has the shape of the one that was written, and its events but for their blocks
+pub record IsSameNode (written : Journal) (read : NodeJournal) : Type 0 where
+  pub shape : read.shape ≡ written.0
+  pub events : SameButBlocks written.1 read.events
+
+-- these are the nodes that were written, in order
+abbrev pub NothingElseChanges : Type 0
+NothingElseChanges = (journals : List Journal) → AllZip IsSameNode journals (with_lines journals).nodes
+
+-- and what is read of each node is legal
+abbrev pub WhatIsReadIsLegal : Type 0
+WhatIsReadIsLegal = (journals : List Journal) → AreTellable journals → All (λ (node : NodeJournal). IsLegal node.shape node.events) (with_lines journals).nodes

@@ -1,0 +1,43 @@
+-- Journals with one text are one but for their blocks, and have the same totals.
+use Rattle.std.specs.Prelude.{◌≡◌, List, length}
+use Rattle.std.specs.List.{AllZip}
+use Rattle.thp_model.specs.BlockLaws.{SameButBlocks}
+use Rattle.thp_model.specs.Counters.{thp_split_page, thp_split_page_failed, thp_deferred_split_page, thp_split_pmd, thp_underused_split_page}
+use Rattle.thp_model.specs.Counts.{allocations}
+use Rattle.thp_model.specs.Frames.{frames_given, frames_held}
+use Rattle.thp_model.specs.Places.{queue}
+use Rattle.thp_journal.specs.Journals.{Journal, journal_text}
+use Rattle.thp_laws.specs.ReadBack.{AreTellable}
+
+-- the same node, with the same events but for their blocks
+pub record IsSameJournal (j k : Journal) : Type 0 where
+  pub shape : j.0 ≡ k.0
+  pub events : SameButBlocks j.1 k.1
+
+-- the numbers that the totals of a node tell are the same: its pages, the length of its queue, the frames held and given
+-- back, and its statistics
+pub record HaveSameTotals (j k : Journal) : Type 0 where
+  pub shape : j.0 ≡ k.0
+  pub pages : allocations j.1 ≡ allocations k.1
+  pub queued : length (queue j.0 j.1) ≡ length (queue k.0 k.1)
+  pub held : frames_held j.0 j.1 ≡ frames_held k.0 k.1
+  pub given : frames_given j.1 ≡ frames_given k.1
+  pub splits : thp_split_page j.1 ≡ thp_split_page k.1
+  pub failures : thp_split_page_failed j.1 ≡ thp_split_page_failed k.1
+  pub deferrals : thp_deferred_split_page j.1 ≡ thp_deferred_split_page k.1
+  pub pmd_splits : thp_split_pmd j.1 ≡ thp_split_pmd k.1
+  pub underused_splits : thp_underused_split_page j.0 j.1 ≡ thp_underused_split_page k.0 k.1
+
+-- no block shows: journals that are the same but for blocks have one text
+abbrev pub NoBlockShows : Type 0
+NoBlockShows = (journals others : List Journal) → AllZip IsSameJournal journals others → journal_text journals ≡ journal_text others
+
+-- journals with one text are the same but for blocks
+abbrev pub OneTextIsOfOneRun : Type 0
+OneTextIsOfOneRun =
+    (journals others : List Journal) → AreTellable journals → AreTellable others → journal_text journals ≡ journal_text others → AllZip IsSameJournal journals others
+
+-- and have the same totals
+abbrev pub OneTextHasOneTotal : Type 0
+OneTextHasOneTotal =
+    (journals others : List Journal) → AreTellable journals → AreTellable others → journal_text journals ≡ journal_text others → AllZip HaveSameTotals journals others

@@ -1,0 +1,6 @@
+pub mod SetTexts
+pub mod EventWords
+pub mod EventLines
+pub mod JournalLines
+pub mod LineRanges
+pub mod Journals
