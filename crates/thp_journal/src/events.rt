@@ -105,9 +105,13 @@ fn put_range(
     put_number(text, u64::from(count), after)
 }
 
-// an outcome and the set given back, and a line feed
+/// Writes an outcome and the set given back, and a line feed.
 #[inline]
-fn put_outcome(text: &mut Vec<u8>, outcome: Outcome, released: &SubSet) -> Result<(), AllocError>
+pub fn put_outcome(
+    text: &mut Vec<u8>,
+    outcome: Outcome,
+    released: &SubSet,
+) -> Result<(), AllocError>
     ensures { OnOk result (text.new.items ≡ text.old.items ++ ended (line_of (outcome_word outcome ∷ set_text released.now ∷ []))) }
 {
     match outcome {

@@ -8,6 +8,8 @@ mod sets;
 mod version;
 mod writer;
 
+pub use events::put_outcome;
 pub use node_history::NodeHistory;
+pub use numbers::{put, put_number};
 pub use version::Version;
 pub use writer::journal_text;

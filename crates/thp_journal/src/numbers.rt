@@ -10,7 +10,7 @@ const DIGITS: usize = 20;
 
 /// Writes the bytes of a word.
 #[inline(always)]
-pub(crate) fn put(text: &mut Vec<u8>, word: &[u8]) -> Result<(), AllocError>
+pub fn put(text: &mut Vec<u8>, word: &[u8]) -> Result<(), AllocError>
     ensures { OnOk result (text.new.items ≡ text.old.items ++ word.now) }
 {
     text.extend_from_slice(word)
@@ -18,7 +18,7 @@ pub(crate) fn put(text: &mut Vec<u8>, word: &[u8]) -> Result<(), AllocError>
 
 /// Writes a number in decimal, and the byte `after` behind it.
 #[inline]
-pub(crate) fn put_number(text: &mut Vec<u8>, number: u64, after: u8) -> Result<(), AllocError>
+pub fn put_number(text: &mut Vec<u8>, number: u64, after: u8) -> Result<(), AllocError>
     ensures { OnOk result (text.new.items ≡ text.old.items ++ decimal number ++ after ∷ []) }
 {
     if number < 10 {

@@ -1,0 +1,80 @@
+//! Nodes on which a row was run, and what is expected of a report on them.
+use std::alloc::Global;
+use std::process::Abort;
+use thp_model::{PageId, Shape};
+use thp_node::Node;
+use thp_report::report_text;
+use thp_text::{Report, Settings};
+use thp_work::Section;
+
+// A node of 16 blocks of order 9 whose shrinker looks for partly mapped pages alone.
+pub(crate) fn empty_node(rt: &impl Abort, alloc: Global) -> Node {
+    let shape = Shape {
+        blocks: 16,
+        order: 9,
+        underused: None,
+    };
+    Node::new(alloc, shape).expect(rt, "a node of 16 blocks")
+}
+
+// A node of 4 blocks of order 2 whose shrinker splits pages with more than one zero-filled subpage.
+pub(crate) fn small_node(rt: &impl Abort, alloc: Global) -> Node {
+    let shape = Shape {
+        blocks: 4,
+        order: 2,
+        underused: Some(1),
+    };
+    Node::new(alloc, shape).expect(rt, "a node of 4 blocks")
+}
+
+// Page 0 lost half of its mappings and was split.
+pub(crate) fn first_run(rt: &impl Abort, alloc: Global) -> Node {
+    let mut node = empty_node(rt, alloc);
+    assert!(rt; node.alloc_page(0).is_ok());
+    assert!(rt; node.split_pmd(0, PageId(0)).is_ok());
+    assert!(rt; node.unmap_sub(0, PageId(0), 0, 256).is_ok());
+    assert!(rt; node.scan(0, 8).is_ok());
+    node
+}
+
+// Page 0 was found in use, then lost a mapping, and was split with its other subpage that no one wrote.
+pub(crate) fn underused_scan(rt: &impl Abort, alloc: Global) -> Node {
+    let mut node = small_node(rt, alloc);
+    let page = PageId(0);
+    assert!(rt; node.alloc_page(0).is_ok());
+    assert!(rt; node.write(0, page, 0, 3).is_ok());
+    assert!(rt; node.scan(0, 8).is_ok());
+    assert!(rt; node.split_pmd(0, page).is_ok());
+    assert!(rt; node.unmap_sub(0, page, 0, 1).is_ok());
+    assert!(rt; node.scan(0, 8).is_ok());
+    assert!(rt; node.unmap_sub(0, page, 3, 1).is_ok());
+    assert!(rt; node.unmap_sub(0, page, 1, 2).is_ok());
+    node
+}
+
+// Of two pages that no one unmapped the pinned one was dropped, and the underused one was split.
+pub(crate) fn underused_pinned(rt: &impl Abort, alloc: Global) -> Node {
+    let mut node = small_node(rt, alloc);
+    assert!(rt; node.alloc_page(0).is_ok());
+    assert!(rt; node.alloc_page(0).is_ok());
+    assert!(rt; node.write(0, PageId(0), 0, 2).is_ok());
+    assert!(rt; node.pin(0, PageId(1)).is_ok());
+    assert!(rt; node.scan(0, 8).is_ok());
+    node
+}
+
+// The report on these nodes and sections is this text.
+pub(crate) fn expect(
+    rt: &impl Abort,
+    alloc: Global,
+    report: Report,
+    nodes: &[Node],
+    sections: &[Section],
+    want: &str,
+) {
+    let count = u32::try_from(nodes.len()).expect(rt, "a few nodes");
+    let settings = Settings::new(count, 16, 63, report).expect(rt, "settings of these nodes");
+    let text = report_text(alloc, &settings, nodes, sections).expect(rt, "memory for a report");
+    let told = str::from_utf8(text.as_slice()).expect(rt, "a report of text");
+    assert_eq!(rt; told, want);
+}

@@ -1,0 +1,4 @@
+pub mod Totals
+pub mod Answers
+pub mod Laws
+pub mod Reports

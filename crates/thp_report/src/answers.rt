@@ -1,0 +1,157 @@
+//! The answers to commands as text.
+ghost use Rattle.std.specs.Prelude.{◌≡◌, ◌+◌, ◌++◌, ◌∷◌, [], OnOk, IfOk, codes, map};
+ghost use Rattle.std.specs.Fmt.{decimal};
+ghost use Rattle.thp_journal.specs.EventLines.{line_of, outcome_word, page_words};
+ghost use Rattle.thp_journal.specs.Journals.{ended};
+ghost use Rattle.thp_report.specs.Answers.{refusal_word, tried_words, back_words, scan_words, used_words, reply_words, reaction_words, looks, answer_line, section_text, answers_text as text_of};
+ghost use Rattle.thp_report.specs.Reports.{shape_of};
+
+use std::alloc::{AllocError, Global};
+use thp_journal::{put, put_number, put_outcome};
+use thp_model::Refusal;
+use thp_node::{Node, ScanReply, Tried};
+use thp_work::{Answer, Reply, Section};
+
+/// The answers of the sections, in order, a line for each.
+#[tactic(auto, unfolding(crate::specs::Answers::answers_text))]
+pub(crate) fn answers_text(
+    alloc: Global,
+    nodes: &[Node],
+    sections: &[Section],
+) -> Result<Vec<u8>, AllocError>
+    ensures { IfOk result (λ text. text.items ≡ text_of (map shape_of nodes.now) sections.now) }
+{
+    let mut text = Vec::new(alloc);
+    for section in sections {
+        put_section(&mut text, nodes, section)?;
+    }
+    Ok(text)
+}
+
+// the answers of a section
+#[tactic(auto, unfolding(crate::specs::Answers::section_text))]
+fn put_section(text: &mut Vec<u8>, nodes: &[Node], section: &Section) -> Result<(), AllocError>
+    ensures { OnOk result (text.new.items ≡ text.old.items ++ section_text (map shape_of nodes.now) section.now) }
+{
+    for answer in &section.answers {
+        put_answer(text, nodes, section.worker, answer)?;
+    }
+    Ok(())
+}
+
+// an answer, behind its section and its place there
+fn put_answer(
+    text: &mut Vec<u8>,
+    nodes: &[Node],
+    section: u32,
+    answer: &Answer,
+) -> Result<(), AllocError>
+    ensures { OnOk result (text.new.items ≡ text.old.items ++ answer_line (map shape_of nodes.now) section answer.now) }
+{
+    put_number(text, u64::from(section), b' ')?;
+    put_number(text, u64::from(answer.command) + 1, b' ')?;
+    match &answer.reply {
+        Ok(reply) => put_reply(text, looks_on(nodes, answer.node), reply),
+        Err(refusal) => put_refusal(text, *refusal),
+    }
+}
+
+// the reply to a command that wasn't refused, on a node whose shrinker looks for underused pages or doesn't
+fn put_reply(text: &mut Vec<u8>, looks: bool, reply: &Reply) -> Result<(), AllocError>
+    ensures { OnOk result (text.new.items ≡ text.old.items ++ ended (line_of (reply_words looks reply.now))) }
+{
+    match reply {
+        Reply::Page(page) => put_named(text, b"page ", page.0, b'\n'),
+        Reply::Unit => put(text, b"ok\n"),
+        Reply::Done(done) => put_outcome(text, done.outcome, &done.released),
+        Reply::Scan(counted) => put_scan(text, looks, *counted),
+        Reply::Count(queued) => put_named(text, b"count ", u64::from(*queued), b'\n'),
+        Reply::Taken(taken) => put_named(text, b"taken ", u64::from(*taken), b'\n'),
+        Reply::Tried(tried) => put_tried(text, *tried),
+        Reply::Back(reply) => put_back(text, reply.back, reply.dropped, b'\n'),
+        Reply::NoBatch => put(text, b"no-batch\n"),
+    }
+}
+
+// what a try did
+fn put_tried(text: &mut Vec<u8>, tried: Tried) -> Result<(), AllocError>
+    ensures { OnOk result (text.new.items ≡ text.old.items ++ ended (line_of (tried_words tried))) }
+{
+    match tried {
+        Tried::Split(page) => put_named(text, b"split ", page.0, b'\n'),
+        Tried::Pinned(page) => put_named(text, b"pinned ", page.0, b'\n'),
+        Tried::Used(page) => put_named(text, b"used ", page.0, b'\n'),
+        Tried::Done => put(text, b"done\n"),
+    }
+}
+
+// what a scan counted
+fn put_scan(text: &mut Vec<u8>, looks: bool, counted: ScanReply) -> Result<(), AllocError>
+    ensures { OnOk result (text.new.items ≡ text.old.items ++ ended (line_of (scan_words counted ++ used_words looks counted))) }
+{
+    put_named(text, b"taken ", u64::from(counted.taken), b' ')?;
+    put_named(text, b"split ", u64::from(counted.split), b' ')?;
+    put_named(text, b"pinned ", u64::from(counted.pinned), b' ')?;
+    if looks {
+        put_back(text, counted.back, counted.dropped, b' ')?;
+        put_named(text, b"used ", u64::from(counted.used), b'\n')
+    } else {
+        put_back(text, counted.back, counted.dropped, b'\n')
+    }
+}
+
+// how many pages went back and were dropped, and the byte `after`
+#[inline]
+fn put_back(text: &mut Vec<u8>, back: u32, dropped: u32, after: u8) -> Result<(), AllocError>
+    ensures { OnOk result (text.new.items ≡ text.old.items ++ (line_of (back_words back dropped) ++ after ∷ [])) }
+{
+    put_named(text, b"back ", u64::from(back), b' ')?;
+    put_named(text, b"dropped ", u64::from(dropped), after)
+}
+
+// why a command was refused
+fn put_refusal(text: &mut Vec<u8>, refusal: Refusal) -> Result<(), AllocError>
+    ensures { OnOk result (text.new.items ≡ text.old.items ++ ended (line_of (codes "refused" ∷ refusal_word refusal ∷ []))) }
+{
+    put(text, b"refused ")?;
+    put(text, word_of(refusal).as_bytes())?;
+    put(text, b"\n")
+}
+
+// the word of a refusal
+fn word_of(refusal: Refusal) -> &'static str
+    ensures { result.now ≡ refusal_word refusal }
+{
+    match refusal {
+        Refusal::NoPage => "no-page",
+        Refusal::BadRange => "bad-range",
+        Refusal::IsSplit => "is-split",
+        Refusal::NotMapped => "not-mapped",
+        Refusal::Gone => "gone",
+        Refusal::NotPinned => "not-pinned",
+        Refusal::TooMany => "too-many",
+        Refusal::Closed => "closed",
+        Refusal::NoBlock => "no-block",
+        Refusal::HasBatch => "has-batch",
+        Refusal::OutOfMemory => "",
+    }
+}
+
+// a number behind a name, and the byte `after`
+#[inline]
+fn put_named(text: &mut Vec<u8>, name: &[u8], number: u64, after: u8) -> Result<(), AllocError>
+    ensures { OnOk result (text.new.items ≡ text.old.items ++ (name.now ++ (decimal number ++ after ∷ []))) }
+{
+    put(text, name)?;
+    put_number(text, number, after)
+}
+
+// whether the shrinker of a node looks for underused pages
+fn looks_on(nodes: &[Node], node: u32) -> bool
+    ensures { result ≡ looks (map shape_of nodes.now) node }
+{
+    match nodes.get(node as usize) {
+        Some(node) => node.shape().shrinks_underused(),
+        None => false,
+    }
+}

@@ -1,0 +1,13 @@
+//! Reports of a run: the totals of its nodes, the answers to its commands, and its journals, as text.
+//!
+//! A report is a function of the nodes' shapes and histories and of the sections' answers, said in `specs/`: `Totals`,
+//! `Answers` and `Reports`. No block shows in any.
+#![tactic(auto)]
+
+mod answers;
+mod laws;
+mod report;
+mod totals;
+
+pub use laws::totals_tell_no_block;
+pub use report::report_text;
