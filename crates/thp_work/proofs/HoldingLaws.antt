@@ -72,6 +72,14 @@ never_unmap : (s : Shape) (h : History) (p first count : ℕ) → NotMemory (ref
 unfolding refusal
 never_unmap s h p first count = memory_last _ NoPage _ (λ e. cc) (memory_last _ BadRange _ (λ e. cc) (memory_last _ NotMapped None (λ e. cc) (λ e. cc)))
 
+never_write : (s : Shape) (h : History) (p first count : ℕ) → NotMemory (refusal s h (call.write p first count))
+unfolding refusal
+never_write s h p first count = memory_last _ NoPage _ (λ e. cc) (memory_last _ BadRange _ (λ e. cc) (memory_last _ IsSplit _ (λ e. cc) (memory_last _ NotMapped None (λ e. cc) (λ e. cc))))
+
+never_zero : (s : Shape) (h : History) (p first count : ℕ) → NotMemory (refusal s h (call.zero_fill p first count))
+unfolding refusal
+never_zero s h p first count = memory_last _ NoPage _ (λ e. cc) (memory_last _ BadRange _ (λ e. cc) (memory_last _ IsSplit _ (λ e. cc) (memory_last _ NotMapped None (λ e. cc) (λ e. cc))))
+
 never_pin : (s : Shape) (h : History) (p : ℕ) → NotMemory (refusal s h (call.pin p))
 unfolding refusal
 never_pin s h p = memory_last _ NoPage _ (λ e. cc) (memory_last _ IsSplit _ (λ e. cc) (memory_last _ TooMany None (λ e. cc) (λ e. cc)))
@@ -91,6 +99,8 @@ never_op s h (op.MapWhole p) = never_map_whole s h p
 never_op s h (op.UnmapWhole p) = never_unmap_whole s h p
 never_op s h (op.Map first count p) = never_map s h p first count
 never_op s h (op.Unmap first count p) = never_unmap s h p first count
+never_op s h (op.Write first count p) = never_write s h p first count
+never_op s h (op.Zero first count p) = never_zero s h p first count
 never_op s h (op.SplitPmd p) = never_split_pmd s h p
 never_op s h (op.Pin p) = never_pin s h p
 never_op s h (op.Unpin p) = never_unpin s h p

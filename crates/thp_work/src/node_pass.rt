@@ -158,6 +158,8 @@ impl<'a> NodePass<'a> {
             }
             Op::Map { first, count, page } => self.map(caller, page, first, count),
             Op::Unmap { first, count, page } => self.unmap(caller, page, first, count),
+            Op::Write { first, count, page } => self.write(caller, page, first, count),
+            Op::Zero { first, count, page } => self.zero(caller, page, first, count),
             Op::SplitPmd { page } => {
                 unit(self.cell.split_pmd(&mut self.pass, caller, PageId(page)))
             }
@@ -193,6 +195,26 @@ impl<'a> NodePass<'a> {
             self.cell
                 .unmap_sub(&mut self.pass, caller, page, first, count),
         )
+    }
+
+    fn write(&mut self, caller: u32, page: u64, first: u16, count: u16) -> Result<Reply, CellFault>
+        requires caller { HasCaller self.old.pass caller }
+        ensures { HeldDone caller (Step.One (Op.Write first count page)) self.old self.new result }
+    {
+        let page = PageId(page);
+        let first = u32::from(first);
+        let count = u32::from(count);
+        unit(self.cell.write(&mut self.pass, caller, page, first, count))
+    }
+
+    fn zero(&mut self, caller: u32, page: u64, first: u16, count: u16) -> Result<Reply, CellFault>
+        requires caller { HasCaller self.old.pass caller }
+        ensures { HeldDone caller (Step.One (Op.Zero first count page)) self.old self.new result }
+    {
+        let page = PageId(page);
+        let first = u32::from(first);
+        let count = u32::from(count);
+        unit(self.cell.zero(&mut self.pass, caller, page, first, count))
     }
 
     fn take(&mut self, caller: u32, count: u32) -> Result<Reply, CellFault>

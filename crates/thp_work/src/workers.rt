@@ -1,0 +1,27 @@
+//! Workers on the passes of real nodes, each on a thread of its own.
+ghost use Rattle.std.specs.Prelude.{IfOk};
+ghost use Rattle.thp_work.specs.Halves.{CanRun, Ran};
+ghost use Rattle.thp_work.specs.Passes.{fronts_in};
+
+use crate::gate::Gate;
+use crate::halves::run_range;
+use crate::node_passes::NodePasses;
+use crate::reply::Worked;
+use std::alloc::{AllocError, Global};
+use std::thread::Threads;
+use thp_text::Command;
+
+/// Does the sections of the workers from `first` on, each on a thread of its own, on nodes that they share.
+pub fn run_workers<'a, R: Threads + Sync, G: Gate + Sync>(
+    rt: &R,
+    alloc: Global,
+    passes: NodePasses<'a>,
+    first: u32,
+    workers: &[Vec<Command>],
+    gate: &G,
+) -> Result<(NodePasses<'a>, Vec<Worked>), AllocError>
+    requires { CanRun (fronts_in passes) first workers.now }
+    ensures { IfOk result (λ r. Ran first (fronts_in passes.entry) (fronts_in r.0) workers.now r.1.items) }
+{
+    run_range(rt, alloc, passes, first, workers, gate)
+}
