@@ -93,7 +93,14 @@ fn failing_writer(rt: HostRuntime) {
         held: Vec::new(rt.alloc()),
         can_flush: true,
     });
-    let done = run(&rt, rt.alloc(), &settings, &mut reader, &mut writer, &NoGate);
+    let done = run(
+        &rt,
+        rt.alloc(),
+        &settings,
+        &mut reader,
+        &mut writer,
+        &NoGate,
+    );
     assert!(rt; matches!(done, Err(RunFault::Write)));
     assert!(rt; writer.failed());
     assert!(rt; writer.into_inner().held.as_slice() == b"node ".as_slice());
@@ -108,7 +115,14 @@ fn failing_flush(rt: HostRuntime) {
         held: Vec::new(rt.alloc()),
         can_flush: false,
     });
-    let done = run(&rt, rt.alloc(), &settings, &mut reader, &mut writer, &NoGate);
+    let done = run(
+        &rt,
+        rt.alloc(),
+        &settings,
+        &mut reader,
+        &mut writer,
+        &NoGate,
+    );
     assert!(rt; matches!(done, Err(RunFault::Write)));
 }
 
@@ -117,7 +131,14 @@ fn failing_reader(rt: HostRuntime) {
     let settings = Settings::new(1, 16, 1, Report::Totals).expect(&rt, "within the limits");
     let mut reader = Watched::new(NoReads);
     let mut writer: Watched<Vec<u8>> = Watched::new(Vec::new(rt.alloc()));
-    let done = run(&rt, rt.alloc(), &settings, &mut reader, &mut writer, &NoGate);
+    let done = run(
+        &rt,
+        rt.alloc(),
+        &settings,
+        &mut reader,
+        &mut writer,
+        &NoGate,
+    );
     assert!(rt; matches!(done, Err(RunFault::Read)));
     assert!(rt; reader.failed());
     assert!(rt; writer.into_inner().is_empty());
@@ -129,13 +150,23 @@ const JOURNAL: &[u8] = b"thp-journal 1\nnode 0 blocks 16\n0 alloc 0\nend\n";
 fn failing_devices_of_a_check(rt: HostRuntime) {
     let mut writer: Watched<Vec<u8>> = Watched::new(Vec::new(rt.alloc()));
     let mut reader = Watched::new(NoReads);
-    assert!(rt; matches!(check_run(rt.alloc(), &mut reader, &mut writer), Err(RunFault::Read)));
+    assert!(rt;
+        matches!(
+            check_run(rt.alloc(), &mut reader, &mut writer),
+            Err(RunFault::Read)
+        )
+    );
     let mut reader = Watched::new(JOURNAL);
     let mut writer = Watched::new(Takes {
         room: 3,
         held: Vec::new(rt.alloc()),
         can_flush: true,
     });
-    assert!(rt; matches!(check_run(rt.alloc(), &mut reader, &mut writer), Err(RunFault::Write)));
+    assert!(rt;
+        matches!(
+            check_run(rt.alloc(), &mut reader, &mut writer),
+            Err(RunFault::Write)
+        )
+    );
     assert!(rt; writer.into_inner().held.as_slice() == b"leg".as_slice());
 }

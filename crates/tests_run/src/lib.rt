@@ -3,9 +3,13 @@
 #![tactic(auto)]
 
 #[cfg(test)]
+mod checks;
+#[cfg(test)]
 mod faults;
 #[cfg(test)]
 mod lines;
+#[cfg(test)]
+mod programs;
 #[cfg(test)]
 mod running;
 #[cfg(test)]

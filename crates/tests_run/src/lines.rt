@@ -19,7 +19,9 @@ fn limits_and_constructors(rt: HostRuntime) {
     assert!(rt; two.with_underused([Some(511), None].as_slice()).is_some());
     assert!(rt; two.with_underused([Some(512), None].as_slice()).is_none());
     assert!(rt; two.with_underused([None].as_slice()).is_none());
-    let low = two.with_underused([None, Some(4)].as_slice()).expect(&rt, "low thresholds");
+    let low = two
+        .with_underused([None, Some(4)].as_slice())
+        .expect(&rt, "low thresholds");
     assert!(rt; low.with_orders([2, 3].as_slice()).is_some());
     assert!(rt; low.with_orders([2, 2].as_slice()).is_none());
     let line = read_line(rt.alloc(), ["thpsplit"].as_slice());
@@ -60,7 +62,15 @@ fn words_of_a_line(rt: HostRuntime) {
     assert!(rt; read_line(alloc, ["thpsplit", "--report", "none"].as_slice()).is_err());
     assert!(rt; read_line(alloc, ["thpsplit", "--check", "x"].as_slice()).is_err());
     let words = [
-        "thpsplit", "--nodes", "8", "--workers", "63", "--orders", "2,9", "--underused=off", "--check",
+        "thpsplit",
+        "--nodes",
+        "8",
+        "--workers",
+        "63",
+        "--orders",
+        "2,9",
+        "--underused=off",
+        "--check",
     ];
     let line = read_line(alloc, words.as_slice());
     assert!(rt;
@@ -93,7 +103,18 @@ fn sequence_of_a_vector(rt: HostRuntime) {
 fn lists_of_orders(rt: HostRuntime) {
     let read = read_orders("2,9");
     assert!(rt; read.is_some_and(|orders| orders.as_slice() == [2, 9].as_slice()));
-    for text in ["", ",", "2,", ",2", "2,,9", "02", "2 9", "x", "1,1,1,1,1,1,1,1,1", "4294967296"] {
+    for text in [
+        "",
+        ",",
+        "2,",
+        ",2",
+        "2,,9",
+        "02",
+        "2 9",
+        "x",
+        "1,1,1,1,1,1,1,1,1",
+        "4294967296",
+    ] {
         assert!(rt; read_orders(text).is_none(), "{text}");
     }
     assert!(rt; read_orders("1,1,1,1,1,1,1,1").is_some());
