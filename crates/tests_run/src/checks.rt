@@ -82,8 +82,26 @@ fn faults_of_journals(rt: HostRuntime) {
     }
 }
 
+/// Two pages that are queued, and the second or the first of them taken.
+const TAKES_THE_SECOND: &[u8] =
+    b"thp-journal 1\nnode 0 blocks 4\n0 alloc 0\n0 splitpmd 0\n0 unmapsub 0 0 1 queued -\n0 alloc 1\n0 splitpmd 1\n0 unmapsub 1 0 1 queued -\n0 taken 1\nend\n";
+
+const TAKES_THE_FIRST: &[u8] =
+    b"thp-journal 1\nnode 0 blocks 4\n0 alloc 0\n0 splitpmd 0\n0 unmapsub 0 0 1 queued -\n0 alloc 1\n0 splitpmd 1\n0 unmapsub 1 0 1 queued -\n0 taken 0\nend\n";
+
 #[test]
 fn journal_check_and_cuts(rt: HostRuntime) {
+    let alloc = rt.alloc();
+    assert!(rt; tells(alloc, TAKES_THE_SECOND, false, b"illegal line 9\n"));
+    assert!(rt; tells(alloc, TAKES_THE_FIRST, true, b"legal\n"));
+    let length = TAKES_THE_FIRST.len();
+    // cut within line 9, and behind it
+    assert!(rt; first_fault(alloc, &TAKES_THE_FIRST[..length - 8]) == Some((9, TextKind::Cut)));
+    assert!(rt; first_fault(alloc, &TAKES_THE_FIRST[..length - 4]) == Some((10, TextKind::Cut)));
+}
+
+#[test]
+fn journal_of_a_run(rt: HostRuntime) {
     let alloc = rt.alloc();
     let settings = Settings::new(1, 16, 1, Report::Journal).expect(&rt, "within the limits");
     let Ok(journal) = run_with(&rt, alloc, &settings, FIRST_SCRIPT) else {

@@ -59,9 +59,10 @@ fn ends<T: Threads + Sync>(
 
 #[test]
 fn settings_that_are_refused(rt: HostRuntime) {
-    let orders: [&[&str]; 4] = [
+    let orders: [&[&str]; 5] = [
         &["thpsplit", "--orders", "10"],
         &["thpsplit", "--orders", "2,3"],
+        &["thpsplit", "--nodes", "2", "--orders", "2,"],
         &["thpsplit", "--nodes", "2", "--orders", "9"],
         &["thpsplit", "--orders", "x", "--underused", "x"],
     ];
@@ -108,6 +109,25 @@ fn reports_by_name(rt: HostRuntime) {
             (0, answers, b"")
         )
     );
+}
+
+#[test]
+fn two_orders(rt: HostRuntime) {
+    let alloc = rt.alloc();
+    let script =
+        b"setup\nalloc 0\nsplitpmd 0 0\nunmap 0 0 0 3\nunmap 0 0 3 2\nalloc 1\nsplitpmd 1 0\nunmap 1 0 0 511\nscan 0 8\nscan 1 8\n";
+    let words = [
+        "thpsplit", "--nodes", "2", "--orders", "2,9", "--report", "answers",
+    ];
+    let answers =
+        b"0 1 page 0\n0 2 ok\n0 3 queued -\n0 4 refused bad-range\n0 5 page 0\n0 6 ok\n0 7 queued -\n0 8 taken 1 split 1 pinned 0 back 0 dropped 0\n0 9 taken 1 split 1 pinned 0 back 0 dropped 0\n";
+    assert!(rt; ends(&rt, alloc, words.as_slice(), script, (0, answers, b"")));
+    let words = [
+        "thpsplit", "--nodes", "2", "--orders", "2,9", "--report", "journal",
+    ];
+    let journal =
+        b"thp-journal 2\nnode 0 blocks 16 order 2\n0 alloc 0\n0 splitpmd 0\n0 unmapsub 0 0 3 queued -\n0 taken 0\n0 split 0 0-2\nnode 1 blocks 16 order 9\n0 alloc 0\n0 splitpmd 0\n0 unmapsub 0 0 511 queued -\n0 taken 0\n0 split 0 0-510\nend\n";
+    assert!(rt; ends(&rt, alloc, words.as_slice(), script, (0, journal, b"")));
 }
 
 #[test]
