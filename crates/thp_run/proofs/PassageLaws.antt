@@ -1,15 +1,17 @@
 -- How the program's passages end, from what their parts did.
-use Rattle.std.proofs.Common.{◌≡◌, ◌∙◌, ℕ, Bool, true, false, List, Option, Some, None, Ok, Err, ap, arith, inl, inr, length, refl, sym}
+use Rattle.std.proofs.Common.{◌≡◌, ◌∙◌, ℕ, Bool, true, false, List, Option, Some, None, Ok, Err, ap, arith, inl, inr, is_some, length, not, refl, sym}
 use Rattle.std.specs.Prelude.{IfNone, IfSome, Result, ok_or}
 use Rattle.std.specs.Io.KnownBytes.{Keeps, Appends}
-use Rattle.std.proofs.lemmas.Bool.{cases_lt}
+use Rattle.std.proofs.lemmas.Bool.{cases_lt, lt-ltb}
 use Rattle.std.proofs.lemmas.List.{append-nil, length-append}
 use Rattle.thp_text.specs.declared.fault.ReadFault.{ReadFault}
 use Rattle.thp_text.specs.declared.fault.ReadFault.TheVariants as reading
 use Rattle.thp_text.specs.declared.settings.Settings.{Settings}
 use Rattle.thp_text.specs.declared.vocabulary.Vocabulary.TheVariants.{Whole}
 use Rattle.thp_text.specs.Scripts.{Fault, TellsFault, script_of}
+use Rattle.thp_text.specs.declared.fault.TextKind.TheVariants.{TooLong}
 use Rattle.thp_text.proofs.ScriptLaws.{too_long}
+use Rattle.thp_read.specs.Journals.{journals_of}
 use Rattle.thp_run.specs.declared.fault.RunFault.{RunFault}
 use Rattle.thp_run.specs.declared.fault.RunFault.TheVariants.{Write}
 use Rattle.thp_run.specs.Devices.{IsInputOf, WritesFront}
@@ -70,7 +72,7 @@ same_script s input bytes read =
     ]
 
 pub report_of_input : (s : Settings) (input bytes text : List ℕ) (u : Unit {0}) → IsInputOf bytes input → IsReport s bytes text → IsReport s input text
-report_of_input s input bytes text u read r = record { script = r.script; spelled = sym (same_script s input bytes read) ∙ r.spelled }
+report_of_input s input bytes text u read r = record { script = r.script; spelled = sym (same_script s input bytes read) ∙ r.spelled; nodes = r.nodes; nodes_are = r.nodes_are; sections = r.sections; is_run = r.is_run; written = r.written }
 
 pub fault_of_script : (s : Settings) (input bytes : List ℕ) (fault : Fault) → IsInputOf bytes input → script_of Whole s bytes ≡ Err fault → script_of Whole s input ≡ Err fault
 fault_of_script s input bytes fault read told = sym (same_script s input bytes read) ∙ told
@@ -97,11 +99,22 @@ run_ends_early s known old bytes rf wf fault r read told e f is =
 
 -- ---- journals
 
-pub verdict_of_input : (input bytes text : List ℕ) (legal : Bool) → IsInputOf bytes input → IsVerdict bytes legal text → IsVerdict input legal text
-verdict_of_input input bytes text legal read v = record { illegal = v.illegal; answer = v.answer; written = v.written }
+journal_too_long : (text : List ℕ) → 16777216 < length text → journals_of text ≡ Err (0, TooLong)
+unfolding journals_of
+journal_too_long text lt = rw (lt-ltb 16777216 (length text) lt) refl
 
-pub fault_of_journal : (input bytes : List ℕ) (fault : Fault) → IsInputOf bytes input → Unit {0} → Unit {0}
-fault_of_journal input bytes fault read told = tt
+same_journals : (input bytes : List ℕ) → IsInputOf bytes input → journals_of bytes ≡ journals_of input
+same_journals input bytes read =
+    elim (cases_lt 16777216 (length bytes)) [
+      | inl more ↦ journal_too_long bytes more ∙ sym (journal_too_long input (rw read.front (omega (arith, length-append bytes read.rest))))
+      | inr less ↦ ap journals_of (sym (read.front ∙ rw (read.all less, append-nil) refl))
+    ]
+
+pub verdict_of_input : (input bytes text : List ℕ) (legal : Bool) → IsInputOf bytes input → IsVerdict bytes legal text → IsVerdict input legal text
+verdict_of_input input bytes text legal read v = record { journals = v.journals; spelled = sym (same_journals input bytes read) ∙ v.spelled; illegal = v.illegal; told = v.told; free_choice = v.free_choice; answer = v.answer; written = v.written }
+
+pub fault_of_journal : (input bytes : List ℕ) (fault : Fault) → IsInputOf bytes input → journals_of bytes ≡ Err fault → journals_of input ≡ Err fault
+fault_of_journal input bytes fault read told = sym (same_journals input bytes read) ∙ told
 
 -- a writer that failed is told as that
 pub cut_from : (o : Option (Unit {0})) (fault : RunFault) → ok_or o Write ≡ Err fault → (o ≡ None) × (Write ≡ fault)
@@ -112,4 +125,24 @@ cut_from None fault e = (refl, cc)
 pub check_ends_cut : (known old new : Option (List ℕ)) (bytes text : List ℕ) (reader_failed writer_failed : Bool) (illegal : Option ℕ) (o : Option (Unit {0})) (r : Result Bool RunFault) → IfSome known (IsInputOf bytes) → IsVerdict bytes (is_legal illegal) text
     → o ≡ None → IfNone o (WritesFront old new text) → IfNone o (writer_failed ≡ true) → reader_failed ≡ false → r ≡ Err Write → CheckEnds known old new reader_failed writer_failed r
 check_ends_cut known old new bytes text rf wf illegal o r read v none cut failed e is =
-    ends_cut IsVerdict (λ input fault. Unit {0}) verdict_of_input fault_of_journal known bytes read old new rf wf (is_legal illegal) text r v (rw none at cut) e (rw none at failed) is
+    ends_cut IsVerdict (λ input f. journals_of input ≡ Err f) verdict_of_input fault_of_journal known bytes read old new rf wf (is_legal illegal) text r v (rw none at cut) e (rw none at failed) is
+
+-- what isn't there is no line
+pub legal_is : (illegal : Option ℕ) (legal : Bool) → is_some illegal ≡ not legal → legal ≡ is_legal illegal
+legal_is None true e = refl
+legal_is None false e = absurd cc
+legal_is (Some line) true e = absurd cc
+legal_is (Some line) false e = refl
+
+-- the verdict was written
+pub check_ends_written : (known old new : Option (List ℕ)) (bytes text : List ℕ) (reader_failed writer_failed : Bool) (illegal : Option ℕ) (o : Option (Unit {0})) (u : Unit {0}) (legal : Bool) → IfSome known (IsInputOf bytes) → IsVerdict bytes (is_legal illegal) text
+    → ok_or o Write ≡ Ok u → IfSome o (λ _. Appends old new text) → IfSome o (λ _. writer_failed ≡ false) → reader_failed ≡ false → legal ≡ is_legal illegal → CheckEnds known old new reader_failed writer_failed (Ok legal)
+check_ends_written known old new bytes text rf wf illegal (Some v) u legal read verdict some done flag e is =
+    ends_written IsVerdict (λ input f. journals_of input ≡ Err f) verdict_of_input fault_of_journal known bytes read old new rf wf legal text (Ok legal) (rw is verdict) done e flag refl
+check_ends_written known old new bytes text rf wf illegal None u legal read verdict some done flag e is = absurd cc
+
+-- the journal was at fault, or memory was refused
+pub check_ends_early : (known old : Option (List ℕ)) (bytes : List ℕ) (reader_failed writer_failed : Bool) (fault : ReadFault) (r : Result Bool RunFault) → IfSome known (IsInputOf bytes) → TellsFault (journals_of bytes) fault
+    → reader_failed ≡ false → writer_failed ≡ false → r ≡ Err (run_fault fault) → CheckEnds known old old reader_failed writer_failed r
+check_ends_early known old bytes rf wf fault r read told e f is =
+    ends_early IsVerdict (λ input g. journals_of input ≡ Err g) verdict_of_input fault_of_journal known bytes read old rf wf fault r (tells_of (journals_of bytes) fault told) e f is

@@ -1,5 +1,10 @@
 -- What a run reads and writes.
-use Rattle.std.specs.Prelude.{◌≡◌, ℕ, Bool, List, Option, Result, Ok, Err}
+use Rattle.std.specs.Prelude.{◌≡◌, ℕ, Bool, List, map, Option, Result, Ok, Err}
+use Rattle.thp_node.specs.NodeState.{NodeState}
+use Rattle.thp_report.specs.Reports.{report_of, told_of}
+use Rattle.thp_scripts.specs.NewNodes.{histories_of, shapes_of, AreNodesFor}
+use Rattle.thp_scripts.specs.Runs.{IsRun}
+use Rattle.thp_work.specs.declared.reply.Section.{Section}
 use Rattle.thp_text.specs.declared.script.Script.{Script}
 use Rattle.thp_text.specs.declared.settings.Settings.{Settings}
 use Rattle.thp_text.specs.declared.vocabulary.Vocabulary.TheVariants.{Whole}
@@ -11,6 +16,11 @@ use Rattle.thp_run.specs.Passages.{Ends}
 pub record IsReport (s : Settings) (input text : List ℕ) : Type 0 where
   pub script : Script
   pub spelled : script_of Whole s input ≡ Ok script
+  pub nodes : List NodeState
+  pub nodes_are : AreNodesFor s nodes
+  pub sections : List Section
+  pub is_run : IsRun s.nodes (shapes_of nodes) script (histories_of nodes) sections
+  pub written : text ≡ report_of s.report (map told_of nodes) sections
 
 -- how a run ends: with its report, or with the first fault of the script
 abbrev pub RunEnds : Settings → Option (List ℕ) → Option (List ℕ) → Option (List ℕ) → Bool → Bool → Result (Unit {0}) RunFault → Type 0

@@ -7,12 +7,7 @@ use crate::fault::RunFault;
 use crate::watched::Watched;
 use std::alloc::{AllocError, Global};
 use std::io::{Read, Write};
-use thp_text::ReadFault;
-
-/// stub
-fn check_text(_alloc: Global, _input: &[u8]) -> Result<Option<u32>, ReadFault> {
-    Ok(None)
-}
+use thp_read::check_text;
 
 /// The line that tells whether a journal is legal, by the line of its first illegal event.
 #[tactic(auto, unfolding(crate::specs::Verdicts::verdict_text))]

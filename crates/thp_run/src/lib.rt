@@ -6,7 +6,6 @@ mod choice;
 mod device;
 mod ending;
 mod fault;
-mod gate;
 mod program;
 mod running;
 mod telling;
@@ -15,11 +14,11 @@ mod watched;
 pub use checking::check_run;
 pub use ending::{Ending, ProgramFault, WordsFault};
 pub use fault::RunFault;
-pub use gate::{Gate, NoGate};
 pub use program::run_program;
 pub use running::run;
 pub use thp_line::{Line, read_line};
 pub use thp_text::{
     Command, Op, ReadFault, Report, Script, Sequence, Settings, TextKind, read_script,
 };
+pub use thp_work::{Gate, NoGate};
 pub use watched::Watched;

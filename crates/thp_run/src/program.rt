@@ -9,7 +9,6 @@ use crate::choice::settings_of;
 use crate::device::write_text;
 use crate::ending::{Ending, ProgramFault, WordsFault};
 use crate::fault::RunFault;
-use crate::gate::NoGate;
 use crate::running::run;
 use crate::telling::{status_of_ending, tell};
 use crate::watched::Watched;
@@ -19,6 +18,7 @@ use std::alloc::{AllocError, Global};
 use std::io::{Read, Write};
 use std::thread::Threads;
 use thp_line::{Line, read_line};
+use thp_work::NoGate;
 
 /// The words as texts.
 fn texts_of<'a>(alloc: Global, words: &'a [String]) -> Result<Vec<&'a str>, AllocError>

@@ -6,26 +6,35 @@ ghost use Rattle.thp_text.specs.Scripts.{script_of, TellsFault};
 
 use crate::device::{read_input, write_text};
 use crate::fault::RunFault;
-use crate::gate::Gate;
 use crate::watched::Watched;
 use std::alloc::Global;
 use std::io::{Read, Write};
 use std::thread::Threads;
+use thp_report::report_text;
+use thp_scripts::run_script;
 use thp_text::{ReadFault, Settings, read_script};
+use thp_work::Gate;
 
 /// The report of a run of the script that the input spells.
 fn report_of<T: Threads + Sync, G: Gate + Sync>(
-    _rt: &T,
+    rt: &T,
     alloc: Global,
     settings: &Settings,
     input: &[u8],
-    _gate: &G,
+    gate: &G,
 ) -> Result<Vec<u8>, ReadFault>
     ensures text { IfOk result (λ text. IsReport settings.now input.now text.items) }
     ensures fault { IfErr result (TellsFault (script_of Whole settings.now input.now)) }
 {
-    let _script = read_script(alloc, settings, input)?;
-    Ok(Vec::new(alloc))
+    let script = read_script(alloc, settings, input)?;
+    let ran = run_script(rt, alloc, settings, script, gate)?;
+    let text = report_text(
+        alloc,
+        settings,
+        ran.nodes.as_slice(),
+        ran.sections.as_slice(),
+    )?;
+    Ok(text)
 }
 
 /// Runs the script that the reader gives, and writes the report of the run.
