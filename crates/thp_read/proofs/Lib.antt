@@ -1,0 +1,4 @@
+pub mod SetLaws
+pub mod JournalLaws
+pub mod NodeLaws
+pub mod AnswerLaws

@@ -4,3 +4,5 @@ pub mod EventLines
 pub mod JournalLines
 pub mod LineRanges
 pub mod Journals
+pub mod Reading
+pub mod Answers

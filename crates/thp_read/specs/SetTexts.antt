@@ -61,8 +61,10 @@ runs_of least (text ∷ texts) = do
   runs ← runs_of (run.1 + 2) texts
   Ok (run ∷ runs)
 
--- the set that a text writes: `-` for none of the numbers, else runs between commas (44)
+-- the set of the runs that a text writes; commas (44) stand between them
+abbrev pub set_of_runs : Text → Result (List Bool) TextKind
+set_of_runs text = runs_of 0 (pieces_at 44 text) >>= λ runs. Ok (set_with runs)
+
+-- the set that a text writes: `-` for none of the numbers, else runs
 unfoldable pub set_of_text : Text → Result (List Bool) TextKind
-set_of_text text =
-    if bytes_eq text (codes "-") then Ok (set_with [])
-    else (runs_of 0 (pieces_at 44 text) >>= λ runs. Ok (set_with runs))
+set_of_text text = if bytes_eq text (codes "-") then Ok (set_with []) else set_of_runs text

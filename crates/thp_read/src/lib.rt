@@ -1,13 +1,20 @@
 //! Journals from text, and whether what they tell is legal.
 #![tactic(auto)]
 
+mod checking;
+mod event_line;
 mod event_word;
+mod journal_reader;
 mod journals;
 mod line;
 mod place;
+mod reading;
+mod set_text;
 mod version;
 
+pub use checking::check_text;
 pub use event_word::{EventWord, LossWord, PageWord, RangeWord};
+pub use journal_reader::read_journal;
 pub use journals::{Journals, NodeJournal};
 pub use line::Line;
 pub use place::Place;

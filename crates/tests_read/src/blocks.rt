@@ -1,0 +1,32 @@
+//! The blocks that a reader gives the pages of a journal.
+use thp_model::{Event, What};
+use thp_read::{NodeJournal, read_journal};
+
+/// The block of the allocation at a place, `None` where no allocation stands there.
+fn block_at(node: &NodeJournal, place: usize) -> Option<u32> {
+    match node.events.as_slice().get(place) {
+        Some(Event {
+            what: What::Alloc { block, .. },
+            ..
+        }) => Some(*block),
+        _ => None,
+    }
+}
+
+#[test]
+fn least_blocks_are_given(rt: HostRuntime) {
+    let text = b"thp-journal 1\nnode 0 blocks 2\n0 alloc 0\n0 alloc 1\n0 unmapwhole 0 freed 0-511\n0 alloc 2\n0 alloc 3\nend\n";
+    let Ok(journals) = read_journal(rt.alloc(), text) else {
+        assert!(rt; false, "a journal");
+        return;
+    };
+    let Some(node) = journals.nodes.as_slice().first() else {
+        assert!(rt; false, "a node");
+        return;
+    };
+    assert!(rt; node.first_line == 3);
+    assert!(rt; block_at(node, 0) == Some(0));
+    assert!(rt; block_at(node, 1) == Some(1));
+    assert!(rt; block_at(node, 3) == Some(0), "block 0 is free again");
+    assert!(rt; block_at(node, 4) == Some(0), "each block is held");
+}
