@@ -29,10 +29,10 @@ steps_from c old old' new ms shape front batches s = record {
 pub same_nodes_trans : (f g h : Fronts) → SameNodes f g → SameNodes g h → SameNodes f h
 same_nodes_trans f g h a b = record { cells = b.cells ∙ a.cells; nodes = b.nodes ∙ a.nodes; shape = b.shape ∙ a.shape; callers = b.callers ∙ a.callers }
 
-same_nodes_sym : (f g : Fronts) → SameNodes f g → SameNodes g f
+pub same_nodes_sym : (f g : Fronts) → SameNodes f g → SameNodes g f
 same_nodes_sym f g a = record { cells = sym a.cells; nodes = sym a.nodes; shape = sym a.shape; callers = sym a.callers }
 
-works_from : (c : ℕ) (old old' new new' : Fronts) (commands : List Command) (w : Worked) → SameNodes old old' → ((n : ℕ) → old'.front n ≡ old.front n) → ((n : ℕ) → old'.batches c n ≡ old.batches c n)
+pub works_from : (c : ℕ) (old old' new new' : Fronts) (commands : List Command) (w : Worked) → SameNodes old old' → ((n : ℕ) → old'.front n ≡ old.front n) → ((n : ℕ) → old'.batches c n ≡ old.batches c n)
     → SameNodes new new' → ((n : ℕ) → (more : History) × (new'.front n ≡ new.front n ++ more)) → KnowsOf c new new' → Works c old new commands w → Works c old' new' commands w
 works_from c old old' new new' commands w same front batches later grown knows works = record { to = to_from w.rest works.to; room = works.room }
   where
@@ -89,7 +89,7 @@ works_from c old old' new new' commands w same front batches later grown knows w
       ],
     )
 
-all_work_as : (vs : List (Vec Command Global)) (ws : List Worked) (c : ℕ) (old old' new new' : Fronts) → ((k : ℕ) → c ≤ k → k < c + length vs → (commands : List Command) (w : Worked) → Works k old new commands w → Works k old' new' commands w)
+pub all_work_as : (vs : List (Vec Command Global)) (ws : List Worked) (c : ℕ) (old old' new new' : Fronts) → ((k : ℕ) → c ≤ k → k < c + length vs → (commands : List Command) (w : Worked) → Works k old new commands w → Works k old' new' commands w)
     → AllWork c old new vs ws → AllWork c old' new' vs ws
 unfolding AllWork
 all_work_as [] [] c old old' new new' moved a = tt

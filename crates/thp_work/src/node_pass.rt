@@ -55,6 +55,18 @@ impl<'a> NodePass<'a> {
         })
     }
 
+    /// The pass. Open batches are let go: their pages stay in flight.
+    pub fn into_pass(self) -> Pass
+        ensures { result ≡ self.entry.pass }
+    {
+        let NodePass {
+            cell: _,
+            pass,
+            batches: _,
+        } = self;
+        pass
+    }
+
     /// The caller has an open batch.
     pub(crate) fn is_open(&self, caller: u32) -> bool
         requires { HasCaller self.now.pass caller }

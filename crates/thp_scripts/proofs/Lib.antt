@@ -1,0 +1,4 @@
+pub mod RunLaws
+pub mod RestLaws
+pub mod NodeLaws
+pub mod SharingLaws

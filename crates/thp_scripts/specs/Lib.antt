@@ -1,0 +1,4 @@
+pub mod NewNodes
+pub mod Runs
+pub mod Sections
+pub mod Sharing

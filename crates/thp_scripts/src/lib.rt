@@ -1,0 +1,13 @@
+//! Whole scripts run by workers on nodes that they share.
+//!
+//! [`run_script`] makes the nodes that the settings ask for, runs a script on them, and gives back the nodes and the answers.
+//! What a run is, stands in `specs/Runs.antt`: each node has one legal history, in which the steps of each caller stand in
+//! order, and the answers are those of the steps.
+#![tactic(auto)]
+
+mod nodes;
+mod running;
+mod sections;
+mod sharing;
+
+pub use running::{Ran, run_script};

@@ -1,0 +1,89 @@
+//! Runs of whole scripts.
+ghost use Rattle.std.specs.Prelude.{◌≡◌, ◌+◌, ◌≤◌, ◌<◌, ◌^◌, [], true, All, IfOk, length, map};
+ghost use Rattle.thp_cell.specs.Views.{PassState};
+ghost use Rattle.thp_text.specs.Scripts.{IsScriptFor};
+ghost use Rattle.thp_text.specs.declared.vocabulary.Vocabulary.TheVariants.{Whole};
+ghost use Rattle.thp_scripts.specs.NewNodes.{histories_of, shapes_of, AreNodesFor};
+ghost use Rattle.thp_scripts.specs.Runs.{IsRun};
+ghost use Rattle.thp_scripts.specs.Sections.{IsFitScript};
+ghost use Rattle.thp_scripts.specs.Sharing.{cell_of, AreFew, IsFresh, RunsOn};
+
+use crate::nodes::new_nodes;
+use crate::sections::run_sections;
+use crate::sharing::{close, finish, open, share};
+use std::alloc::{AllocError, Global};
+use std::thread::Threads;
+use thp_cell::{NodeCell, Pass};
+use thp_node::Node;
+use thp_text::{Script, Settings};
+use thp_work::{Gate, NodePasses, Section};
+
+/// What a run leaves: the nodes, and the answers of each section.
+#[derive(Drop)]
+pub struct Ran {
+    /// The nodes, by number.
+    pub nodes: Vec<Node>,
+    /// The answers of `setup`, and then those of each worker.
+    pub sections: Vec<Section>,
+}
+
+/// Runs a script on new nodes: `setup` as caller 0, then the section of each worker as its caller, on a thread of its own,
+/// and then what busy nodes made the workers postpone, workers ascending. Want of memory anywhere ends the run once all
+/// workers have ended; a section of 2^32 commands or more counts as such.
+pub fn run_script<R: Threads + Sync, G: Gate + Sync>(
+    rt: &R,
+    alloc: Global,
+    settings: &Settings,
+    script: Script,
+    gate: &G,
+) -> Result<Ran, AllocError>
+    requires { IsScriptFor Whole settings.now script }
+    ensures nodes { IfOk result (λ r. AreNodesFor settings.now r.nodes.items) }
+    ensures run { IfOk result (λ r. IsRun settings.now.nodes (shapes_of r.nodes.items) script (histories_of r.nodes.items) r.sections.items) }
+{
+    if !are_few(&script) {
+        return Err(AllocError);
+    }
+    let callers = settings.workers + 1;
+    let nodes = new_nodes(alloc, settings)?;
+    let (cells, passes) = share(alloc, nodes, callers)?;
+    let (passes, sections) = run_on(rt, alloc, cells.as_slice(), passes, callers, script, gate)?;
+    let nodes = finish(alloc, cells, passes)?;
+    Ok(Ran { nodes, sections })
+}
+
+/// Runs a script by the passes of all callers.
+fn run_on<R: Threads + Sync, G: Gate + Sync>(
+    rt: &R,
+    alloc: Global,
+    cells: &[NodeCell],
+    passes: Vec<Pass>,
+    callers: u32,
+    script: Script,
+    gate: &G,
+) -> Result<(Vec<Pass>, Vec<Section>), AllocError>
+    requires cells { map cell_of passes.items ≡ cells.now }
+    requires callers { callers ≡ 1 + length script.workers }
+    requires fresh { All (IsFresh callers) passes.items }
+    requires few { length passes.items ≤ 8 }
+    requires fits { IsFitScript (length passes.items) script }
+    ensures { IfOk result (λ r. RunsOn passes.items r.0.items script r.1.items) }
+{
+    let nodes = open(alloc, cells, passes)?;
+    let passes = NodePasses::new(nodes, callers, 0, callers);
+    let (passes, sections) = run_sections(rt, alloc, passes, script, gate)?;
+    Ok((close(alloc, passes)?, sections))
+}
+
+/// Each section has fewer than 2^32 commands.
+fn are_few(script: &Script) -> bool
+    ensures { result ≡ true → AreFew script.now }
+{
+    let most = u32::MAX as usize;
+    script.setup.as_slice().len() <= most
+        && script
+            .workers
+            .as_slice()
+            .iter()
+            .all(|commands| commands.as_slice().len() <= most)
+}
