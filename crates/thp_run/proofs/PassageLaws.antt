@@ -1,5 +1,5 @@
 -- How the program's passages end, from what their parts did.
-use Rattle.std.proofs.Common.{◌≡◌, ◌∙◌, ℕ, Bool, true, false, List, Option, Some, None, Ok, Err, ap, arith, inl, inr, is_some, length, not, refl, sym}
+use Rattle.std.proofs.Common.{◌≡◌, ◌∙◌, ◌<◌, ℕ, Bool, true, false, List, Option, Some, None, Ok, Err, ap, arith, inl, inr, is_some, length, not, refl, sym}
 use Rattle.std.specs.Prelude.{IfNone, IfSome, Result, ok_or}
 use Rattle.std.specs.Io.KnownBytes.{Keeps, Appends}
 use Rattle.std.proofs.lemmas.Bool.{cases_lt, lt-ltb}
