@@ -1,5 +1,5 @@
 -- What is kept after the code noted an event.
-use Rattle.std.proofs.Common.{◌≡◌, ℕ, ◌+◌, ◌<◌, ◌≤◌, Bool, true, false, cond, List, [], ◌∷◌, ◌++◌, length, set, take, get_or, refl, ap, sym, ◌∙◌, subst, nat_eq, Option, Some, None}
+use Rattle.std.proofs.Common.{◌≡◌, ℕ, ◌+◌, ◌<◌, false, cond, List, [], ◌∷◌, ◌++◌, length, set, take, get_or, refl, ap, sym, ◌∙◌, subst, nat_eq, Option, Some, None}
 use Rattle.std.specs.Prelude.{count_by}
 use Rattle.std.proofs.lemmas.List.Sums.{fold_push}
 use Rattle.thp_model.specs.declared.events.Event.{Event}
@@ -18,7 +18,7 @@ use Rattle.thp_blocks.specs.Holders.{least_of}
 use Rattle.thp_blocks.specs.Keeping.{Keeps}
 use Rattle.thp_blocks.specs.State.{BlocksState}
 use Rattle.thp_model.proofs.ListPlaces.{step_of}
-use Rattle.thp_blocks.proofs.KeepSteps.{least_is, keeps_quiet, keeps_alloc, keeps_alloc_freed, keeps_covered, keeps_free, keeps_free_again, keeps_known}
+use Rattle.thp_blocks.proofs.KeepSteps.{least_is, keeps_quiet, keeps_alloc, keeps_alloc_freed, keeps_covered, keeps_free, keeps_free_again}
 
 -- an event that frees a page is no allocation
 pub freed_other : (w : What) (p : ℕ) → freed_page w ≡ Some p → is_alloc w ≡ false

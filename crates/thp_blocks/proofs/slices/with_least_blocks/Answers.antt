@@ -1,4 +1,4 @@
-use Rattle.std.proofs.Common.{sym, ◌∙◌, ap, List, [], ◌∷◌, ◌++◌}
+use Rattle.std.proofs.Common.{sym, ◌∙◌, ap, [], ◌∷◌, ◌++◌}
 use Rattle.thp_model.specs.History.{History}
 use Rattle.thp_blocks.proofs.Noting.{least_first, least_step}
 use Rattle.thp_blocks.proofs.slices.with_least_blocks.Goals as goal
