@@ -1,5 +1,5 @@
 -- Legal journals are read back from their text.
-use Rattle.std.proofs.Common.{◌≡◌, ◌<◌, ◌≤◌, ◌+◌, ◌^◌, ℕ, zero, suc, List, [], ◌∷◌, length, Some, refl, subst, arith, length-append, codes, Option, None}
+use Rattle.std.proofs.Common.{◌≡◌, ◌<◌, ◌≤◌, ◌+◌, ◌^◌, ℕ, zero, suc, List, [], ◌∷◌, length, Some, Option, None, refl, ap, sym, subst, ◌∙◌, arith, length-append, codes}
 use Rattle.std.specs.Prelude.{All, slice_get}
 use Rattle.std.specs.Result.{result_unwrap_or}
 use Rattle.std.specs.List.{AllByRecursion, AllZip, flat_map}
@@ -19,7 +19,7 @@ use Rattle.thp_read.specs.declared.journals.NodeJournal.{NodeJournal}
 use Rattle.thp_read.specs.Answers.{IsLegalNode, TellsIllegal}
 use Rattle.thp_read.specs.declared.version.Version.{Version}
 use Rattle.thp_read.specs.Journals.{node_journal}
-use Rattle.thp_laws.specs.ReadBack.{IsJournal, IsSameNode, nodes_from, TextsAreReadBack, NothingElseChanges, WhatIsReadIsLegal, TextsAreCalledLegal}
+use Rattle.thp_laws.specs.ReadBack.{IsJournal, IsSameNode, nodes_from, with_lines, TextsAreReadBack, TextsAreCalledLegal, NothingElseChanges, WhatIsReadIsLegal}
 use Rattle.thp_laws.specs.Tellable.{read_version, IsTellable, IsToldJournal}
 use Rattle.thp_laws.proofs.JournalsBack.{text_back}
 use Rattle.thp_laws.proofs.LegalNumbers.{each_from_places, legal_numbers}
