@@ -5,6 +5,7 @@ use thp_work::Gate;
 
 // Lets the commands of two workers through in turn. A gate call is told by a bit: three of the worker that goes first, and
 // then three of the other one.
+#[derive(Drop)]
 struct InTurns {
     first: u32,
     made: AtomicU64,

@@ -52,7 +52,7 @@ fn said_of(reply: Reply) -> Said {
     }
 }
 
-fn said(answer: &Answer) -> Said {
+fn answered(answer: &Answer) -> Said {
     match answer.reply {
         Ok(reply) => said_of(reply),
         Err(refusal) => Said::Refused(refusal),
@@ -68,7 +68,7 @@ pub(crate) fn are_answers(ran: &Ran, section: usize, wanted: &[Said]) -> bool {
                     .answers
                     .iter()
                     .zip(wanted)
-                    .all(|(answer, want)| said(answer) == *want)
+                    .all(|(answer, want)| answered(answer) == *want)
         }
         None => false,
     }
