@@ -19,7 +19,7 @@ fn words_of(alloc: Global, words: &[&str]) -> Result<Vec<String>, AllocError> {
     Ok(all)
 }
 
-fn ended<T: Threads + Sync>(
+fn outcome_of<T: Threads + Sync>(
     rt: &T,
     alloc: Global,
     words: &[&str],
@@ -45,7 +45,7 @@ fn ends<T: Threads + Sync>(
     input: &[u8],
     wanted: (u8, &[u8], &[u8]),
 ) -> bool {
-    match ended(rt, alloc, words, input) {
+    match outcome_of(rt, alloc, words, input) {
         Ok(
             Ended {
                 status,
