@@ -86,7 +86,7 @@ fn time_script<R: CpuClock + Eprint + AllocGlobal>(rt: &R, what: &str, text: &[u
     let start = rt.thread_cpu_time()?;
     let answer = read_script(rt.alloc(), &settings, text);
     let spent = rt.thread_cpu_time()?.saturating_sub(start);
-    let commands = answer.map_or(0, |script| script.setup.len());
+    let commands = answer.map_or(0, |script| script.setup.as_slice().len());
     let bytes = text.len();
     let each = ps_each(spent, bytes);
     let least = ps_each(copy_time(rt, text)?, bytes);

@@ -5,17 +5,20 @@ use thp_read::{NodeJournal, read_journal};
 /// The block of the allocation at a place, `None` where no allocation stands there.
 fn block_at(node: &NodeJournal, place: usize) -> Option<u32> {
     match node.events.as_slice().get(place) {
-        Some(Event {
-            what: What::Alloc { block, .. },
-            ..
-        }) => Some(*block),
+        Some(
+            Event {
+                what: What::Alloc { block, .. },
+                ..
+            },
+        ) => Some(*block),
         _ => None,
     }
 }
 
 #[test]
 fn least_blocks_are_given(rt: HostRuntime) {
-    let text = b"thp-journal 1\nnode 0 blocks 2\n0 alloc 0\n0 alloc 1\n0 unmapwhole 0 freed 0-511\n0 alloc 2\n0 alloc 3\nend\n";
+    let text =
+        b"thp-journal 1\nnode 0 blocks 2\n0 alloc 0\n0 alloc 1\n0 unmapwhole 0 freed 0-511\n0 alloc 2\n0 alloc 3\nend\n";
     let Ok(journals) = read_journal(rt.alloc(), text) else {
         assert!(rt; false, "a journal");
         return;

@@ -23,32 +23,78 @@ fn first_lines_and_nodes(rt: HostRuntime) {
         (b"thp-journal 1\nend\n", 2, TextKind::BadOrder),
         (b"thp-journal 1\nthp-journal 9\n", 2, TextKind::BadNumber),
         (b"thp-journal 1\nthp-journal 1\n", 2, TextKind::BadOrder),
-        (b"thp-journal 1\nnode 1 blocks 4\nend\n", 2, TextKind::BadOrder),
+        (
+            b"thp-journal 1\nnode 1 blocks 4\nend\n",
+            2,
+            TextKind::BadOrder,
+        ),
         (b"thp-journal 1\nnode 0\n", 2, TextKind::BadWord),
         (b"thp-journal 1\nnode 0 blocks 0\n", 2, TextKind::BadNumber),
     ];
     for (text, line, kind) in rows {
-        assert!(rt; first_fault(rt.alloc(), text) == Some((line, kind)), "{line} {kind}");
+        assert!(rt;
+            first_fault(rt.alloc(), text) == Some((line, kind)),
+            "{line} {kind}"
+        );
     }
 }
 
 #[test]
 fn journal_faults(rt: HostRuntime) {
     let rows: [(&[u8], TextKind); 14] = [
-        (b"thp-journal 1\nnode 0 blocks 4\n0 taken 0 0\n", TextKind::BadCount),
-        (b"thp-journal 1\nnode 0 blocks 4\n0 fly 0\n", TextKind::BadWord),
-        (b"thp-journal 1\nnode 0 blocks 4\n0  close\n", TextKind::BadWord),
+        (
+            b"thp-journal 1\nnode 0 blocks 4\n0 taken 0 0\n",
+            TextKind::BadCount,
+        ),
+        (
+            b"thp-journal 1\nnode 0 blocks 4\n0 fly 0\n",
+            TextKind::BadWord,
+        ),
+        (
+            b"thp-journal 1\nnode 0 blocks 4\n0  close\n",
+            TextKind::BadWord,
+        ),
         (b"thp-journal 1\nnode 0 blocks 4\n0\n", TextKind::BadWord),
-        (b"thp-journal 1\nnode 0 blocks 4\n64 close\n", TextKind::BadNumber),
-        (b"thp-journal 1\nnode 0 blocks 4\n0 unpin 0 stays 3-3\n", TextKind::BadSet),
-        (b"thp-journal 1\nnode 0 blocks 4\n0 unpin 0 stays 0-1,2\n", TextKind::BadSet),
-        (b"thp-journal 1\nnode 0 blocks 4\n0 unpin 0 stays 5,3\n", TextKind::BadSet),
-        (b"thp-journal 1\nnode 0 blocks 4\n0 unpin 0 stays 512\n", TextKind::BadSet),
-        (b"thp-journal 1\nnode 0 blocks 4\n0 unpin 0 stays 1-2-3\n", TextKind::BadSet),
-        (b"thp-journal 1\nnode 0 blocks 4\n0 unpin 0 gone\n", TextKind::BadWord),
-        (b"thp-journal 1\nnode 0 blocks 4\n0 unpin 0\n", TextKind::BadCount),
-        (b"thp-journal 1\nnode 0 blocks 4\n0 write 0 0 1\n", TextKind::BadWord),
-        (b"thp-journal 1\nnode 0 blocks 4\n0 pin \t\n", TextKind::BadByte),
+        (
+            b"thp-journal 1\nnode 0 blocks 4\n64 close\n",
+            TextKind::BadNumber,
+        ),
+        (
+            b"thp-journal 1\nnode 0 blocks 4\n0 unpin 0 stays 3-3\n",
+            TextKind::BadSet,
+        ),
+        (
+            b"thp-journal 1\nnode 0 blocks 4\n0 unpin 0 stays 0-1,2\n",
+            TextKind::BadSet,
+        ),
+        (
+            b"thp-journal 1\nnode 0 blocks 4\n0 unpin 0 stays 5,3\n",
+            TextKind::BadSet,
+        ),
+        (
+            b"thp-journal 1\nnode 0 blocks 4\n0 unpin 0 stays 512\n",
+            TextKind::BadSet,
+        ),
+        (
+            b"thp-journal 1\nnode 0 blocks 4\n0 unpin 0 stays 1-2-3\n",
+            TextKind::BadSet,
+        ),
+        (
+            b"thp-journal 1\nnode 0 blocks 4\n0 unpin 0 gone\n",
+            TextKind::BadWord,
+        ),
+        (
+            b"thp-journal 1\nnode 0 blocks 4\n0 unpin 0\n",
+            TextKind::BadCount,
+        ),
+        (
+            b"thp-journal 1\nnode 0 blocks 4\n0 write 0 0 1\n",
+            TextKind::BadWord,
+        ),
+        (
+            b"thp-journal 1\nnode 0 blocks 4\n0 pin \t\n",
+            TextKind::BadByte,
+        ),
     ];
     for (text, kind) in rows {
         assert!(rt; first_fault(rt.alloc(), text) == Some((3, kind)), "{kind}");
@@ -61,14 +107,38 @@ fn journal_faults(rt: HostRuntime) {
 fn order_faults(rt: HostRuntime) {
     let rows: [(&[u8], TextKind); 9] = [
         (b"thp-journal 2\nnode 0 blocks 4\n", TextKind::BadWord),
-        (b"thp-journal 1\nnode 0 blocks 4 order 9\n", TextKind::BadCount),
-        (b"thp-journal 2\nnode 0 blocks 4 order 1\n", TextKind::BadNumber),
-        (b"thp-journal 2\nnode 0 blocks 4 order 10\n", TextKind::BadNumber),
-        (b"thp-journal 2\nnode 0 blocks 4 order\n", TextKind::BadCount),
-        (b"thp-journal 3\nnode 0 blocks 4 order 9\n", TextKind::BadWord),
-        (b"thp-journal 3\nnode 0 blocks 4 order 2 underused 4\n", TextKind::BadNumber),
-        (b"thp-journal 3\nnode 0 blocks 4 order 2 underused on\n", TextKind::BadNumber),
-        (b"thp-journal 3\nnode 0 blocks 4 order 2 underused\n", TextKind::BadCount),
+        (
+            b"thp-journal 1\nnode 0 blocks 4 order 9\n",
+            TextKind::BadCount,
+        ),
+        (
+            b"thp-journal 2\nnode 0 blocks 4 order 1\n",
+            TextKind::BadNumber,
+        ),
+        (
+            b"thp-journal 2\nnode 0 blocks 4 order 10\n",
+            TextKind::BadNumber,
+        ),
+        (
+            b"thp-journal 2\nnode 0 blocks 4 order\n",
+            TextKind::BadCount,
+        ),
+        (
+            b"thp-journal 3\nnode 0 blocks 4 order 9\n",
+            TextKind::BadWord,
+        ),
+        (
+            b"thp-journal 3\nnode 0 blocks 4 order 2 underused 4\n",
+            TextKind::BadNumber,
+        ),
+        (
+            b"thp-journal 3\nnode 0 blocks 4 order 2 underused on\n",
+            TextKind::BadNumber,
+        ),
+        (
+            b"thp-journal 3\nnode 0 blocks 4 order 2 underused\n",
+            TextKind::BadCount,
+        ),
     ];
     for (text, kind) in rows {
         assert!(rt; first_fault(rt.alloc(), text) == Some((2, kind)), "{kind}");
@@ -77,7 +147,8 @@ fn order_faults(rt: HostRuntime) {
 
 #[test]
 fn each_prefix_is_cut(rt: HostRuntime) {
-    let text = b"thp-journal 1\nnode 0 blocks 4\n0 alloc 0\n0 splitpmd 0\n0 unmapsub 0 0 1 queued -\nend\n";
+    let text =
+        b"thp-journal 1\nnode 0 blocks 4\n0 alloc 0\n0 splitpmd 0\n0 unmapsub 0 0 1 queued -\nend\n";
     for end in 0..text.len() {
         let prefix = &text[..end];
         let whole_lines = prefix.iter().filter(|b| **b == b'\n').count();

@@ -1,5 +1,5 @@
 -- How often blocks are held, by the history.
-use Rattle.std.proofs.Common.{◌≡◌, ◌≢◌, ℕ, suc, zero, ◌+◌, ◌<◌, ◌≤◌, Bool, true, false, cond, not, ◌&&◌, ◌||◌, List, [], ◌∷◌, ◌++◌, refl, ap, sym, ◌∙◌, arith, inl, inr, nat_eq, eq-eqb, ne_eqb, Option, Some, None}
+use Rattle.std.proofs.Common.{◌≡◌, ℕ, ◌+◌, ◌<◌, Bool, true, false, cond, not, ◌&&◌, ◌||◌, List, [], ◌∷◌, ◌++◌, refl, ap, sym, ◌∙◌, arith, inl, inr, nat_eq, eq-eqb, ne_eqb, Option, Some, None}
 use Rattle.std.specs.Prelude.{count_by}
 use Rattle.std.specs.List.{fold, list_any}
 use Rattle.std.proofs.lemmas.List.Sums.{fold_push}
@@ -9,7 +9,7 @@ use Rattle.thp_model.specs.declared.events.Outcome.{Outcome}
 use Rattle.thp_model.specs.declared.events.Outcome.TheVariants.{Freed}
 use Rattle.thp_model.specs.declared.events.What.{What}
 use Rattle.thp_model.specs.declared.events.What.TheVariants.{Alloc, UnmapWhole, UnmapSub, Unpin}
-use Rattle.thp_model.specs.Counts.{allocates, frees, is_alloc, is_freed, is_live}
+use Rattle.thp_model.specs.Counts.{allocates, frees, is_alloc, is_freed}
 use Rattle.thp_model.specs.Frames.{places, places_live, block_in_use}
 use Rattle.thp_model.specs.History.{History, by, count_of, some_event}
 use Rattle.thp_model.proofs.Bools.{and-false, and-true, or_first, or_second, or-false}

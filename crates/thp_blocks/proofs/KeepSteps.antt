@@ -1,11 +1,10 @@
 -- What is kept of the events stays true with one more event.
-use Rattle.std.proofs.Common.{◌≡◌, ◌≢◌, ℕ, suc, zero, ◌+◌, ◌-◌, ◌<◌, ◌≤◌, Bool, true, false, cond, not, ◌&&◌, List, [], ◌∷◌, ◌++◌, length, set, get_or, refl, ap, sym, ◌∙◌, subst, arith, inl, inr, nat_eq, eq-eqb, ne_eqb, length-set, length-append, Option, Some, None, replicate}
+use Rattle.std.proofs.Common.{◌≡◌, ℕ, ◌+◌, ◌<◌, ◌≤◌, Bool, true, false, cond, not, ◌&&◌, List, [], ◌∷◌, ◌++◌, length, set, get_or, refl, ap, sym, ◌∙◌, subst, arith, inl, inr, nat_eq, length-set, length-append, Option, Some, None, replicate}
 use Rattle.std.specs.Prelude.{count_by}
-use Rattle.std.specs.List.{fold, range_with_len}
+use Rattle.std.specs.List.{range_with_len}
 use Rattle.std.proofs.lemmas.List.{get_or-set_same, get_or-set_other}
 use Rattle.std.proofs.lemmas.Bool.Decides.{eqb_tells}
 use Rattle.thp_model.specs.declared.events.Event.{Event}
-use Rattle.thp_model.specs.declared.events.What.{What}
 use Rattle.thp_model.specs.declared.events.What.TheVariants.{Alloc}
 use Rattle.thp_model.specs.declared.shape.Shape.{Shape}
 use Rattle.thp_model.specs.BlockLaws.{first_that, least_free}
@@ -18,7 +17,7 @@ use Rattle.thp_blocks.specs.declared.pages.Known.TheVariants.{Freed, Holds}
 use Rattle.thp_blocks.specs.Chains.{IsChain, IsCovered}
 use Rattle.thp_blocks.specs.Freeing.{freed_page}
 use Rattle.thp_blocks.specs.Holders.{least_of}
-use Rattle.thp_blocks.specs.Keeping.{is_unfreed, times_held, with_its_block, blocks_of, IsKnown, Keeps}
+use Rattle.thp_blocks.specs.Keeping.{is_unfreed, times_held, blocks_of, IsKnown, Keeps}
 use Rattle.thp_model.proofs.Bools.{and-false, and-true}
 use Rattle.thp_blocks.proofs.Chaining.{chain_new, chain_kept}
 use Rattle.thp_blocks.proofs.FreeWords.{zeros-get, zeros-length}

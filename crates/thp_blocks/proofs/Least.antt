@@ -1,12 +1,12 @@
 -- The least block that isn't held.
-use Rattle.std.proofs.Common.{◌≡◌, ◌≢◌, ℕ, suc, zero, ◌+◌, ◌-◌, ◌*◌, ◌/◌, ◌<◌, ◌≤◌, Bool, true, false, cond, not, ◌&&◌, List, length, set, get_or, refl, ap, sym, ◌∙◌, subst, arith, inl, inr, nat_eq, nat_lt, eq-eqb, ne_eqb, length-set, replicate, Option, Some, None}
+use Rattle.std.proofs.Common.{◌≡◌, ℕ, suc, zero, ◌+◌, ◌*◌, ◌<◌, ◌≤◌, Bool, true, false, cond, ◌&&◌, List, length, set, get_or, refl, ap, sym, ◌∙◌, arith, inl, inr, nat_eq, nat_lt, eq-eqb, ne_eqb, length-set, replicate}
 use Rattle.std.specs.List.{range_with_len}
 use Rattle.std.proofs.lemmas.List.{get_or-set_same, get_or-set_other, get_or_past}
 use Rattle.std.proofs.lemmas.Bool.{cases_lt, lt-ltb}
 use Rattle.std.proofs.lemmas.Bool.Decides.{eqb_tells}
 use Rattle.thp_model.specs.BlockLaws.{first_that}
 use Rattle.thp_model.specs.Words.{in_words}
-use Rattle.thp_model.proofs.Bools.{and_both, and_no, and-false, and-true}
+use Rattle.thp_model.proofs.Bools.{and_both, and-false, and-true}
 use Rattle.thp_blocks.specs.Holders.{least_of, AreFree}
 use Rattle.thp_blocks.proofs.FreeWords.{zeros-get, zeros-length}
 

@@ -1,11 +1,12 @@
 -- What is kept after the code noted an event.
-use Rattle.std.proofs.Common.{◌≡◌, ℕ, ◌+◌, ◌<◌, ◌≤◌, Bool, true, false, cond, List, [], ◌∷◌, ◌++◌, length, set, get_or, refl, ap, sym, ◌∙◌, subst, nat_eq, Option, Some, None}
+use Rattle.std.proofs.Common.{◌≡◌, ℕ, ◌+◌, ◌<◌, false, cond, List, [], ◌∷◌, ◌++◌, length, set, take, get_or, refl, ap, sym, ◌∙◌, subst, nat_eq, Option, Some, None}
 use Rattle.std.specs.Prelude.{count_by}
+use Rattle.std.proofs.lemmas.List.Sums.{fold_push}
 use Rattle.thp_model.specs.declared.events.Event.{Event}
 use Rattle.thp_model.specs.declared.events.What.{What}
 use Rattle.thp_model.specs.declared.events.What.TheVariants.{Alloc}
 use Rattle.thp_model.specs.declared.shape.Shape.{Shape}
-use Rattle.thp_model.specs.BlockLaws.{event_with, least_free}
+use Rattle.thp_model.specs.BlockLaws.{event_with, least_free, with_least_blocks}
 use Rattle.thp_model.specs.Counts.{is_alloc}
 use Rattle.thp_model.specs.History.{History, by}
 use Rattle.thp_blocks.specs.declared.page_blocks.Allocation.{Allocation}
@@ -16,7 +17,8 @@ use Rattle.thp_blocks.specs.Freeing.{freed_page, IsInside}
 use Rattle.thp_blocks.specs.Holders.{least_of}
 use Rattle.thp_blocks.specs.Keeping.{Keeps}
 use Rattle.thp_blocks.specs.State.{BlocksState}
-use Rattle.thp_blocks.proofs.KeepSteps.{least_is, keeps_quiet, keeps_alloc, keeps_alloc_freed, keeps_covered, keeps_free, keeps_free_again, keeps_known}
+use Rattle.thp_model.proofs.ListPlaces.{step_of}
+use Rattle.thp_blocks.proofs.KeepSteps.{least_is, keeps_quiet, keeps_alloc, keeps_alloc_freed, keeps_covered, keeps_free, keeps_free_again}
 
 -- an event that frees a page is no allocation
 pub freed_other : (w : What) (p : ℕ) → freed_page w ≡ Some p → is_alloc w ≡ false
@@ -100,3 +102,22 @@ noted_quiet s h after counts known allocs e keeps f n a =
 pub other_is : (w : What) → ((p b : ℕ) → w ≡ Alloc p b → ⊥) → is_alloc w ≡ false
 other_is (Alloc p b) f = absurd (f p b refl)
 other_is w f = refl
+
+-- the history with the least blocks, with one more event
+pub least_push : (s : Shape) (h : History) (e : Event) → with_least_blocks s (h ++ e ∷ []) ≡ with_least_blocks s h ++ event_with (least_free s (with_least_blocks s h)) e ∷ []
+unfolding with_least_blocks
+least_push s h e = fold_push (λ k (x : Event). k ++ event_with (least_free s k) x ∷ []) [] h e
+
+-- no events
+pub least_first : (s : Shape) → with_least_blocks s [] ≡ []
+unfolding with_least_blocks
+least_first s = refl
+
+-- the events of a list so far, with one more
+pub least_step : (s t : Shape) (xs : List Event) (k : ℕ) (e d : Event) (h told : History) → k < length xs → e ≡ get_or xs k e → told ≡ with_least_blocks s (take k xs) → t ≡ s → h ≡ told →
+    d ≡ event_with (least_free t h) e → told ++ d ∷ [] ≡ with_least_blocks s (take (k + 1) xs)
+least_step s t xs k e d h told below there so_far same before placed =
+    ap (λ (x : Event). told ++ x ∷ []) (placed ∙ ap (λ (u : Shape). event_with (least_free u h) e) same ∙ ap (λ (i : History). event_with (least_free s i) e) (before ∙ so_far))
+    ∙ ap (λ (i : History). i ++ event_with (least_free s (with_least_blocks s (take k xs))) e ∷ []) so_far
+    ∙ sym (least_push s (take k xs) e)
+    ∙ ap (λ (i : History). with_least_blocks s i) (sym (step_of xs k e below there))

@@ -11,5 +11,7 @@ mod least_blocks;
 mod page_blocks;
 mod pages;
 mod past;
+mod slices;
 
 pub use least_blocks::LeastBlocks;
+pub use slices::with_least_blocks;

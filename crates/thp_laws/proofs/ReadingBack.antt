@@ -1,6 +1,7 @@
 -- Legal journals are read back from their text.
-use Rattle.std.proofs.Common.{◌≡◌, ◌<◌, ◌≤◌, ◌+◌, ◌^◌, ℕ, zero, suc, List, [], ◌∷◌, length, Some, refl, subst, arith, length-append, codes}
+use Rattle.std.proofs.Common.{◌≡◌, ◌<◌, ◌≤◌, ◌+◌, ◌^◌, ℕ, zero, suc, List, [], ◌∷◌, length, Some, Option, None, refl, ap, sym, subst, ◌∙◌, arith, length-append, codes}
 use Rattle.std.specs.Prelude.{All, slice_get}
+use Rattle.std.specs.Result.{result_unwrap_or}
 use Rattle.std.specs.List.{AllByRecursion, AllZip, flat_map}
 use Rattle.std.proofs.lemmas.List.{length-map}
 use Rattle.std.proofs.lemmas.List.Elements.{recursion_from_All, All-cons, All-nil}
@@ -13,10 +14,12 @@ use Rattle.thp_journal.specs.declared.version.Version.{Version as Written}
 use Rattle.thp_journal.specs.EventLines as written
 use Rattle.thp_journal.specs.Journals as journal
 use Rattle.thp_journal.specs.Journals.{Journal, version_of, lines_of_node, journal_lines, journal_text}
+use Rattle.thp_read.specs.declared.journals.Journals.{Journals}
 use Rattle.thp_read.specs.declared.journals.NodeJournal.{NodeJournal}
+use Rattle.thp_read.specs.Answers.{IsLegalNode, TellsIllegal}
 use Rattle.thp_read.specs.declared.version.Version.{Version}
 use Rattle.thp_read.specs.Journals.{node_journal}
-use Rattle.thp_laws.specs.ReadBack.{IsJournal, IsSameNode, nodes_from, TextsAreReadBack, NothingElseChanges, WhatIsReadIsLegal}
+use Rattle.thp_laws.specs.ReadBack.{IsJournal, IsSameNode, nodes_from, with_lines, TextsAreReadBack, TextsAreCalledLegal, NothingElseChanges, WhatIsReadIsLegal}
 use Rattle.thp_laws.specs.Tellable.{read_version, IsTellable, IsToldJournal}
 use Rattle.thp_laws.proofs.JournalsBack.{text_back}
 use Rattle.thp_laws.proofs.LegalNumbers.{each_from_places, legal_numbers}
@@ -107,3 +110,23 @@ legal_from line (j ∷ js) is =
 -- what is read is legal
 pub all_legal : WhatIsReadIsLegal
 all_legal js are = legal_from 2 js (recursion_from_All IsJournal js are.each)
+
+-- what holds of each node holds at a place
+node_at : (P : NodeJournal → Type 0) (nodes : List NodeJournal) (i : ℕ) (node : NodeJournal) → AllByRecursion P nodes → slice_get nodes i ≡ Some node → P node
+node_at P [] i node all e = absurd cc
+node_at P (x ∷ nodes) zero node all e = let same : x ≡ node = cc in subst P same all.0
+node_at P (x ∷ nodes) (suc i) node all e = node_at P nodes i node all.1 e
+
+-- of legal nodes no line is told
+no_line : (nodes : List NodeJournal) (line : Option ℕ) → All IsLegalNode nodes → TellsIllegal nodes line → line ≡ None
+no_line nodes None legal tells = refl
+no_line nodes (Some line) legal tells =
+    let node : IsLegalNode tells.node = node_at IsLegalNode nodes tells.place tells.node (recursion_from_All IsLegalNode nodes legal) tells.here in
+    let misfit = tells.first.misfit in
+    absurd (misfit.misfit.2 (node.each tells.first.place misfit.misfit.0 misfit.misfit.1))
+
+-- so a check of the text tells no line
+pub called_legal : TextsAreCalledLegal
+called_legal js read line are is tells =
+    let same : read ≡ with_lines js = ap (λ r. result_unwrap_or r read) (sym is ∙ all_read_back js are) in
+    no_line (with_lines js).nodes line (all_legal js are) (subst (λ (journals : Journals). TellsIllegal journals.nodes line) same tells)

@@ -1,5 +1,5 @@
 -- What is read of a journal text: the journals that it was written of, but for their blocks.
-use Rattle.std.specs.Prelude.{◌≡◌, ◌≤◌, ◌<◌, ◌+◌, ℕ, All, List, [], ◌∷◌, length, Ok}
+use Rattle.std.specs.Prelude.{◌≡◌, ◌≤◌, ◌<◌, ◌+◌, ℕ, All, List, [], ◌∷◌, length, Option, None, Ok}
 use Rattle.std.specs.List.{AllZip}
 use Rattle.thp_model.specs.declared.events.Event.{Event}
 use Rattle.thp_model.specs.BlockLaws.{SameButBlocks}
@@ -8,6 +8,7 @@ use Rattle.thp_model.specs.Shapes.{IsShape}
 use Rattle.thp_journal.specs.Journals.{Journal, journal_text}
 use Rattle.thp_read.specs.declared.journals.Journals.{Journals}
 use Rattle.thp_read.specs.declared.journals.NodeJournal.{NodeJournal}
+use Rattle.thp_read.specs.Answers.{TellsIllegal}
 use Rattle.thp_read.specs.Journals.{journals_of, node_journal}
 
 -- what happened on a node is legal, and its callers are numbered below 64
@@ -49,3 +50,8 @@ NothingElseChanges = (journals : List Journal) → AllZip IsSameNode journals (w
 -- and what is read of each node is legal
 abbrev pub WhatIsReadIsLegal : Type 0
 WhatIsReadIsLegal = (journals : List Journal) → AreTellable journals → All (λ (node : NodeJournal). IsLegal node.shape node.events) (with_lines journals).nodes
+
+-- so a check of the text tells no line
+abbrev pub TextsAreCalledLegal : Type 0
+TextsAreCalledLegal =
+    (journals : List Journal) (read : Journals) (line : Option ℕ) → AreTellable journals → journals_of (journal_text journals) ≡ Ok read → TellsIllegal read.nodes line → line ≡ None

@@ -1,10 +1,3 @@
-pub mod ReportLaws
 pub mod DeviceLaws
-pub mod OptionLaws
-pub mod LineLaws
-pub mod ChainLaws
-pub mod CommandLineLaws
-pub mod StepLaws
-pub mod RunLaws
-pub mod OneNodeLaws
+pub mod PassageLaws
 pub mod OutcomeLaws

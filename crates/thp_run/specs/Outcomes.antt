@@ -10,17 +10,20 @@ use Rattle.clap.specs.declared.error.kind.ErrorKind.TheVariants.{DisplayHelp, Di
 use Rattle.thp_text.specs.declared.fault.TextKind.{TextKind}
 use Rattle.thp_text.specs.declared.settings.Settings.{Settings}
 use Rattle.thp_text.specs.TextKinds.{kind_word}
+use Rattle.thp_run.specs.declared.ending.Ending.{Ending}
+use Rattle.thp_run.specs.declared.ending.Ending.TheVariants.{Written, Illegal}
 use Rattle.thp_run.specs.declared.ending.ProgramFault.{ProgramFault}
-use Rattle.thp_run.specs.declared.ending.ProgramFault.TheVariants.{Run, Usage, NoText}
+use Rattle.thp_run.specs.declared.ending.ProgramFault.TheVariants.{Run, Usage, NoText, Orders, Underused}
 use Rattle.thp_run.specs.declared.ending.WordsFault.{WordsFault}
 use Rattle.thp_run.specs.declared.ending.WordsFault.TheVariants as words
 use Rattle.thp_run.specs.declared.fault.RunFault.{RunFault}
 use Rattle.thp_run.specs.declared.fault.RunFault.TheVariants.{Text, OutOfMemory, Read, Write}
-use Rattle.thp_run.specs.declared.line.Line.{Line}
-use Rattle.thp_run.specs.CommandLine.{FailsAsWords, HoldsWords}
+use Rattle.thp_line.specs.declared.line.Line.{Line}
+use Rattle.thp_line.specs.CommandLine.{FailsAsWords, HoldsWords}
+use Rattle.thp_run.specs.Choices.{HasBadOrders, HasOnlyBadThresholds, IsSettingsOf}
 use Rattle.thp_run.specs.Devices.{WritesFront}
-use Rattle.thp_run.specs.NewNodes.{IsServed}
-use Rattle.thp_run.specs.Programs.{Ends}
+use Rattle.thp_run.specs.Programs.{RunEnds}
+use Rattle.thp_run.specs.Verdicts.{CheckEnds}
 
 -- ---- lines on standard error, and exit statuses
 
@@ -43,6 +46,8 @@ fault_line Write = line_of (codes "thpsplit: write failed")
 abbrev pub told_text : ProgramFault → List ℕ
 told_text (Run fault) = fault_line fault
 told_text (Usage text) = string_bytes text
+told_text Orders = line_of (codes "thpsplit: bad orders")
+told_text Underused = line_of (codes "thpsplit: bad underused")
 told_text NoText = line_of (codes "error: invalid UTF-8 was detected in one or more arguments")
 
 -- 2 where the script is at fault, 3 where memory was refused or a device failed
@@ -56,21 +61,28 @@ status_of Write = 3
 abbrev pub exit_status : ProgramFault → ℕ
 exit_status (Run fault) = status_of fault
 exit_status (Usage text) = 2
+exit_status Orders = 2
+exit_status Underused = 2
 exit_status NoText = 2
+
+-- 1 where a journal is illegal
+abbrev pub end_status : Ending → ℕ
+end_status Written = 0
+end_status Illegal = 1
 
 -- ---- devices
 
 -- a writer: the bytes that it held before and holds after, where they are known, and whether it failed
-pub record Written : Type 0 where
+pub record Device : Type 0 where
   pub before : Option (List ℕ)
   pub after : Option (List ℕ)
   pub failed : Bool
 
-abbrev pub IsUntouched : Written → Type 0
+abbrev pub IsUntouched : Device → Type 0
 IsUntouched w = Keeps w.before w.after × (w.failed ≡ false)
 
 -- the writer took the text, or a front of it where it failed
-abbrev pub Takes : Written → List ℕ → Type 0
+abbrev pub Takes : Device → List ℕ → Type 0
 Takes w text = MatchBool w.failed (WritesFront w.before w.after text) (Appends w.before w.after text)
 
 -- ---- what was done
@@ -80,29 +92,34 @@ abbrev pub given_words : Result (Vec (String Global) Global) WordsFault → Resu
 given_words (Ok words) = Ok (map string_bytes words.items)
 given_words (Err fault) = Err fault
 
--- one node of the line's blocks, with pages of order 9, one worker, and the line's report
-pub record IsSettingsOf (line : Line) (s : Settings) : Type 0 where
-  pub served : IsServed s
-  pub blocks : s.blocks ≡ line.blocks
-  pub workers : s.workers ≡ 1
-  pub report : s.report ≡ line.report
+-- the run that a line asks for ended so
+pub record Runs (line : Line) (input : Option (List ℕ)) (input_failed : Bool) (output : Device) (result : Result (Unit {0}) RunFault) : Type 0 where
+  pub asked : line.check ≡ false
+  pub settings : Settings
+  pub settings_are : IsSettingsOf line settings
+  pub ends : RunEnds settings input output.before output.after input_failed output.failed result
 
--- the words ask for a run under some settings, and the run ended so
-pub record Ran (given : Result (List (List ℕ)) WordsFault) (input : Option (List ℕ)) (input_failed : Bool) (output : Written) (result : Result (Unit {0}) RunFault) : Type 0 where
-  pub words : List (List ℕ)
-  pub given_is : given ≡ Ok words
+-- the check that a line asks for ended so
+pub record Checks (line : Line) (input : Option (List ℕ)) (input_failed : Bool) (output : Device) (result : Result Bool RunFault) : Type 0 where
+  pub asked : line.check ≡ true
+  pub ends : CheckEnds input output.before output.after input_failed output.failed result
+
+-- what was done for a line, by how it ended
+abbrev pub Does : Line → Option (List ℕ) → Bool → Device → Result Ending ProgramFault → Type 0
+Does line input input_failed output (Ok Written) = Runs line input input_failed output (Ok tt) ⊎ Checks line input input_failed output (Ok true)
+Does line input input_failed output (Ok Illegal) = Checks line input input_failed output (Ok false)
+Does line input input_failed output (Err (Run fault)) = Runs line input input_failed output (Err fault) ⊎ Checks line input input_failed output (Err fault)
+Does line input input_failed output (Err Orders) = (line.check ≡ false) × HasBadOrders line.orders line.nodes × IsUntouched output
+Does line input input_failed output (Err Underused) = (line.check ≡ false) × HasOnlyBadThresholds line × IsUntouched output
+Does line input input_failed output (Err (Usage text)) = ⊥
+Does line input input_failed output (Err NoText) = ⊥
+
+-- the words ask for this line, and that was done
+pub record DidLine (words : List (List ℕ)) (input : Option (List ℕ)) (input_failed : Bool) (output : Device) (result : Result Ending ProgramFault) : Type 0 where
   pub line : Line
   pub held : HoldsWords words line
   pub accepted : FailsAsWords words (Ok line)
-  pub settings : Settings
-  pub settings_are : IsSettingsOf line settings
-  pub ends : Ends settings input output.before output.after input_failed output.failed result
-
--- `clap` answers the words by this error
-pub record IsAnswered (given : Result (List (List ℕ)) WordsFault) (error : Error) : Type 0 where
-  pub words : List (List ℕ)
-  pub given_is : given ≡ Ok words
-  pub answered : FailsAsWords words (Err error)
+  pub does : Does line input input_failed output result
 
 -- help or the version was asked for
 abbrev pub is_request : ErrorKind → Bool
@@ -110,45 +127,44 @@ is_request DisplayHelp = true
 is_request DisplayVersion = true
 is_request _ = false
 
--- the words ask for help or the version, and the writer took `clap`'s text of it, or a front where it failed
-pub record Showed (given : Result (List (List ℕ)) WordsFault) (output : Written) : Type 0 where
-  pub error : Error
-  pub answered : IsAnswered given error
-  pub request : is_request (kind_of error) ≡ true
-  pub text : List ℕ
-  pub taken : Takes output text
-
 -- the writer took a text, or a front of it where it failed, or memory for it was refused
-abbrev pub IsShown : Written → Result (Unit {0}) RunFault → Type 0
+abbrev pub IsShown : Device → Result (Unit {0}) RunFault → Type 0
 IsShown output (Ok _) = (text : List ℕ) × Takes output text × (output.failed ≡ false)
 IsShown output (Err fault) =
     ((text : List ℕ) × Takes output text × (output.failed ≡ true) × (fault ≡ Write))
     ⊎ (IsUntouched output × (fault ≡ OutOfMemory))
 
 -- how an answer of `clap` of this kind ends: shown, told as memory that was refused, or told as a fault of the words
-abbrev pub Answers : ErrorKind → Written → Result (Unit {0}) ProgramFault → Type 0
+abbrev pub Answers : ErrorKind → Device → Result (Unit {0}) ProgramFault → Type 0
 Answers kind output (Ok u) = (is_request kind ≡ true) × IsShown output (Ok u)
 Answers kind output (Err (Run fault)) = ((is_request kind ≡ true) × IsShown output (Err fault)) ⊎ (IsUntouched output × (fault ≡ OutOfMemory))
 Answers kind output (Err (Usage text)) = (is_request kind ≡ false) × (kind ≢ NoMemory) × IsUntouched output
+Answers kind output (Err Orders) = ⊥
+Answers kind output (Err Underused) = ⊥
 Answers kind output (Err NoText) = ⊥
 
--- the words are at fault: they ask for neither a run nor a text
-pub record AreRefused (given : Result (List (List ℕ)) WordsFault) : Type 0 where
+-- an answer ends the program, too
+abbrev pub ended_by : Result (Unit {0}) ProgramFault → Result Ending ProgramFault
+ended_by (Ok _) = Ok Written
+ended_by (Err fault) = Err fault
+
+-- `clap` answers the words by an error, and that was shown or told
+pub record WasAnswered (words : List (List ℕ)) (output : Device) (result : Result Ending ProgramFault) : Type 0 where
   pub error : Error
-  pub answered : IsAnswered given error
-  pub request : is_request (kind_of error) ≡ false
-  pub memory : kind_of error ≢ NoMemory
+  pub refused : FailsAsWords words (Err error)
+  pub answer : Result (Unit {0}) ProgramFault
+  pub answered : Answers (kind_of error) output answer
+  pub ended : result ≡ ended_by answer
+
+-- memory was refused before anything was asked for
+abbrev pub IsShort : Device → Result Ending ProgramFault → Type 0
+IsShort output result = (result ≡ Err (Run OutOfMemory)) × IsUntouched output
 
 -- what was done with the words, the input and standard output, by how it ended
-abbrev pub Served : Result (List (List ℕ)) WordsFault → Option (List ℕ) → Bool → Written → Result (Unit {0}) ProgramFault → Type 0
-Served given input input_failed output (Ok u) =
-    Ran given input input_failed output (Ok u)
-    ⊎ (Showed given output × (output.failed ≡ false))
-Served given input input_failed output (Err (Run fault)) =
-    Ran given input input_failed output (Err fault)
-    ⊎ ((Showed given output × (output.failed ≡ true) × (fault ≡ Write)) ⊎ (IsUntouched output × (fault ≡ OutOfMemory)))
-Served given input input_failed output (Err (Usage text)) = AreRefused given × IsUntouched output
-Served given input input_failed output (Err NoText) = (given ≡ Err words.NotText) × IsUntouched output
+abbrev pub Served : Result (List (List ℕ)) WordsFault → Option (List ℕ) → Bool → Device → Result Ending ProgramFault → Type 0
+Served (Ok words) input input_failed output result = DidLine words input input_failed output result ⊎ (WasAnswered words output result ⊎ IsShort output result)
+Served (Err words.NotText) input input_failed output result = (result ≡ Err NoText) × IsUntouched output
+Served (Err words.OutOfMemory) input input_failed output result = IsShort output result
 
 -- what a fault of a run is told as: without memory for its line the first fault of a text is told as that
 abbrev pub IsToldAs : RunFault → RunFault → Type 0
@@ -161,15 +177,17 @@ IsToldAs Write told = told ≡ Write
 abbrev pub IsEndedAs : ProgramFault → ProgramFault → Type 0
 IsEndedAs (Run fault) ended = (told : RunFault) × IsToldAs fault told × (ended ≡ Run told)
 IsEndedAs (Usage text) ended = ended ≡ Usage text
+IsEndedAs Orders ended = ended ≡ Orders
+IsEndedAs Underused ended = ended ≡ Underused
 IsEndedAs NoText ended = ended ≡ NoText
 
 -- what standard error took, and the exit status
-abbrev pub Tells : Written → ℕ → Result (Unit {0}) ProgramFault → Type 0
-Tells errors status (Ok _) = IsUntouched errors × (status ≡ 0)
+abbrev pub Tells : Device → ℕ → Result Ending ProgramFault → Type 0
+Tells errors status (Ok ending) = IsUntouched errors × (status ≡ end_status ending)
 Tells errors status (Err fault) = Takes errors (told_text fault) × (status ≡ exit_status fault)
 
 -- how the program ends: what it did, what it told of that and its exit status
-pub record Finishes (given : Result (List (List ℕ)) WordsFault) (input : Option (List ℕ)) (input_failed : Bool) (output errors : Written) (status : ℕ) : Type 0 where
-  pub end : Result (Unit {0}) ProgramFault
+pub record Finishes (given : Result (List (List ℕ)) WordsFault) (input : Option (List ℕ)) (input_failed : Bool) (output errors : Device) (status : ℕ) : Type 0 where
+  pub end : Result Ending ProgramFault
   pub served : Served given input input_failed output end
   pub told : Tells errors status end

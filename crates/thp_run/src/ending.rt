@@ -15,6 +15,15 @@ pub enum WordsFault {
     OutOfMemory,
 }
 
+/// How the program ends where it did what it was asked for.
+#[derive(Clone, Copy, Debug, PartialEq, Eq)]
+pub enum Ending {
+    /// What was asked for was written.
+    Written,
+    /// It was, and it tells that a journal isn't legal.
+    Illegal,
+}
+
 /// Why the program didn't do what it was asked for.
 #[derive(Debug, Drop)]
 pub enum ProgramFault {
@@ -22,6 +31,10 @@ pub enum ProgramFault {
     Run(RunFault),
     /// The words of the command line are at fault; the text is `clap`'s.
     Usage(String),
+    /// The option `--orders` lists no orders for the nodes.
+    Orders,
+    /// The option `--underused` lists no thresholds for the nodes.
+    Underused,
     /// A word of the command line isn't text.
     NoText,
 }

@@ -1,29 +1,24 @@
-//! Runs of scripts on memory nodes: the command line, watched devices and reports.
+//! The program `thpsplit`: what it does with the words of its command line, its input and its outputs.
 #![tactic(auto)]
 
+mod checking;
+mod choice;
 mod device;
 mod ending;
 mod fault;
-mod gate;
-mod line;
-mod nodes;
-mod one_node;
 mod program;
-mod reply;
-mod report;
 mod running;
-mod steps;
+mod telling;
 mod watched;
 
-pub use ending::{ProgramFault, WordsFault};
+pub use checking::check_run;
+pub use ending::{Ending, ProgramFault, WordsFault};
 pub use fault::RunFault;
-pub use gate::{Gate, NoGate};
-pub use line::{Line, read_line};
 pub use program::run_program;
-pub use reply::Reply;
 pub use running::run;
+pub use thp_line::{Line, read_line};
 pub use thp_text::{
-    Command, Op, ReadFault, Report, Script, Sequence, Settings, TextKind, Vocabulary, read_script,
-    read_script_of,
+    Command, Op, ReadFault, Report, Script, Sequence, Settings, TextKind, read_script,
 };
+pub use thp_work::{Gate, NoGate};
 pub use watched::Watched;

@@ -87,8 +87,7 @@ put c old f g (x ∷ vs) v [] w w' rest stay at works a =
     let here : Works c old g v.items w' = subst (λ k. Works k old g v.items w') place works in
     (rw is here, all_work_as vs rest (c + 1) old old f g (λ k lo hi. stay k (omega (arith, lo)) (omega (arith, hi)) (λ e. absurd (omega (arith, lo, e)))) a.1)
 put c old f g (x ∷ vs) v (d ∷ done) w w' rest stay at works a =
-    let place : c + suc (length done) ≡ c + 1 + length done = omega arith in
-    (
+    let place : c + suc (length done) ≡ c + 1 + length done = omega arith in (
       stay c (omega arith) (omega arith) (λ e. absurd (omega (arith, e))) x.items d a.0,
       put (c + 1) old f g vs v done w w' rest (λ k lo hi other. stay k (omega (arith, lo)) (omega (arith, hi)) (λ e. other (e ∙ place))) at (subst (λ k. Works k old g v.items w') place works) a.1,
     )

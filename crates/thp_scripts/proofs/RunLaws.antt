@@ -8,19 +8,21 @@ use Rattle.std.proofs.lemmas.Grind.{flat_map-append}
 use Rattle.std.proofs.lemmas.List.{append-nil, length-map}
 use Rattle.std.proofs.lemmas.List.Elements.{All-append, All-head, All-tail}
 use Rattle.thp_model.specs.declared.events.Event.{Event}
+use Rattle.thp_model.specs.declared.shape.Shape.{Shape}
 use Rattle.thp_model.specs.History.{History, events_of}
 use Rattle.thp_model.specs.Legal.{IsLegal}
 use Rattle.thp_model.proofs.LegalSteps.{legal_none}
 use Rattle.thp_cell.proofs.Fronts.{all_front}
 use Rattle.thp_text.specs.declared.script.Command.{Command}
 use Rattle.thp_text.specs.declared.script.Script.{Script}
+use Rattle.thp_work.specs.declared.reply.Answer.{Answer}
 use Rattle.thp_work.specs.declared.reply.Section.{Section}
 use Rattle.thp_work.specs.declared.reply.Worked.{Worked}
 use Rattle.thp_work.specs.Does.{Open}
 use Rattle.thp_work.specs.Fronts.{Fronts, Goes, HasCaller, SameHolding, SameNodes}
 use Rattle.thp_work.specs.Halves.{AllWork, KnowsOf}
 use Rattle.thp_work.specs.Sections.{Made, Turn, IsTurn, Steps, IsMade, Carries, Works, WorksTo, IsDoneFor, command_of, steps_of, own_events, batches_after, closing}
-use Rattle.thp_work.proofs.HalvesLaws.{works_from}
+use Rattle.thp_work.proofs.StepLaws.{is_made_stays}
 use Rattle.thp_scripts.specs.Runs.{IsAfterSetup, IsAnswered, IsRun, IsSection, no_batches, sections_of}
 use Rattle.thp_scripts.specs.Sections.{GoesFrom, IsNew, RunsTo, commands_in, numbered}
 
@@ -59,7 +61,7 @@ steps_of-append ts us = flat_map-append (λ (t : Turn). t.steps) ts us
 
 -- the section of a caller who did nothing before
 module _ (c : ℕ) (old new : Fronts) (commands : List Command) (w : Worked) (works : Works c old new commands w) (done : IsDoneFor w) (idle : (n : ℕ) → events_of c (old.front n) ≡ []) (shut : (n : ℕ) → old.batches c n ≡ None)
-    (after : 0 < c → (n : ℕ) → length (events_of 0 (new.front n)) ≤ length (old.front n)) where
+    (inside : c ≡ 0 → (n : ℕ) → length (new.front n) ≤ length (events_of 0 (new.front n))) (after : 0 < c → (n : ℕ) → length (events_of 0 (new.front n)) ≤ length (old.front n)) where
   no_open : old.batches c ≡ no_batches
   no_open = λ i n. shut n i
 
@@ -79,11 +81,35 @@ module _ (c : ℕ) (old new : Fronts) (commands : List Command) (w : Worked) (wo
         in_order = st.in_order;
         carries = subst (λ bs. Carries bs (steps_of (e.turns ++ e.closed))) no_open st.carries;
         whole = λ n. st.own n ∙ ap (λ h. h ++ own_events n (steps_of (e.turns ++ e.closed))) (idle n);
+        within_setup = λ zero k d lt.
+            let made = st.each k d lt in
+            let last = inside zero (get_or (steps_of (e.turns ++ e.closed)) k d).node in
+            omega (arith, made.within, last);
         after_setup = λ some k d lt.
             let behind = st.behind k d lt in
             let first = after some (get_or (steps_of (e.turns ++ e.closed)) k d).node in
             omega (arith, behind, first);
       }
+
+-- setup stays setup where the histories go on with events of others
+setup_later : (nodes : ℕ) (shape : ℕ → Shape) (h k : ℕ → History) (commands : List Command) (answers : List Answer) → ((n : ℕ) → (more : History) × (k n ≡ h n ++ more)) → ((n : ℕ) → events_of 0 (k n) ≡ events_of 0 (h n)) → IsSection nodes shape h 0 commands answers → IsSection nodes shape k 0 commands answers
+setup_later nodes shape h k commands answers grown same s = record {
+  turns = s.turns;
+  closed = s.closed;
+  each = s.each;
+  done = s.done;
+  answered = s.answered;
+  closes = s.closes;
+  stand = λ i d lt. is_made_stays shape h k 0 grown (get_or (steps_of (s.turns ++ s.closed)) i d) (s.stand i d lt);
+  in_order = s.in_order;
+  carries = s.carries;
+  whole = λ n. same n ∙ s.whole n;
+  within_setup = λ zero i d lt.
+      let last = s.within_setup zero i d lt in
+      let length-same = ap length (same (get_or (steps_of (s.turns ++ s.closed)) i d).node) in
+      omega (arith, last, length-same);
+  after_setup = λ some. absurd (omega (arith, some));
+}
 
 length-numbered : (k : ℕ) (ws : List Worked) → length (numbered k ws) ≡ length ws
 length-numbered k [] = refl
@@ -160,13 +186,14 @@ module _ (f g : Fronts) (script : Script) (sections : List Section) (new : IsNew
   setup_part n = setup_knows.part n ∙ setup_alone n
 
   setup_section : IsSection f.nodes f.shape g.front 0 script.setup r.setup.answers.items
-  setup_section = section_by 0 f g script.setup r.setup
-      (works_from 0 f f r.between g script.setup r.setup (record { cells = refl; nodes = refl; shape = refl; callers = refl }) (λ n. refl) (λ n. refl) (same_nodes r.between g r.goes.same) r.goes.grown setup_knows r.setup_works)
-      r.setup_done (nothing 0) (new.batches 0) (λ some. absurd (omega (arith, some)))
+  setup_section =
+      let first : IsSection f.nodes f.shape r.between.front 0 script.setup r.setup.answers.items =
+      section_by 0 f r.between script.setup r.setup r.setup_works r.setup_done (nothing 0) (new.batches 0) (λ _ n. let e = ap length (setup_alone n) in omega (arith, e)) (λ some. absurd (omega (arith, some))) in
+      setup_later f.nodes f.shape r.between.front g.front script.setup r.setup.answers.items r.goes.grown setup_knows.part first
 
   worker_section : (c : ℕ) (commands : List Command) (w : Worked) → 0 < c → c < 1 + length script.workers → Works c r.between g commands w → IsDoneFor w → IsSection f.nodes f.shape g.front c commands w.answers.items
   worker_section c commands w some lt works done =
-      let by : IsSection r.between.nodes r.between.shape g.front c commands w.answers.items = section_by c r.between g commands w works done (λ n. idle c n some lt) (λ n. shut c n some) (λ _ n. let e = ap length (setup_part n) in omega (arith, e)) in
+      let by : IsSection r.between.nodes r.between.shape g.front c commands w.answers.items = section_by c r.between g commands w works done (λ n. idle c n some lt) (λ n. shut c n some) (λ zero. absurd (omega (arith, some, zero))) (λ _ n. let e = ap length (setup_part n) in omega (arith, e)) in
       let shapes = subst (λ shape. IsSection r.between.nodes shape g.front c commands w.answers.items) r.begins.same.shape by in
       subst (λ nodes. IsSection nodes f.shape g.front c commands w.answers.items) r.begins.same.nodes shapes
 

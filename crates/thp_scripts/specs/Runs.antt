@@ -1,5 +1,5 @@
 -- Runs of a script: each node has one legal history, in which the steps of each caller stand in order.
-use Rattle.std.specs.Prelude.{◌≡◌, ℕ, ◌<◌, ◌≤◌, List, ◌∷◌, ◌++◌, All, AllPairs, Option, Some, None, length, map, slice_get}
+use Rattle.std.specs.Prelude.{◌≡◌, ℕ, ◌+◌, ◌<◌, ◌≤◌, List, ◌∷◌, ◌++◌, All, AllPairs, Option, Some, None, length, map, slice_get}
 use Rattle.thp_model.specs.declared.events.Event.{Event}
 use Rattle.thp_model.specs.declared.shape.Shape.{Shape}
 use Rattle.thp_model.specs.History.{History, events_of}
@@ -19,9 +19,14 @@ no_batches n = None
 abbrev pub IsAfterSetup : (ℕ → History) → Made → Type 0
 IsAfterSetup history m = length (events_of 0 (history m.node)) ≤ m.before
 
+-- the step comes within setup, whose events are caller 0's
+abbrev pub IsWithinSetup : (ℕ → History) → Made → Type 0
+IsWithinSetup history m = m.before + length m.own ≤ length (events_of 0 (history m.node))
+
 -- The section of caller c. By these turns it did its commands, in order, and these are their answers; then it put back the
 -- batches that they had left open, nodes ascending. The steps of all turns stand in the histories in this order, each
--- begins with the open batch that the ones before it left, and they are all that the caller did.
+-- begins with the open batch that the ones before it left, and they are all that the caller did. Setup's steps end before
+-- all others begin.
 pub record IsSection (nodes : ℕ) (shape : ℕ → Shape) (history : ℕ → History) (c : ℕ) (commands : List Command) (answers : List Answer) : Type 0 where
   pub turns : List Turn
   pub closed : List Turn
@@ -33,6 +38,7 @@ pub record IsSection (nodes : ℕ) (shape : ℕ → Shape) (history : ℕ → Hi
   pub in_order : AllPairs ComesBefore (steps_of (turns ++ closed))
   pub carries : Carries no_batches (steps_of (turns ++ closed))
   pub whole : (n : ℕ) → events_of c (history n) ≡ own_events n (steps_of (turns ++ closed))
+  pub within_setup : c ≡ 0 → All (IsWithinSetup history) (steps_of (turns ++ closed))
   pub after_setup : 0 < c → All (IsAfterSetup history) (steps_of (turns ++ closed))
 
 -- the commands of the sections by number: `setup` is section 0, and the section of worker k is section k

@@ -29,7 +29,7 @@ fn new_node(alloc: Global, settings: &Settings, index: u32) -> Result<Node, Allo
     let shape = Shape {
         blocks: settings.blocks,
         order: settings.orders[index as usize],
-        underused: None,
+        underused: settings.underused[index as usize],
     };
     match Node::new(alloc, shape) {
         Ok(node) => Ok(node),

@@ -74,11 +74,7 @@ fn do_rest<P: Steps>(
 }
 
 /// The sections by number: `setup` is section 0.
-fn sections(
-    alloc: Global,
-    setup: Worked,
-    workers: Vec<Worked>,
-) -> Result<Vec<Section>, AllocError>
+fn sections(alloc: Global, setup: Worked, workers: Vec<Worked>) -> Result<Vec<Section>, AllocError>
     requires { length workers.items ≤ 63 }
     ensures { IfOk result (λ r. r.items ≡ numbered 0 (setup ∷ workers.items)) }
 {

@@ -1,4 +1,4 @@
-use Rattle.thp_laws.proofs.ReadingBack.{all_read_back, all_same, all_legal}
+use Rattle.thp_laws.proofs.ReadingBack.{all_read_back, all_same, all_legal, called_legal}
 use Rattle.thp_laws.proofs.laws.journals_are_read_back.Goals as goal
 
 pub returns-clause-read : goal.returns-clause-read
@@ -9,3 +9,6 @@ returns-clause-same c = all_same
 
 pub returns-clause-legal : goal.returns-clause-legal
 returns-clause-legal c = all_legal
+
+pub returns-clause-called_legal : goal.returns-clause-called_legal
+returns-clause-called_legal c = called_legal

@@ -8,8 +8,8 @@ returns g c =
     let told = c.tell.ensures in
     record {
       end = Err told.0;
-      served = ended_served (given_words c.args.words) (g.R.Read.remaining c.args.reader.now.device) c.serve.new.reader.failed
+      served = ended_served (g.R.Read.remaining c.args.reader.now.device) c.serve.new.reader.failed
           (record { before = g.W.Write.contents c.args.output.now.device; after = g.W.Write.contents c.serve.new.output.device; failed = c.serve.new.output.failed })
-          c.in-Err.fault told.0 c.in-Err.ensures told.1;
+          (given_words c.args.words) c.in-Err.fault told.0 c.in-Err.ensures told.1;
       told = told.2;
     }

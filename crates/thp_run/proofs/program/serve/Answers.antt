@@ -1,32 +1,45 @@
-use Rattle.std.proofs.Common.{◌≡◌, map, inl, refl, Ok, Err}
+use Rattle.std.proofs.Common.{◌≡◌, map, inl, inr, refl, Ok, Err}
 use Rattle.std.specs.Prelude.{string_bytes}
 use Rattle.std.proofs.lemmas.Result.{err_from_is_err_and}
 use Rattle.thp_run.specs.Outcomes.{given_words}
-use Rattle.thp_run.proofs.OutcomeLaws.{ran, answered}
+use Rattle.thp_run.proofs.PassageLaws.{keeps_same}
 use Rattle.thp_run.proofs.program.serve.Goals as goal
 
-pub returns-in_err-run_line-in-Ok-asked : goal.returns-in_err-run_line-in-Ok-asked
-returns-in_err-run_line-in-Ok-asked g c =
+pub returns-in_err-texts : goal.returns-in_err-texts
+returns-in_err-texts g c =
     let p = err_from_is_err_and c.from_residual.result c.from_residual.ensures.1 in
-    let words = map string_bytes c.in-Ok.words.items in
-    let is : given_words c.args.words.now ≡ Ok words = rw c.in-Ok.is refl in
-    rw (p.1, p.2)
-    (inl (ran (given_words c.args.words.now) (g.R.Read.remaining c.args.reader.now.device) c.run_line.new.reader.failed
-    (record { before = g.W.Write.contents c.args.output.now.device; after = g.W.Write.contents c.run_line.new.output.device; failed = c.run_line.new.output.failed })
-    words c.in-Ok-asked.line (Err c.in_err-run_line-in-Ok-asked.field-0.0) is (rw c.as_slice.ensures.value at c.in-Ok-asked.ensures.held) (rw c.as_slice.ensures.value at c.in-Ok-asked.ensures.refused) c.in_err-run_line-in-Ok-asked.ensures))
+    let is : given_words c.args.words.now ≡ Ok (map string_bytes c.in-Ok.words.items) = rw c.in-Ok.is refl in
+    rw (is, p.1, p.2) (inr (inr (refl, (keeps_same (g.W.Write.contents c.args.output.now.device), c.requires.output))))
 
-pub returns-in_ok-run_line-in-Ok-asked : goal.returns-in_ok-run_line-in-Ok-asked
-returns-in_ok-run_line-in-Ok-asked g c =
-    let words = map string_bytes c.in-Ok.words.items in
-    let is : given_words c.args.words.now ≡ Ok words = rw c.in-Ok.is refl in
-    inl (ran (given_words c.args.words.now) (g.R.Read.remaining c.args.reader.now.device) c.run_line.new.reader.failed
-    (record { before = g.W.Write.contents c.args.output.now.device; after = g.W.Write.contents c.run_line.new.output.device; failed = c.run_line.new.output.failed })
-    words c.in-Ok-asked.line (Ok c.in_ok-run_line-in-Ok-asked.field-0) is (rw c.as_slice.ensures.value at c.in-Ok-asked.ensures.held) (rw c.as_slice.ensures.value at c.in-Ok-asked.ensures.refused) c.in_ok-run_line-in-Ok-asked.ensures)
+pub returns-in-Ok-read_line : goal.returns-in-Ok-read_line
+returns-in-Ok-read_line g c =
+    let is : given_words c.args.words.now ≡ Ok (map string_bytes c.in-Ok.words.items) = rw c.in-Ok.is refl in
+    rw is (inl (record {
+      line = c.in-Ok-read_line.line;
+      held = rw (c.as_slice-2.ensures.value, c.in_ok-texts.ensures, c.as_slice.ensures.value) at c.in-Ok-read_line.ensures.held;
+      accepted = rw (c.as_slice-2.ensures.value, c.in_ok-texts.ensures, c.as_slice.ensures.value) at c.in-Ok-read_line.ensures.refused;
+      does = c.do_line.ensures;
+    }))
 
-pub returns-in-Err : goal.returns-in-Err
-returns-in-Err g c =
-    let words = map string_bytes c.in-Ok.words.items in
-    let is : given_words c.args.words.now ≡ Ok words = rw c.in-Ok.is refl in
-    answered (given_words c.args.words.now) (g.R.Read.remaining c.args.reader.now.device) c.args.reader.now.failed
-    (record { before = g.W.Write.contents c.args.output.now.device; after = g.W.Write.contents c.answer.new.output.device; failed = c.answer.new.output.failed })
-    words c.in-Err.error c.answer.result is (rw c.as_slice.ensures.value at c.in-Err.ensures.refused) c.answer.ensures
+pub returns-in_err-answer-in-Err : goal.returns-in_err-answer-in-Err
+returns-in_err-answer-in-Err g c =
+    let p = err_from_is_err_and c.from_residual-in_err-answer-in-Err.result c.from_residual-in_err-answer-in-Err.ensures.1 in
+    let is : given_words c.args.words.now ≡ Ok (map string_bytes c.in-Ok.words.items) = rw c.in-Ok.is refl in
+    rw (is, p.1, p.2) (inr (inl (record {
+      error = c.in-Err.error;
+      refused = rw (c.as_slice-2.ensures.value, c.in_ok-texts.ensures, c.as_slice.ensures.value) at c.in-Err.ensures.refused;
+      answer = Err c.in_err-answer-in-Err.field-0.0;
+      answered = c.in_err-answer-in-Err.ensures;
+      ended = refl;
+    })))
+
+pub returns : goal.returns
+returns g c =
+    let is : given_words c.args.words.now ≡ Ok (map string_bytes c.in-Ok.words.items) = rw c.in-Ok.is refl in
+    rw is (inr (inl (record {
+      error = c.in-Err.error;
+      refused = rw (c.as_slice-2.ensures.value, c.in_ok-texts.ensures, c.as_slice.ensures.value) at c.in-Err.ensures.refused;
+      answer = Ok c.in_ok-answer-in-Err.field-0;
+      answered = c.in_ok-answer-in-Err.ensures;
+      ended = refl;
+    })))

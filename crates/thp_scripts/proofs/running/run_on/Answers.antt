@@ -1,5 +1,7 @@
 use Rattle.std.proofs.Common.{◌≡◌, length, subst, sym}
+use denote.Param.Send.{param_send, arg_send}
 use Rattle.thp_work.specs.Passes.{Passes, fronts_in}
+use Rattle.thp_work.proofs.Crosses.{node_passes_send}
 use Rattle.thp_scripts.specs.Sections.{IsFitScript, IsNew, RunsTo}
 use Rattle.thp_scripts.specs.Sharing.{IsUnused}
 use Rattle.thp_scripts.proofs.NodeLaws.{pairs_length}
@@ -10,7 +12,7 @@ pub new-passes-requires : goal.new-passes-requires
 new-passes-requires g c = agree_new c.args.callers c.args.passes.items c.in_ok-nodes.nodes.items c.in_ok-nodes.ensures c.requires.fresh c.requires.few
 
 pub run_sections-requires-send-P : goal.run_sections-requires-send-P
-run_sections-requires-send-P g c κs within = ?
+run_sections-requires-send-P g c κs within = search (param_send, arg_send, node_passes_send)
 
 pub run_sections-requires-clause-new : goal.run_sections-requires-clause-new
 run_sections-requires-clause-new g c κs within =

@@ -16,7 +16,7 @@ pub run_on-requires-clause-fits : goal.run_on-requires-clause-fits
 run_on-requires-clause-fits g c κs within =
     let s = c.args.settings.now in
     let same = pairs_length (IsRoot (s.workers + 1)) c.in_ok-nodes.nodes.items c.in_ok-cells.passes.items c.in_ok-cells.ensures.roots in
-    let few : AreFew c.args.script = search (rules, c.are_few.ensures, c.if-not-are_few.false, c.if-not-are_few.ensures) in
+    let few : AreFew c.args.script = search (rules, c.are_few.ensures, c.if-not-are_few.false) in
     script_fits s c.args.script (length c.in_ok-cells.passes.items) c.requires few (sym same ∙ c.in_ok-nodes.ensures.shapes.count) s.within_limits.least_workers s.within_limits.most_workers
 
 pub returns-clause-nodes : goal.returns-clause-nodes

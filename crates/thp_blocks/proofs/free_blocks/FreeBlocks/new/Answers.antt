@@ -1,4 +1,4 @@
-use Rattle.std.proofs.Common.{◌≡◌, ℕ, ◌+◌, ◌∙◌, sym, ap, cond, nat_eq, nat_lt, arith, List, replicate, false}
+use Rattle.std.proofs.Common.{ℕ, ◌∙◌, sym, ap, arith, List}
 use Rattle.std.proofs.lemmas.Bool.{le-ltb}
 use Rattle.thp_model.specs.Words.{in_words}
 use Rattle.thp_blocks.proofs.FreeWords.{in-zeros, one_more}

@@ -1,4 +1,4 @@
-use Rattle.std.proofs.Common.{sym, ◌∙◌, subst, ap, ◌≡◌, List, ℕ}
+use Rattle.std.proofs.Common.{◌∙◌, ap, List, ℕ}
 use Rattle.thp_blocks.specs.Holders.{least_of}
 use Rattle.thp_blocks.proofs.Least.{least_some, least_none}
 use Rattle.thp_blocks.proofs.holders.Holders.least.Goals as goal

@@ -1,4 +1,4 @@
-use Rattle.std.proofs.Common.{◌≡◌, ℕ, List, [], sym, subst, replicate}
+use Rattle.std.proofs.Common.{ℕ, List, [], sym, subst, replicate}
 use Rattle.thp_model.specs.History.{History}
 use Rattle.thp_blocks.specs.declared.page_blocks.Allocation.{Allocation}
 use Rattle.thp_blocks.specs.Keeping.{Keeps}

@@ -1,5 +1,5 @@
 use Rattle.thp_blocks.specs.Known.{known_of}
-use Rattle.std.proofs.Common.{arith, subst, ◌<◌, sym}
+use Rattle.std.proofs.Common.{subst, ◌<◌, sym}
 use Rattle.thp_blocks.specs.State.{BlocksState}
 use Rattle.thp_blocks.proofs.Noting.{noted_alloc, noted_alloc_freed}
 use Rattle.thp_blocks.proofs.least_blocks.LeastBlocks.note_alloc.Goals as goal

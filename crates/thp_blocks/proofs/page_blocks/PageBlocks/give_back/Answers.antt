@@ -1,7 +1,6 @@
-use Rattle.std.proofs.Common.{◌≡◌, ℕ, ◌<◌, List, Option, Some, None, length, arith, get_or, subst, sym}
-use Rattle.std.specs.Prelude.{slice_get}
+use Rattle.std.proofs.Common.{ℕ, ◌<◌, List, Option, length, arith, subst, sym}
 use Rattle.thp_blocks.specs.Chains.{IsWalked, place_after}
-use Rattle.thp_blocks.proofs.Chaining.{walk_first, walk_inside, walk_held, walk_falls, walk_on, walk_ended, read_one, none_left}
+use Rattle.thp_blocks.proofs.Chaining.{walk_inside, walk_held, walk_falls, walk_on, walk_ended, read_one, none_left}
 use Rattle.thp_blocks.proofs.page_blocks.PageBlocks.give_back.Goals as goal
 
 pub index-allocation-requires : goal.index-allocation-requires

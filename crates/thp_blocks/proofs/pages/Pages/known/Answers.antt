@@ -1,4 +1,3 @@
-use Rattle.std.proofs.Common.{sym, ◌∙◌}
 use Rattle.thp_blocks.proofs.Lookups.{known_dense, known_named, known_unnamed}
 use Rattle.thp_blocks.proofs.pages.Pages.known.Goals as goal
 

@@ -1,4 +1,4 @@
-use Rattle.std.proofs.Common.{refl, sym, ◌∙◌, arith}
+use Rattle.std.proofs.Common.{refl, arith}
 use Rattle.thp_blocks.proofs.Lookups.{known_set, known_push, known_insert, known_stays}
 use Rattle.thp_blocks.proofs.pages.Pages.set.Goals as goal
 

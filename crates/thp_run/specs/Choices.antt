@@ -1,0 +1,55 @@
+-- The settings that a command line asks for.
+use Rattle.std.specs.Prelude.{◌≡◌, ◌++◌, ℕ, List, drop, replicate, Option, Some, None, Result, Ok, Err}
+use Rattle.std.specs.Borrow.{Bor}
+use Rattle.thp_line.specs.declared.line.Line.{Line}
+use Rattle.thp_text.specs.declared.settings.Settings.{Settings}
+use Rattle.thp_text.specs.NumberLists.{orders_in, thresholds_in}
+use Rattle.thp_text.specs.Settings.{AreOrdersFor, AreThresholdsFor}
+use Rattle.thp_run.specs.declared.ending.ProgramFault.{ProgramFault}
+use Rattle.thp_run.specs.declared.ending.ProgramFault.TheVariants.{Run, Usage, NoText, Orders, Underused}
+
+-- the orders of all nodes by the option `--orders`: those that its text lists for the nodes, and 9 where it isn't given
+abbrev pub HasOrders : Option (Bor (List ℕ)) → ℕ → List ℕ → Type 0
+HasOrders None nodes all = all ≡ replicate 8 9
+HasOrders (Some text) nodes all =
+    (orders : List ℕ) × (orders_in text.now ≡ Some orders) × AreOrdersFor nodes (replicate 8 None) orders × (all ≡ orders ++ drop nodes (replicate 8 9))
+
+-- the option's text lists no orders for the nodes
+abbrev pub HasBadOrders : Option (Bor (List ℕ)) → ℕ → Type 0
+HasBadOrders None nodes = ⊥
+HasBadOrders (Some text) nodes = (orders : List ℕ) → orders_in text.now ≡ Some orders → ¬ AreOrdersFor nodes (replicate 8 None) orders
+
+-- the thresholds of all nodes by the option `--underused`: those that its text lists for the nodes, and none where it isn't given
+abbrev pub HasThresholds : Option (Bor (List ℕ)) → ℕ → List ℕ → List (Option ℕ) → Type 0
+HasThresholds None nodes orders all = all ≡ replicate 8 None
+HasThresholds (Some text) nodes orders all =
+    (thresholds : List (Option ℕ)) × (thresholds_in text.now ≡ Some thresholds) × AreThresholdsFor nodes orders thresholds × (all ≡ thresholds ++ drop nodes (replicate 8 None))
+
+-- the option's text lists no thresholds for the nodes
+abbrev pub HasBadThresholds : Option (Bor (List ℕ)) → ℕ → List ℕ → Type 0
+HasBadThresholds None nodes orders = ⊥
+HasBadThresholds (Some text) nodes orders = (thresholds : List (Option ℕ)) → thresholds_in text.now ≡ Some thresholds → ¬ AreThresholdsFor nodes orders thresholds
+
+-- the settings are those that the line asks for
+pub record IsSettingsOf (line : Line) (s : Settings) : Type 0 where
+  pub nodes : s.nodes ≡ line.nodes
+  pub blocks : s.blocks ≡ line.blocks
+  pub workers : s.workers ≡ line.workers
+  pub report : s.report ≡ line.report
+  pub orders : HasOrders line.orders line.nodes s.orders
+  pub underused : HasThresholds line.underused line.nodes s.orders s.underused
+
+-- the line's orders are right, and its thresholds aren't
+pub record HasOnlyBadThresholds (line : Line) : Type 0 where
+  pub orders : List ℕ
+  pub right : HasOrders line.orders line.nodes orders
+  pub bad : HasBadThresholds line.underused line.nodes orders
+
+-- the settings that a line asks for, or what is bad about it; orders are looked at first
+abbrev pub Chooses : Line → Result Settings ProgramFault → Type 0
+Chooses line (Ok s) = IsSettingsOf line s
+Chooses line (Err Orders) = HasBadOrders line.orders line.nodes
+Chooses line (Err Underused) = HasOnlyBadThresholds line
+Chooses line (Err (Run fault)) = ⊥
+Chooses line (Err (Usage text)) = ⊥
+Chooses line (Err NoText) = ⊥

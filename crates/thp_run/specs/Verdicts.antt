@@ -1,0 +1,33 @@
+-- What a check of a journal reads and writes.
+use Rattle.std.specs.Prelude.{◌≡◌, ◌++◌, ℕ, Bool, true, false, All, List, [], ◌∷◌, Option, Some, None, Result, Ok, Err, codes}
+use Rattle.std.specs.Fmt.{decimal}
+use Rattle.thp_read.specs.declared.journals.Journals.{Journals}
+use Rattle.thp_read.specs.Answers.{CanBeLegal, TellsIllegal}
+use Rattle.thp_read.specs.Journals.{journals_of}
+use Rattle.thp_run.specs.declared.fault.RunFault.{RunFault}
+use Rattle.thp_run.specs.Passages.{Ends}
+
+-- the line that tells whether a journal is legal, or which is the line of its first illegal event
+unfoldable pub verdict_text : Option ℕ → List ℕ
+verdict_text None = codes "legal" ++ (10 ∷ [])
+verdict_text (Some line) = codes "illegal line " ++ decimal line ++ (10 ∷ [])
+
+-- no line is illegal
+abbrev pub is_legal : Option ℕ → Bool
+is_legal None = true
+is_legal (Some line) = false
+
+-- the text tells of the journal in the input whether it is legal
+pub record IsVerdict (input : List ℕ) (legal : Bool) (text : List ℕ) : Type 0 where
+  pub journals : Journals
+  pub spelled : journals_of input ≡ Ok journals
+  pub illegal : Option ℕ
+  pub told : TellsIllegal journals.nodes illegal
+  -- where some choice of blocks makes all events legal, none is called illegal
+  pub free_choice : All CanBeLegal journals.nodes → illegal ≡ None
+  pub answer : legal ≡ is_legal illegal
+  pub written : text ≡ verdict_text illegal
+
+-- how a check ends: with its verdict, or with the first fault of the journal
+abbrev pub CheckEnds : Option (List ℕ) → Option (List ℕ) → Option (List ℕ) → Bool → Bool → Result Bool RunFault → Type 0
+CheckEnds = Ends IsVerdict (λ input fault. journals_of input ≡ Err fault)
