@@ -1,25 +1,23 @@
 -- Histories that are equal but for their blocks have the same totals.
 use Rattle.std.proofs.Common.{◌≡◌, ℕ, ◌+◌, Bool, cond, List, [], ◌∷◌, ◌++◌, Option, Some, None, map, length, refl, ap, ap₂, sym, ◌∙◌, codes}
-use Rattle.std.specs.List.{fold, filter_map, sum_by}
+use Rattle.std.specs.List.{fold, sum_by}
 use Rattle.std.proofs.lemmas.List.{map-append}
 use Rattle.thp_model.specs.declared.events.Event.{Event}
 use Rattle.thp_model.specs.declared.events.What.{What}
-use Rattle.thp_model.specs.declared.events.What.TheVariants.{Alloc, MapWhole, UnmapWhole, MapSub, UnmapSub, SplitPmd, Pin, Unpin, Write, Zero, Taken, Split, Pinned, Used, Back, Dropped, Close}
+use Rattle.thp_model.specs.declared.events.What.TheVariants.{Alloc, SplitPmd, Split}
 use Rattle.thp_model.specs.declared.shape.Shape.{Shape}
 use Rattle.thp_model.specs.BlockLaws.{with_block, event_with, without_blocks, SameButBlocks}
-use Rattle.thp_model.specs.Counters.{is_page_split, is_failed_try, queues, splits_pmds, add_split_pmds, splits_underused, add_split_underused, thp_split_page, thp_split_page_failed, thp_deferred_split_page, thp_split_pmd, thp_underused_split_page}
-use Rattle.thp_model.specs.Counts.{allocations, whole}
-use Rattle.thp_model.specs.Frames.{is_held, gives_back, given, frames_held, frames_given}
+use Rattle.thp_model.specs.Counters.{is_page_split, is_failed_try, queues, splits_pmds, add_split_pmds, splits_underused, add_split_underused, thp_split_pmd, thp_underused_split_page}
+use Rattle.thp_model.specs.Counts.{allocations}
+use Rattle.thp_model.specs.Frames.{is_held, gives_back, given, frames_held}
 use Rattle.thp_model.specs.History.{History, by}
-use Rattle.thp_model.specs.Places.{queue}
 use Rattle.thp_model.specs.Sets.{set_size, sum_below, count_below}
 use Rattle.thp_model.specs.Shapes.{subpages}
-use Rattle.thp_model.specs.Underused.{is_partly_mapped}
 use Rattle.thp_model.proofs.Alike.{Alike, Blind, alike, count_alike, held_alike}
 use Rattle.thp_model.proofs.SumsBelow.{sum_below-ext}
 use Rattle.thp_journal.specs.Journals.{Journal}
 use Rattle.thp_report.specs.Laws.{bare}
-use Rattle.thp_report.specs.Totals.{number_line, nine_lines, underused_line, node_totals, totals_from, totals_text}
+use Rattle.thp_report.specs.Totals.{number_line, nine_lines, underused_line, totals_from, totals_text}
 
 -- taking the blocks out twice is as taking them out once
 twice : (w : What) → with_block 0 (with_block 0 w) ≡ with_block 0 w

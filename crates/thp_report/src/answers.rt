@@ -1,9 +1,9 @@
 //! The answers to commands as text.
 ghost use Rattle.std.specs.Prelude.{◌≡◌, ◌+◌, ◌++◌, ◌∷◌, [], OnOk, IfOk, codes, map};
 ghost use Rattle.std.specs.Fmt.{decimal};
-ghost use Rattle.thp_journal.specs.EventLines.{line_of, outcome_word, page_words};
+ghost use Rattle.thp_journal.specs.EventLines.{line_of};
 ghost use Rattle.thp_journal.specs.Journals.{ended};
-ghost use Rattle.thp_report.specs.Answers.{refusal_word, tried_words, back_words, scan_words, used_words, reply_words, reaction_words, looks, answer_line, section_text, answers_text as text_of};
+ghost use Rattle.thp_report.specs.Answers.{refusal_word, tried_words, back_words, scan_words, used_words, reply_words, looks, answer_line, section_text, answers_text as text_of};
 ghost use Rattle.thp_report.specs.Reports.{shape_of};
 
 use std::alloc::{AllocError, Global};

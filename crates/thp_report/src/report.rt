@@ -1,5 +1,5 @@
 //! The report of a run.
-ghost use Rattle.std.specs.Prelude.{◌≡◌, ◌++◌, IfOk, map};
+ghost use Rattle.std.specs.Prelude.{◌≡◌, IfOk, map};
 ghost use Rattle.thp_journal.specs.Journals.{journal_text as journals_told};
 ghost use Rattle.thp_report.specs.Reports.{told_of, report_of};
 
