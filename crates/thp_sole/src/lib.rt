@@ -1,0 +1,6 @@
+//! Laws of runs: what is done follows from what is asked for.
+#![tactic(auto)]
+
+mod laws;
+
+pub use laws::steps_have_one_answer;
