@@ -7,7 +7,6 @@ use Rattle.std.proofs.lemmas.List.{append-nil, length-append}
 use Rattle.thp_text.specs.declared.fault.ReadFault.{ReadFault}
 use Rattle.thp_text.specs.declared.fault.ReadFault.TheVariants as reading
 use Rattle.thp_text.specs.declared.settings.Settings.{Settings}
-use Rattle.thp_text.specs.declared.vocabulary.Vocabulary.TheVariants.{Whole}
 use Rattle.thp_text.specs.Scripts.{Fault, TellsFault, script_of}
 use Rattle.thp_text.specs.declared.fault.TextKind.TheVariants.{TooLong}
 use Rattle.thp_text.proofs.ScriptLaws.{too_long}
@@ -64,17 +63,17 @@ module _ {A : Type 0} (IsAnswer : List ℕ → A → List ℕ → Type 0) (HasFa
 
 -- ---- scripts
 
-pub same_script : (s : Settings) (input bytes : List ℕ) → IsInputOf bytes input → script_of Whole s bytes ≡ script_of Whole s input
+pub same_script : (s : Settings) (input bytes : List ℕ) → IsInputOf bytes input → script_of s bytes ≡ script_of s input
 same_script s input bytes read =
     elim (cases_lt 16777216 (length bytes)) [
-      | inl more ↦ too_long Whole s bytes more ∙ sym (too_long Whole s input (rw read.front (omega (arith, length-append bytes read.rest))))
-      | inr less ↦ ap (script_of Whole s) (sym (read.front ∙ rw (read.all less, append-nil) refl))
+      | inl more ↦ too_long s bytes more ∙ sym (too_long s input (rw read.front (omega (arith, length-append bytes read.rest))))
+      | inr less ↦ ap (script_of s) (sym (read.front ∙ rw (read.all less, append-nil) refl))
     ]
 
 pub report_of_input : (s : Settings) (input bytes text : List ℕ) (u : Unit {0}) → IsInputOf bytes input → IsReport s bytes text → IsReport s input text
 report_of_input s input bytes text u read r = record { script = r.script; spelled = sym (same_script s input bytes read) ∙ r.spelled; nodes = r.nodes; nodes_are = r.nodes_are; sections = r.sections; is_run = r.is_run; written = r.written }
 
-pub fault_of_script : (s : Settings) (input bytes : List ℕ) (fault : Fault) → IsInputOf bytes input → script_of Whole s bytes ≡ Err fault → script_of Whole s input ≡ Err fault
+pub fault_of_script : (s : Settings) (input bytes : List ℕ) (fault : Fault) → IsInputOf bytes input → script_of s bytes ≡ Err fault → script_of s input ≡ Err fault
 fault_of_script s input bytes fault read told = sym (same_script s input bytes read) ∙ told
 
 -- a fault of reading, as a fault that the bytes have
@@ -87,15 +86,15 @@ pub run_ends : (s : Settings) (known old new : Option (List ℕ)) (bytes text : 
     → IfSome o (λ _. Appends old new text) → IfNone o (WritesFront old new text) → IfSome o (λ _. writer_failed ≡ false) → IfNone o (writer_failed ≡ true) → reader_failed ≡ false
     → RunEnds s known old new reader_failed writer_failed (ok_or o Write)
 run_ends s known old new bytes text rf wf (Some u) read r done cut flag failed e =
-    ends_written (λ input v t. IsReport s input t) (λ input f. script_of Whole s input ≡ Err f) (report_of_input s) (fault_of_script s) known bytes read old new rf wf u text (Ok u) r done e flag refl
+    ends_written (λ input v t. IsReport s input t) (λ input f. script_of s input ≡ Err f) (report_of_input s) (fault_of_script s) known bytes read old new rf wf u text (Ok u) r done e flag refl
 run_ends s known old new bytes text rf wf None read r done cut flag failed e =
-    ends_cut (λ input v t. IsReport s input t) (λ input f. script_of Whole s input ≡ Err f) (report_of_input s) (fault_of_script s) known bytes read old new rf wf tt text (Err Write) r cut e failed refl
+    ends_cut (λ input v t. IsReport s input t) (λ input f. script_of s input ≡ Err f) (report_of_input s) (fault_of_script s) known bytes read old new rf wf tt text (Err Write) r cut e failed refl
 
 -- the script was at fault, or memory was refused
-pub run_ends_early : (s : Settings) (known old : Option (List ℕ)) (bytes : List ℕ) (reader_failed writer_failed : Bool) (fault : ReadFault) (r : Result (Unit {0}) RunFault) → IfSome known (IsInputOf bytes) → TellsFault (script_of Whole s bytes) fault
+pub run_ends_early : (s : Settings) (known old : Option (List ℕ)) (bytes : List ℕ) (reader_failed writer_failed : Bool) (fault : ReadFault) (r : Result (Unit {0}) RunFault) → IfSome known (IsInputOf bytes) → TellsFault (script_of s bytes) fault
     → reader_failed ≡ false → writer_failed ≡ false → r ≡ Err (run_fault fault) → RunEnds s known old old reader_failed writer_failed r
 run_ends_early s known old bytes rf wf fault r read told e f is =
-    ends_early (λ input v t. IsReport s input t) (λ input f. script_of Whole s input ≡ Err f) (report_of_input s) (fault_of_script s) known bytes read old rf wf fault r (tells_of (script_of Whole s bytes) fault told) e f is
+    ends_early (λ input v t. IsReport s input t) (λ input f. script_of s input ≡ Err f) (report_of_input s) (fault_of_script s) known bytes read old rf wf fault r (tells_of (script_of s bytes) fault told) e f is
 
 -- ---- journals
 

@@ -7,7 +7,6 @@ use Rattle.thp_scripts.specs.Runs.{IsRun}
 use Rattle.thp_work.specs.declared.reply.Section.{Section}
 use Rattle.thp_text.specs.declared.script.Script.{Script}
 use Rattle.thp_text.specs.declared.settings.Settings.{Settings}
-use Rattle.thp_text.specs.declared.vocabulary.Vocabulary.TheVariants.{Whole}
 use Rattle.thp_text.specs.Scripts.{script_of}
 use Rattle.thp_run.specs.declared.fault.RunFault.{RunFault}
 use Rattle.thp_run.specs.Passages.{Ends}
@@ -15,7 +14,7 @@ use Rattle.thp_run.specs.Passages.{Ends}
 -- the text is the report that the settings ask for, of a run of the script that the input spells
 pub record IsReport (s : Settings) (input text : List ℕ) : Type 0 where
   pub script : Script
-  pub spelled : script_of Whole s input ≡ Ok script
+  pub spelled : script_of s input ≡ Ok script
   pub nodes : List NodeState
   pub nodes_are : AreNodesFor s nodes
   pub sections : List Section
@@ -24,4 +23,4 @@ pub record IsReport (s : Settings) (input text : List ℕ) : Type 0 where
 
 -- how a run ends: with its report, or with the first fault of the script
 abbrev pub RunEnds : Settings → Option (List ℕ) → Option (List ℕ) → Option (List ℕ) → Bool → Bool → Result (Unit {0}) RunFault → Type 0
-RunEnds s = Ends (λ input _ text. IsReport s input text) (λ input fault. script_of Whole s input ≡ Err fault)
+RunEnds s = Ends (λ input _ text. IsReport s input text) (λ input fault. script_of s input ≡ Err fault)

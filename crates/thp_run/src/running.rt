@@ -1,7 +1,6 @@
 //! From the bytes of a script to the bytes of its report.
 ghost use Rattle.std.specs.Prelude.{◌≡◌, IfErr, IfOk, false};
 ghost use Rattle.thp_run.specs.Programs.{IsReport, RunEnds};
-ghost use Rattle.thp_text.specs.declared.vocabulary.Vocabulary.TheVariants.{Whole};
 ghost use Rattle.thp_text.specs.Scripts.{script_of, TellsFault};
 
 use crate::device::{read_input, write_text};
@@ -24,7 +23,7 @@ fn report_of<T: Threads + Sync, G: Gate + Sync>(
     gate: &G,
 ) -> Result<Vec<u8>, ReadFault>
     ensures text { IfOk result (λ text. IsReport settings.now input.now text.items) }
-    ensures fault { IfErr result (TellsFault (script_of Whole settings.now input.now)) }
+    ensures fault { IfErr result (TellsFault (script_of settings.now input.now)) }
 {
     let script = read_script(alloc, settings, input)?;
     let ran = run_script(rt, alloc, settings, script, gate)?;

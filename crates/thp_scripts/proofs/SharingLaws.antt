@@ -15,7 +15,6 @@ use Rattle.thp_text.specs.declared.script.Op.{Op}
 use Rattle.thp_text.specs.declared.script.Op.TheVariants as op
 use Rattle.thp_text.specs.declared.script.Script.{Script}
 use Rattle.thp_text.specs.declared.settings.Settings.{Settings}
-use Rattle.thp_text.specs.declared.vocabulary.Vocabulary.TheVariants.{Whole}
 use Rattle.thp_text.specs.Commands.{FitsBatch}
 use Rattle.thp_text.specs.Commands as text
 use Rattle.thp_text.specs.Scripts.{IsScriptFor}
@@ -140,10 +139,10 @@ fit_op (op.Scan n) fits = fits
 fit_op (op.Take n) fits = fits
 fit_op _ fits = tt
 
-commands_fit : (nodes : ℕ) (commands : List Command) → All (text.IsCommandFor Whole nodes) commands → All (IsCommandFor nodes) commands
+commands_fit : (nodes : ℕ) (commands : List Command) → All (text.IsCommandFor nodes) commands → All (IsCommandFor nodes) commands
 commands_fit nodes commands fit = λ k d lt. let one = fit k d lt in record { node_exists = one.node_exists; fits = fit_op (get_or commands k d).op one.fits_batch }
 
-pub script_fits : (s : Settings) (script : Script) (nodes : ℕ) → IsScriptFor Whole s script → AreFew script → nodes ≡ s.nodes → 1 ≤ s.workers → s.workers ≤ 63 → IsFitScript nodes script
+pub script_fits : (s : Settings) (script : Script) (nodes : ℕ) → IsScriptFor s script → AreFew script → nodes ≡ s.nodes → 1 ≤ s.workers → s.workers ≤ 63 → IsFitScript nodes script
 script_fits s script nodes for-it few is least most = rw is (record {
   setup = record { few = few.setup; fit = commands_fit s.nodes script.setup for-it.setup_commands };
   workers = λ k d lt. let one = for-it.worker_commands k d lt in record { few = few.workers k d lt; fit = commands_fit s.nodes (get_or script.workers k d) one };

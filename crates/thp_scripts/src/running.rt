@@ -2,7 +2,6 @@
 ghost use Rattle.std.specs.Prelude.{◌≡◌, ◌+◌, ◌≤◌, ◌<◌, ◌^◌, [], true, All, IfOk, length, map};
 ghost use Rattle.thp_cell.specs.Views.{PassState};
 ghost use Rattle.thp_text.specs.Scripts.{IsScriptFor};
-ghost use Rattle.thp_text.specs.declared.vocabulary.Vocabulary.TheVariants.{Whole};
 ghost use Rattle.thp_scripts.specs.NewNodes.{histories_of, shapes_of, AreNodesFor};
 ghost use Rattle.thp_scripts.specs.Runs.{IsRun};
 ghost use Rattle.thp_scripts.specs.Sections.{IsFitScript};
@@ -37,7 +36,7 @@ pub fn run_script<R: Threads + Sync, G: Gate + Sync>(
     script: Script,
     gate: &G,
 ) -> Result<Ran, AllocError>
-    requires { IsScriptFor Whole settings.now script }
+    requires { IsScriptFor settings.now script }
     ensures nodes { IfOk result (λ r. AreNodesFor settings.now r.nodes.items) }
     ensures run { IfOk result (λ r. IsRun settings.now.nodes (shapes_of r.nodes.items) script (histories_of r.nodes.items) r.sections.items) }
 {

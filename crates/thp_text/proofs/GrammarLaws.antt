@@ -12,9 +12,7 @@ use Rattle.thp_text.specs.declared.script.Op.TheVariants.{Alloc, MapWhole, Unmap
 use Rattle.thp_text.specs.declared.settings.Settings.{Settings}
 use Rattle.thp_text.specs.declared.statement.Statement.{Statement}
 use Rattle.thp_text.specs.declared.statement.Statement.TheVariants.{Nothing, Section, Call}
-use Rattle.thp_text.specs.declared.vocabulary.Vocabulary.{Vocabulary}
-use Rattle.thp_text.specs.declared.vocabulary.Vocabulary.TheVariants.{SetupOnly, Whole}
-use Rattle.thp_text.specs.Commands.{batch_command, call_command, command_of, further_command, is_further, node_command, node_number, number_up_to, page_command, range_command, FitsBatch, IsCommandFor, IsKnown}
+use Rattle.thp_text.specs.Commands.{batch_command, call_command, command_of, further_command, is_further, node_command, node_number, number_up_to, page_command, range_command, FitsBatch, IsCommandFor}
 use Rattle.thp_text.specs.Readings.{◌>>=◌}
 use Rattle.thp_text.specs.Lines.{is_empty, is_printable}
 use Rattle.thp_text.specs.Statements.{by_words, call_of, may_stand, says_nothing, section_of, section_or_call, setup_of, statement_in, statement_of, worker_number, worker_of, worker_or_call, IsInRange, IsSectionFor}
@@ -24,15 +22,15 @@ use Rattle.thp_text.proofs.LineLaws.{IsPlain, bind_ok, none_empty, number_read, 
 -- ---- commands
 
 -- what is known of a command that was read
-pub record IsReadCommand (v : Vocabulary) (s : Settings) (name : Text) (words : List Text) (command : Command) : Type 0 where
+pub record IsReadCommand (s : Settings) (name : Text) (words : List Text) (command : Command) : Type 0 where
   pub name_plain : IsPlain name
   pub words_plain : All IsPlain words
-  pub in_range : IsCommandFor v s.nodes command
+  pub in_range : IsCommandFor s.nodes command
 
 abbrev made_command : ℕ → Op → Command
 made_command node op = record { node = node; op = op }
 
-module _ (v : Vocabulary) (s : Settings) where
+module _ (s : Settings) where
   node_exists : (node : ℕ) (word : Text) → node_number s word ≡ Ok node → IsPlain word × (node < s.nodes)
   node_exists node word e =
       let read = number_read (s.nodes - 1) node word e in
@@ -40,24 +38,24 @@ module _ (v : Vocabulary) (s : Settings) where
       let most : node ≤ s.nodes - 1 = read.1 in
       (read.0, omega arith)
 
-  command_in_range : (node : ℕ) (op : Op) (command : Command) → node < s.nodes → FitsBatch op → IsKnown v op → read (made_command node op) ≡ read command → IsCommandFor v s.nodes command
-  command_in_range node op command lt fits known e =
-      subst (λ (c : Command). IsCommandFor v s.nodes c) (ok_value (made_command node op) command e) (record { node_exists = lt; fits_batch = fits; known = known })
+  command_in_range : (node : ℕ) (op : Op) (command : Command) → node < s.nodes → FitsBatch op → read (made_command node op) ≡ read command → IsCommandFor s.nodes command
+  command_in_range node op command lt fits e =
+      subst (λ (c : Command). IsCommandFor s.nodes c) (ok_value (made_command node op) command e) (record { node_exists = lt; fits_batch = fits })
 
-  node_read : (op : Op) (name : Text) (words : List Text) (command : Command) → IsPlain name → FitsBatch op → IsKnown v op → node_command op s words ≡ Ok command → IsReadCommand v s name words command
+  node_read : (op : Op) (name : Text) (words : List Text) (command : Command) → IsPlain name → FitsBatch op → node_command op s words ≡ Ok command → IsReadCommand s name words command
   unfolding node_command
-  node_read op name [] command plain fits known e = absurd cc
-  node_read op name (a ∷ []) command plain fits known e =
+  node_read op name [] command plain fits e = absurd cc
+  node_read op name (a ∷ []) command plain fits e =
       let node = bind_ok (node_number s a) _ command e in
       let there = node_exists node.0 a node.1 in
-      record { name_plain = plain; words_plain = one_plain a there.0; in_range = command_in_range node.0 op command there.1 fits known node.2 }
-  node_read op name (a ∷ b ∷ words) command plain fits known e = absurd cc
+      record { name_plain = plain; words_plain = one_plain a there.0; in_range = command_in_range node.0 op command there.1 fits node.2 }
+  node_read op name (a ∷ b ∷ words) command plain fits e = absurd cc
 
-  batch_read : (op : ℕ → Op) (name : Text) (words : List Text) (command : Command) → IsPlain name → ((n : ℕ) → n ≤ 128 → FitsBatch (op n)) → ((n : ℕ) → IsKnown v (op n)) → batch_command op s words ≡ Ok command → IsReadCommand v s name words command
+  batch_read : (op : ℕ → Op) (name : Text) (words : List Text) (command : Command) → IsPlain name → ((n : ℕ) → n ≤ 128 → FitsBatch (op n)) → batch_command op s words ≡ Ok command → IsReadCommand s name words command
   unfolding batch_command
-  batch_read op name [] command plain fits known e = absurd cc
-  batch_read op name (a ∷ []) command plain fits known e = absurd cc
-  batch_read op name (a ∷ b ∷ []) command plain fits known e =
+  batch_read op name [] command plain fits e = absurd cc
+  batch_read op name (a ∷ []) command plain fits e = absurd cc
+  batch_read op name (a ∷ b ∷ []) command plain fits e =
       let node = bind_ok (node_number s a) _ command e in
       let there = node_exists node.0 a node.1 in
       let count = bind_ok (number_up_to 128 b) _ command node.2 in
@@ -65,15 +63,15 @@ module _ (v : Vocabulary) (s : Settings) where
       record {
         name_plain = plain;
         words_plain = All-cons IsPlain a (b ∷ []) there.0 (one_plain b within.0);
-        in_range = command_in_range node.0 (op count.0) command there.1 (fits count.0 within.1) (known count.0) count.2;
+        in_range = command_in_range node.0 (op count.0) command there.1 (fits count.0 within.1) count.2;
       }
-  batch_read op name (a ∷ b ∷ d ∷ words) command plain fits known e = absurd cc
+  batch_read op name (a ∷ b ∷ d ∷ words) command plain fits e = absurd cc
 
-  page_read : (op : ℕ → Op) (name : Text) (words : List Text) (command : Command) → IsPlain name → ((n : ℕ) → FitsBatch (op n)) → ((n : ℕ) → IsKnown v (op n)) → page_command op s words ≡ Ok command → IsReadCommand v s name words command
+  page_read : (op : ℕ → Op) (name : Text) (words : List Text) (command : Command) → IsPlain name → ((n : ℕ) → FitsBatch (op n)) → page_command op s words ≡ Ok command → IsReadCommand s name words command
   unfolding page_command
-  page_read op name [] command plain fits known e = absurd cc
-  page_read op name (a ∷ []) command plain fits known e = absurd cc
-  page_read op name (a ∷ b ∷ []) command plain fits known e =
+  page_read op name [] command plain fits e = absurd cc
+  page_read op name (a ∷ []) command plain fits e = absurd cc
+  page_read op name (a ∷ b ∷ []) command plain fits e =
       let node = bind_ok (node_number s a) _ command e in
       let there = node_exists node.0 a node.1 in
       let page = bind_ok (number_up_to 18446744073709551615 b) _ command node.2 in
@@ -81,17 +79,17 @@ module _ (v : Vocabulary) (s : Settings) where
       record {
         name_plain = plain;
         words_plain = All-cons IsPlain a (b ∷ []) there.0 (one_plain b within.0);
-        in_range = command_in_range node.0 (op page.0) command there.1 (fits page.0) (known page.0) page.2;
+        in_range = command_in_range node.0 (op page.0) command there.1 (fits page.0) page.2;
       }
-  page_read op name (a ∷ b ∷ d ∷ words) command plain fits known e = absurd cc
+  page_read op name (a ∷ b ∷ d ∷ words) command plain fits e = absurd cc
 
-  range_read : (op : ℕ → ℕ → ℕ → Op) (name : Text) (words : List Text) (command : Command) → IsPlain name → ((p f n : ℕ) → FitsBatch (op p f n)) → ((p f n : ℕ) → IsKnown v (op p f n)) → range_command op s words ≡ Ok command → IsReadCommand v s name words command
+  range_read : (op : ℕ → ℕ → ℕ → Op) (name : Text) (words : List Text) (command : Command) → IsPlain name → ((p f n : ℕ) → FitsBatch (op p f n)) → range_command op s words ≡ Ok command → IsReadCommand s name words command
   unfolding range_command
-  range_read op name [] command plain fits known e = absurd cc
-  range_read op name (a ∷ []) command plain fits known e = absurd cc
-  range_read op name (a ∷ b ∷ []) command plain fits known e = absurd cc
-  range_read op name (a ∷ b ∷ d ∷ []) command plain fits known e = absurd cc
-  range_read op name (a ∷ b ∷ d ∷ f ∷ []) command plain fits known e =
+  range_read op name [] command plain fits e = absurd cc
+  range_read op name (a ∷ []) command plain fits e = absurd cc
+  range_read op name (a ∷ b ∷ []) command plain fits e = absurd cc
+  range_read op name (a ∷ b ∷ d ∷ []) command plain fits e = absurd cc
+  range_read op name (a ∷ b ∷ d ∷ f ∷ []) command plain fits e =
       let node = bind_ok (node_number s a) _ command e in
       let there = node_exists node.0 a node.1 in
       let page = bind_ok (number_up_to 18446744073709551615 b) _ command node.2 in
@@ -103,38 +101,37 @@ module _ (v : Vocabulary) (s : Settings) where
       record {
         name_plain = plain;
         words_plain = All-cons IsPlain a (b ∷ d ∷ f ∷ []) there.0 (All-cons IsPlain b (d ∷ f ∷ []) page-plain.0 (All-cons IsPlain d (f ∷ []) first-plain.0 (one_plain f count-plain.0)));
-        in_range = command_in_range node.0 (op page.0 first.0 count.0) command there.1 (fits page.0 first.0 count.0) (known page.0 first.0 count.0) count.2;
+        in_range = command_in_range node.0 (op page.0 first.0 count.0) command there.1 (fits page.0 first.0 count.0) count.2;
       }
-  range_read op name (a ∷ b ∷ d ∷ f ∷ g ∷ words) command plain fits known e = absurd cc
+  range_read op name (a ∷ b ∷ d ∷ f ∷ g ∷ words) command plain fits e = absurd cc
 
 section_is : (n k : ℕ) → section_of n ≡ Ok k → n ≡ k
 section_is zero k e = absurd cc
 section_is (suc n) k e = ok_value (suc n) k e
 
-first_section : (v : Vocabulary) (s : Settings) → IsSectionFor v s 0
-first_section SetupOnly s = refl
-first_section Whole s = omega arith
+first_section : (s : Settings) → IsSectionFor s 0
+first_section s = omega arith
 
-further_read : (s : Settings) (name : Text) (words : List Text) (command : Command) → further_command s name words ≡ Ok command → IsReadCommand Whole s name words command
+further_read : (s : Settings) (name : Text) (words : List Text) (command : Command) → further_command s name words ≡ Ok command → IsReadCommand s name words command
 unfolding further_command
 further_read s name words command e =
     elim (word_cases name (codes "count") _ _ command e) [
-      | inl h ↦ node_read Whole s Count name words command (plain_word name (codes "count") h.0 (record { printable = refl; some = refl })) tt refl h.1
+      | inl h ↦ node_read s Count name words command (plain_word name (codes "count") h.0 (record { printable = refl; some = refl })) tt h.1
       | inr e1 ↦
           elim (word_cases name (codes "take") _ _ command e1) [
-            | inl h ↦ batch_read Whole s (λ count. Take count) name words command (plain_word name (codes "take") h.0 (record { printable = refl; some = refl })) (λ n le. le) (λ n. refl) h.1
+            | inl h ↦ batch_read s (λ count. Take count) name words command (plain_word name (codes "take") h.0 (record { printable = refl; some = refl })) (λ n le. le) h.1
             | inr e2 ↦
                 elim (word_cases name (codes "splitnext") _ _ command e2) [
-                  | inl h ↦ node_read Whole s SplitNext name words command (plain_word name (codes "splitnext") h.0 (record { printable = refl; some = refl })) tt refl h.1
+                  | inl h ↦ node_read s SplitNext name words command (plain_word name (codes "splitnext") h.0 (record { printable = refl; some = refl })) tt h.1
                   | inr e3 ↦
                       elim (word_cases name (codes "putback") _ _ command e3) [
-                        | inl h ↦ node_read Whole s PutBack name words command (plain_word name (codes "putback") h.0 (record { printable = refl; some = refl })) tt refl h.1
+                        | inl h ↦ node_read s PutBack name words command (plain_word name (codes "putback") h.0 (record { printable = refl; some = refl })) tt h.1
                         | inr e4 ↦
                             elim (word_cases name (codes "write") _ _ command e4) [
-                              | inl h ↦ range_read Whole s (λ page first count. Write first count page) name words command (plain_word name (codes "write") h.0 (record { printable = refl; some = refl })) (λ p f n. tt) (λ p f n. refl) h.1
+                              | inl h ↦ range_read s (λ page first count. Write first count page) name words command (plain_word name (codes "write") h.0 (record { printable = refl; some = refl })) (λ p f n. tt) h.1
                               | inr e5 ↦
                                   elim (word_cases name (codes "zero") _ _ command e5) [
-                                    | inl h ↦ range_read Whole s (λ page first count. Zero first count page) name words command (plain_word name (codes "zero") h.0 (record { printable = refl; some = refl })) (λ p f n. tt) (λ p f n. refl) h.1
+                                    | inl h ↦ range_read s (λ page first count. Zero first count page) name words command (plain_word name (codes "zero") h.0 (record { printable = refl; some = refl })) (λ p f n. tt) h.1
                                     | inr e6 ↦
                                         absurd cc
                                   ]
@@ -144,38 +141,38 @@ further_read s name words command e =
           ]
     ]
 
-call_command_read : (v : Vocabulary) (s : Settings) (name : Text) (words : List Text) (command : Command) → call_command s name words ≡ Ok command → IsReadCommand v s name words command
+call_command_read : (s : Settings) (name : Text) (words : List Text) (command : Command) → call_command s name words ≡ Ok command → IsReadCommand s name words command
 unfolding call_command
-call_command_read v s name words command e =
+call_command_read s name words command e =
     elim (word_cases name (codes "alloc") _ _ command e) [
-      | inl h ↦ node_read v s Alloc name words command (plain_word name (codes "alloc") h.0 (record { printable = refl; some = refl })) tt tt h.1
+      | inl h ↦ node_read s Alloc name words command (plain_word name (codes "alloc") h.0 (record { printable = refl; some = refl })) tt h.1
       | inr e1 ↦
           elim (word_cases name (codes "mapwhole") _ _ command e1) [
-            | inl h ↦ page_read v s MapWhole name words command (plain_word name (codes "mapwhole") h.0 (record { printable = refl; some = refl })) (λ n. tt) (λ n. tt) h.1
+            | inl h ↦ page_read s MapWhole name words command (plain_word name (codes "mapwhole") h.0 (record { printable = refl; some = refl })) (λ n. tt) h.1
             | inr e2 ↦
                 elim (word_cases name (codes "unmapwhole") _ _ command e2) [
-                  | inl h ↦ page_read v s UnmapWhole name words command (plain_word name (codes "unmapwhole") h.0 (record { printable = refl; some = refl })) (λ n. tt) (λ n. tt) h.1
+                  | inl h ↦ page_read s UnmapWhole name words command (plain_word name (codes "unmapwhole") h.0 (record { printable = refl; some = refl })) (λ n. tt) h.1
                   | inr e3 ↦
                       elim (word_cases name (codes "map") _ _ command e3) [
-                        | inl h ↦ range_read v s (λ page first count. Map first count page) name words command (plain_word name (codes "map") h.0 (record { printable = refl; some = refl })) (λ p f n. tt) (λ p f n. tt) h.1
+                        | inl h ↦ range_read s (λ page first count. Map first count page) name words command (plain_word name (codes "map") h.0 (record { printable = refl; some = refl })) (λ p f n. tt) h.1
                         | inr e4 ↦
                             elim (word_cases name (codes "unmap") _ _ command e4) [
-                              | inl h ↦ range_read v s (λ page first count. Unmap first count page) name words command (plain_word name (codes "unmap") h.0 (record { printable = refl; some = refl })) (λ p f n. tt) (λ p f n. tt) h.1
+                              | inl h ↦ range_read s (λ page first count. Unmap first count page) name words command (plain_word name (codes "unmap") h.0 (record { printable = refl; some = refl })) (λ p f n. tt) h.1
                               | inr e5 ↦
                                   elim (word_cases name (codes "splitpmd") _ _ command e5) [
-                                    | inl h ↦ page_read v s SplitPmd name words command (plain_word name (codes "splitpmd") h.0 (record { printable = refl; some = refl })) (λ n. tt) (λ n. tt) h.1
+                                    | inl h ↦ page_read s SplitPmd name words command (plain_word name (codes "splitpmd") h.0 (record { printable = refl; some = refl })) (λ n. tt) h.1
                                     | inr e6 ↦
                                         elim (word_cases name (codes "pin") _ _ command e6) [
-                                          | inl h ↦ page_read v s Pin name words command (plain_word name (codes "pin") h.0 (record { printable = refl; some = refl })) (λ n. tt) (λ n. tt) h.1
+                                          | inl h ↦ page_read s Pin name words command (plain_word name (codes "pin") h.0 (record { printable = refl; some = refl })) (λ n. tt) h.1
                                           | inr e7 ↦
                                               elim (word_cases name (codes "unpin") _ _ command e7) [
-                                                | inl h ↦ page_read v s Unpin name words command (plain_word name (codes "unpin") h.0 (record { printable = refl; some = refl })) (λ n. tt) (λ n. tt) h.1
+                                                | inl h ↦ page_read s Unpin name words command (plain_word name (codes "unpin") h.0 (record { printable = refl; some = refl })) (λ n. tt) h.1
                                                 | inr e8 ↦
                                                     elim (word_cases name (codes "close") _ _ command e8) [
-                                                      | inl h ↦ node_read v s Close name words command (plain_word name (codes "close") h.0 (record { printable = refl; some = refl })) tt tt h.1
+                                                      | inl h ↦ node_read s Close name words command (plain_word name (codes "close") h.0 (record { printable = refl; some = refl })) tt h.1
                                                       | inr e9 ↦
                                                           elim (word_cases name (codes "scan") _ _ command e9) [
-                                                            | inl h ↦ batch_read v s (λ count. Scan count) name words command (plain_word name (codes "scan") h.0 (record { printable = refl; some = refl })) (λ n le. le) (λ n. tt) h.1
+                                                            | inl h ↦ batch_read s (λ count. Scan count) name words command (plain_word name (codes "scan") h.0 (record { printable = refl; some = refl })) (λ n le. le) h.1
                                                             | inr e10 ↦
                                                                 absurd cc
                                                           ]
@@ -190,26 +187,25 @@ call_command_read v s name words command e =
     ]
 
 -- a command that is read has plain words, and is for a node that there is
-pub command_read : (v : Vocabulary) (s : Settings) (name : Text) (words : List Text) (command : Command) → command_of v s name words ≡ Ok command → IsReadCommand v s name words command
-command_read SetupOnly s name words command e = call_command_read SetupOnly s name words command e
-command_read Whole s name words command e = go (is_further name) e
+pub command_read : (s : Settings) (name : Text) (words : List Text) (command : Command) → command_of s name words ≡ Ok command → IsReadCommand s name words command
+command_read s name words command e = go (is_further name) e
   where
-    go : (b : Bool) → cond b (further_command s name words) (call_command s name words) ≡ Ok command → IsReadCommand Whole s name words command
+    go : (b : Bool) → cond b (further_command s name words) (call_command s name words) ≡ Ok command → IsReadCommand s name words command
     go true e = further_read s name words command e
-    go false e = call_command_read Whole s name words command e
+    go false e = call_command_read s name words command e
 
 -- ---- lines
 
 -- what is known of a line's words and of what they say
-pub record IsReadLine (v : Vocabulary) (s : Settings) (words : List Text) (statement : Statement) : Type 0 where
+pub record IsReadLine (s : Settings) (words : List Text) (statement : Statement) : Type 0 where
   pub words_plain : All IsPlain words
-  pub in_range : IsInRange v s statement
+  pub in_range : IsInRange s statement
 
-setup_read : (v : Vocabulary) (s : Settings) (name : Text) (words : List Text) (statement : Statement) → IsPlain name → setup_of words ≡ Ok statement → IsReadLine v s (name ∷ words) statement
-setup_read v s name [] statement plain e =
+setup_read : (s : Settings) (name : Text) (words : List Text) (statement : Statement) → IsPlain name → setup_of words ≡ Ok statement → IsReadLine s (name ∷ words) statement
+setup_read s name [] statement plain e =
     let is : Section 0 ≡ statement = ok_value (Section 0) statement e in
-    record { words_plain = one_plain name plain; in_range = subst (λ t. IsInRange v s t) is (first_section v s) }
-setup_read v s name (a ∷ words) statement plain e = absurd cc
+    record { words_plain = one_plain name plain; in_range = subst (λ t. IsInRange s t) is (first_section s) }
+setup_read s name (a ∷ words) statement plain e = absurd cc
 
 worker_in_range : (s : Settings) (word : Text) (k : ℕ) → worker_number s word ≡ Ok k → IsPlain word × (k ≤ s.workers)
 worker_in_range s word k e =
@@ -219,61 +215,60 @@ worker_in_range s word k e =
     let most : number.0 ≤ s.workers = read.1 in
     (read.0, omega arith)
 
-worker_read : (s : Settings) (name : Text) (words : List Text) (statement : Statement) → IsPlain name → worker_of s words ≡ Ok statement → IsReadLine Whole s (name ∷ words) statement
+worker_read : (s : Settings) (name : Text) (words : List Text) (statement : Statement) → IsPlain name → worker_of s words ≡ Ok statement → IsReadLine s (name ∷ words) statement
 unfolding worker_of
 worker_read s name [] statement plain e = absurd cc
 worker_read s name (a ∷ []) statement plain e =
     let number = bind_ok (worker_number s a) _ statement e in
     let read = worker_in_range s a number.0 number.1 in
     let is : Section number.0 ≡ statement = ok_value (Section number.0) statement number.2 in
-    record { words_plain = All-cons IsPlain name (a ∷ []) plain (one_plain a read.0); in_range = subst (λ t. IsInRange Whole s t) is read.1 }
+    record { words_plain = All-cons IsPlain name (a ∷ []) plain (one_plain a read.0); in_range = subst (λ t. IsInRange s t) is read.1 }
 worker_read s name (a ∷ b ∷ words) statement plain e = absurd cc
 
-call_read : (v : Vocabulary) (s : Settings) (name : Text) (words : List Text) (statement : Statement) → call_of v s name words ≡ Ok statement → IsReadLine v s (name ∷ words) statement
-call_read v s name words statement e =
-    let command = bind_ok (command_of v s name words) _ statement e in
-    let read = command_read v s name words command.0 command.1 in
+call_read : (s : Settings) (name : Text) (words : List Text) (statement : Statement) → call_of s name words ≡ Ok statement → IsReadLine s (name ∷ words) statement
+call_read s name words statement e =
+    let command = bind_ok (command_of s name words) _ statement e in
+    let read = command_read s name words command.0 command.1 in
     let is : Call command.0 ≡ statement = ok_value (Call command.0) statement command.2 in
-    record { words_plain = All-cons IsPlain name words read.name_plain read.words_plain; in_range = subst (λ t. IsInRange v s t) is read.in_range }
+    record { words_plain = All-cons IsPlain name words read.name_plain read.words_plain; in_range = subst (λ t. IsInRange s t) is read.in_range }
 
-later_read : (v : Vocabulary) (s : Settings) (name : Text) (words : List Text) (statement : Statement) → worker_or_call v s name words ≡ Ok statement → IsReadLine v s (name ∷ words) statement
-later_read SetupOnly s name words statement e = call_read SetupOnly s name words statement e
-later_read Whole s name words statement e =
+later_read : (s : Settings) (name : Text) (words : List Text) (statement : Statement) → worker_or_call s name words ≡ Ok statement → IsReadLine s (name ∷ words) statement
+later_read s name words statement e =
     elim (word_cases name (codes "worker") _ _ statement e) [
       | inl h ↦ worker_read s name words statement (plain_word name (codes "worker") h.0 (record { printable = refl; some = refl })) h.1
-      | inr e1 ↦ call_read Whole s name words statement e1
+      | inr e1 ↦ call_read s name words statement e1
     ]
 
 -- a line that reads as a statement has plain words
-pub line_read : (v : Vocabulary) (s : Settings) (words : List Text) (statement : Statement) → by_words v s words ≡ Ok statement → IsReadLine v s words statement
+pub line_read : (s : Settings) (words : List Text) (statement : Statement) → by_words s words ≡ Ok statement → IsReadLine s words statement
 unfolding section_or_call
-line_read v s [] statement e = absurd cc
-line_read v s (name ∷ words) statement e =
+line_read s [] statement e = absurd cc
+line_read s (name ∷ words) statement e =
     elim (word_cases name (codes "setup") _ _ statement e) [
-      | inl h ↦ setup_read v s name words statement (plain_word name (codes "setup") h.0 (record { printable = refl; some = refl })) h.1
-      | inr e1 ↦ later_read v s name words statement e1
+      | inl h ↦ setup_read s name words statement (plain_word name (codes "setup") h.0 (record { printable = refl; some = refl })) h.1
+      | inr e1 ↦ later_read s name words statement e1
     ]
 
 -- a line that reads as a statement is printable and has no empty word
-pub read_is_printable : (v : Vocabulary) (s : Settings) (line : Text) (statement : Statement) → by_words v s (words_of line) ≡ Ok statement → list_all is_printable line ≡ true
-read_is_printable v s line statement e = pieces_printable line (line_read v s (words_of line) statement e).words_plain
+pub read_is_printable : (s : Settings) (line : Text) (statement : Statement) → by_words s (words_of line) ≡ Ok statement → list_all is_printable line ≡ true
+read_is_printable s line statement e = pieces_printable line (line_read s (words_of line) statement e).words_plain
 
-pub read_has_no_empty : (v : Vocabulary) (s : Settings) (line : Text) (statement : Statement) → by_words v s (words_of line) ≡ Ok statement → list_any is_empty (words_of line) ≡ false
-read_has_no_empty v s line statement e = none_empty (words_of line) (line_read v s (words_of line) statement e).words_plain
+pub read_has_no_empty : (s : Settings) (line : Text) (statement : Statement) → by_words s (words_of line) ≡ Ok statement → list_any is_empty (words_of line) ≡ false
+read_has_no_empty s line statement e = none_empty (words_of line) (line_read s (words_of line) statement e).words_plain
 
 -- a line that says something and reads as a statement says that
-pub statement_of-read : (v : Vocabulary) (s : Settings) (line : Text) (statement : Statement) → says_nothing line ≡ false → Ok statement ≡ by_words v s (words_of line) → Ok statement ≡ statement_of v s line
+pub statement_of-read : (s : Settings) (line : Text) (statement : Statement) → says_nothing line ≡ false → Ok statement ≡ by_words s (words_of line) → Ok statement ≡ statement_of s line
 unfolding statement_of
-statement_of-read v s line statement says e =
-    rw (read_is_printable v s line statement (sym e), says, read_has_no_empty v s line statement (sym e)) e
+statement_of-read s line statement says e =
+    rw (read_is_printable s line statement (sym e), says, read_has_no_empty s line statement (sym e)) e
 
 -- and one that doesn't has the first fault that applies
-pub statement_of-fails : (v : Vocabulary) (s : Settings) (line : Text) (reading : TextKind) → says_nothing line ≡ false → Err reading ≡ by_words v s (words_of line)
-    → Err (cond (list_all is_printable line) (cond (list_any is_empty (words_of line)) BadWord reading) BadByte) ≡ statement_of v s line
+pub statement_of-fails : (s : Settings) (line : Text) (reading : TextKind) → says_nothing line ≡ false → Err reading ≡ by_words s (words_of line)
+    → Err (cond (list_all is_printable line) (cond (list_any is_empty (words_of line)) BadWord reading) BadByte) ≡ statement_of s line
 unfolding statement_of
-statement_of-fails v s line reading says e = go (list_all is_printable line) (list_any is_empty (words_of line))
+statement_of-fails s line reading says e = go (list_all is_printable line) (list_any is_empty (words_of line))
   where
-    go : (b c : Bool) → Err (cond b (cond c BadWord reading) BadByte) ≡ cond (not b) (Err BadByte) (cond (says_nothing line) (Ok Nothing) (cond c (Err BadWord) (by_words v s (words_of line))))
+    go : (b c : Bool) → Err (cond b (cond c BadWord reading) BadByte) ≡ cond (not b) (Err BadByte) (cond (says_nothing line) (Ok Nothing) (cond c (Err BadWord) (by_words s (words_of line))))
     go false c = refl
     go true true = rw says refl
     go true false = rw says e
@@ -284,22 +279,22 @@ cond_err : {A : Type 0} (b : Bool) (kind : TextKind) (others : Result A TextKind
 cond_err true kind others x e = absurd cc
 cond_err false kind others x e = e
 
-statement_in_range_of : (v : Vocabulary) (s : Settings) (line : Text) (statement : Statement) → statement_of v s line ≡ Ok statement → IsInRange v s statement
+statement_in_range_of : (s : Settings) (line : Text) (statement : Statement) → statement_of s line ≡ Ok statement → IsInRange s statement
 unfolding statement_of
-statement_in_range_of v s line statement e =
+statement_in_range_of s line statement e =
     go (says_nothing line) (cond_err (not (list_all is_printable line)) BadByte _ statement e)
   where
-    go : (b : Bool) → cond b (Ok Nothing) (cond (list_any is_empty (words_of line)) (Err BadWord) (by_words v s (words_of line))) ≡ Ok statement → IsInRange v s statement
-    go true e = subst (λ t. IsInRange v s t) (ok_value Nothing statement e) tt
-    go false e = (line_read v s (words_of line) statement (cond_err (list_any is_empty (words_of line)) BadWord _ statement e)).in_range
+    go : (b : Bool) → cond b (Ok Nothing) (cond (list_any is_empty (words_of line)) (Err BadWord) (by_words s (words_of line))) ≡ Ok statement → IsInRange s statement
+    go true e = subst (λ t. IsInRange s t) (ok_value Nothing statement e) tt
+    go false e = (line_read s (words_of line) statement (cond_err (list_any is_empty (words_of line)) BadWord _ statement e)).in_range
 
 -- what a line says in its place is in range
-pub statement_in_range : (v : Vocabulary) (s : Settings) (section : Option ℕ) (line : Text) (statement : Statement) → statement_in v s section line ≡ Ok statement → IsInRange v s statement
+pub statement_in_range : (s : Settings) (section : Option ℕ) (line : Text) (statement : Statement) → statement_in s section line ≡ Ok statement → IsInRange s statement
 unfolding statement_in
-statement_in_range v s section line statement e =
-    let read = bind_ok (statement_of v s line) _ statement e in
+statement_in_range s section line statement e =
+    let read = bind_ok (statement_of s line) _ statement e in
     let same : read.0 ≡ statement = placed_same (may_stand section read.0) read.0 statement read.2 in
-    subst (λ t. IsInRange v s t) same (statement_in_range_of v s line read.0 read.1)
+    subst (λ t. IsInRange s t) same (statement_in_range_of s line read.0 read.1)
   where
     placed_same : (b : Bool) (t u : Statement) → cond b (Ok t) (Err BadOrder) ≡ Ok u → t ≡ u
     placed_same true t u e = ok_value t u e

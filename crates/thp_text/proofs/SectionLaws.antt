@@ -7,11 +7,9 @@ use Rattle.std.proofs.lemmas.List.{append-nil}
 use Rattle.std.proofs.lemmas.List.Elements.{All-nil, All-cons, All-tail}
 use Rattle.thp_text.specs.declared.script.Command.{Command}
 use Rattle.thp_text.specs.declared.settings.Settings.{Settings}
-use Rattle.thp_text.specs.declared.vocabulary.Vocabulary.{Vocabulary}
-use Rattle.thp_text.specs.declared.vocabulary.Vocabulary.TheVariants.{SetupOnly, Whole}
 use Rattle.thp_text.specs.Commands.{IsCommandFor}
 use Rattle.thp_text.specs.Statements.{IsSectionFor}
-use Rattle.thp_text.specs.Scripts.{Placed, commands_in, sections_with, script_with, IsScriptFor, KeepsTo}
+use Rattle.thp_text.specs.Scripts.{Placed, commands_in, sections_with, script_with, IsScriptFor}
 
 cond_push : (b : Bool) (x : Command) (xs ys : List Command) → cond b (x ∷ (xs ++ ys)) (xs ++ ys) ≡ cond b (x ∷ xs) xs ++ ys
 cond_push true x xs ys = refl
@@ -69,45 +67,29 @@ pub sections_with-script : (workers : ℕ) (ps : List Placed) → sections_with 
 unfolding sections_with script_with
 sections_with-script workers ps = let one-more : workers + 1 ≡ suc workers = omega arith in rw one-more refl
 
--- a command of the vocabulary in a section that there is, for a node that there is
-pub record PlacedFor (v : Vocabulary) (s : Settings) (p : Placed) : Type 0 where
-  pub section : IsSectionFor v s p.0
-  pub command : IsCommandFor v s.nodes p.1
-
-module _ (v : Vocabulary) (s : Settings) where
-  all_cond : (b : Bool) (command : Command) (commands : List Command) → IsCommandFor v s.nodes command → All (IsCommandFor v s.nodes) commands → All (IsCommandFor v s.nodes) (cond b (command ∷ commands) commands)
-  all_cond true command commands h all = All-cons (IsCommandFor v s.nodes) command commands h all
-  all_cond false command commands h all = all
-
-  all_in : (k : ℕ) (ps : List Placed) → All (PlacedFor v s) ps → All (IsCommandFor v s.nodes) (commands_in k ps)
-  all_in k [] all = All-nil (IsCommandFor v s.nodes)
-  all_in k (p ∷ ps) all = all_cond (p.0 == k) p.1 (commands_in k ps) (all 0 p (omega arith)).command (all_in k ps (All-tail (PlacedFor v s) p ps all))
-
-  all_from : (n a : ℕ) (ps : List Placed) → All (PlacedFor v s) ps → All (λ (commands : List Command). All (IsCommandFor v s.nodes) commands) (sections_from a n ps)
-  all_from zero a ps all = All-nil (λ (commands : List Command). All (IsCommandFor v s.nodes) commands)
-  all_from (suc n) a ps all = All-cons (λ (commands : List Command). All (IsCommandFor v s.nodes) commands) (commands_in a ps) (sections_from (a + 1) n ps) (all_in a ps all) (all_from n (a + 1) ps all)
+-- a command in a section that there is, for a node that there is
+pub record PlacedFor (s : Settings) (p : Placed) : Type 0 where
+  pub section : IsSectionFor s p.0
+  pub command : IsCommandFor s.nodes p.1
 
 module _ (s : Settings) where
-  none_in : (k : ℕ) (ps : List Placed) → (k ≡ 0 → ⊥) → All (PlacedFor SetupOnly s) ps → commands_in k ps ≡ []
-  none_in k [] other all = refl
-  none_in k (p ∷ ps) other all =
-      rw (ne_eqb p.0 k (λ same. other (sym same ∙ (all 0 p (omega arith)).section))) (none_in k ps other (All-tail (PlacedFor SetupOnly s) p ps all))
+  all_cond : (b : Bool) (command : Command) (commands : List Command) → IsCommandFor s.nodes command → All (IsCommandFor s.nodes) commands → All (IsCommandFor s.nodes) (cond b (command ∷ commands) commands)
+  all_cond true command commands h all = All-cons (IsCommandFor s.nodes) command commands h all
+  all_cond false command commands h all = all
 
-  -- the sections behind the first have no commands
-  none_from : (n a : ℕ) (ps : List Placed) → 0 < a → All (PlacedFor SetupOnly s) ps → All (λ (commands : List Command). commands ≡ []) (sections_from a n ps)
-  none_from zero a ps later all = All-nil (λ (commands : List Command). commands ≡ [])
-  none_from (suc n) a ps later all = All-cons (λ (commands : List Command). commands ≡ []) (commands_in a ps) (sections_from (a + 1) n ps) (none_in a ps (λ e. absurd (omega arith)) all) (none_from n (a + 1) ps (omega arith) all)
+  all_in : (k : ℕ) (ps : List Placed) → All (PlacedFor s) ps → All (IsCommandFor s.nodes) (commands_in k ps)
+  all_in k [] all = All-nil (IsCommandFor s.nodes)
+  all_in k (p ∷ ps) all = all_cond (p.0 == k) p.1 (commands_in k ps) (all 0 p (omega arith)).command (all_in k ps (All-tail (PlacedFor s) p ps all))
 
-kept_to : (v : Vocabulary) (s : Settings) (n : ℕ) (ps : List Placed) → All (PlacedFor v s) ps → KeepsTo v (sections_from 1 n ps)
-kept_to SetupOnly s n ps all = none_from s n 1 ps (omega arith) all
-kept_to Whole s n ps all = tt
+  all_from : (n a : ℕ) (ps : List Placed) → All (PlacedFor s) ps → All (λ (commands : List Command). All (IsCommandFor s.nodes) commands) (sections_from a n ps)
+  all_from zero a ps all = All-nil (λ (commands : List Command). All (IsCommandFor s.nodes) commands)
+  all_from (suc n) a ps all = All-cons (λ (commands : List Command). All (IsCommandFor s.nodes) commands) (commands_in a ps) (sections_from (a + 1) n ps) (all_in a ps all) (all_from n (a + 1) ps all)
 
 -- where each command is in range, so is each of the script
-pub in_range_script : (v : Vocabulary) (s : Settings) (ps : List Placed) → All (PlacedFor v s) ps → IsScriptFor v s (script_with s.workers ps)
+pub in_range_script : (s : Settings) (ps : List Placed) → All (PlacedFor s) ps → IsScriptFor s (script_with s.workers ps)
 unfolding script_with
-in_range_script v s ps all = record {
-  setup_commands = all_in v s 0 ps all;
-  worker_commands = all_from v s s.workers 1 ps all;
+in_range_script s ps all = record {
+  setup_commands = all_in s 0 ps all;
+  worker_commands = all_from s s.workers 1 ps all;
   sections = from-length s.workers 1 ps;
-  kept = kept_to v s s.workers ps all;
 }

@@ -7,8 +7,6 @@ use Rattle.thp_text.specs.declared.script.Command.{Command}
 use Rattle.thp_text.specs.declared.script.Op.{Op}
 use Rattle.thp_text.specs.declared.script.Op.TheVariants.{Alloc, MapWhole, UnmapWhole, Map, Unmap, Write, Zero, SplitPmd, Pin, Unpin, Close, Scan, Count, Take, SplitNext, PutBack}
 use Rattle.thp_text.specs.declared.settings.Settings.{Settings}
-use Rattle.thp_text.specs.declared.vocabulary.Vocabulary.{Vocabulary}
-use Rattle.thp_text.specs.declared.vocabulary.Vocabulary.TheVariants.{SetupOnly, Whole}
 use Rattle.thp_text.specs.Readings.{◌>>=◌}
 use Rattle.thp_text.specs.Words.{Text, number_of}
 
@@ -99,9 +97,8 @@ call_command s name words =
     else Err BadWord
 
 -- a command by its first word and the others
-abbrev pub command_of : Vocabulary → Settings → Text → List Text → Result Command TextKind
-command_of SetupOnly s name words = call_command s name words
-command_of Whole s name words = if is_further name then further_command s name words else call_command s name words
+abbrev pub command_of : Settings → Text → List Text → Result Command TextKind
+command_of s name words = if is_further name then further_command s name words else call_command s name words
 
 -- a scan and a take are of as many pages as a batch holds
 abbrev pub FitsBatch : Op → Type 0
@@ -109,18 +106,7 @@ FitsBatch (Scan count) = count ≤ 128
 FitsBatch (Take count) = count ≤ 128
 FitsBatch _ = ⊤
 
--- the command is one of the vocabulary
-abbrev pub IsKnown : Vocabulary → Op → Type 0
-IsKnown v Count = v ≡ Whole
-IsKnown v (Take count) = v ≡ Whole
-IsKnown v SplitNext = v ≡ Whole
-IsKnown v PutBack = v ≡ Whole
-IsKnown v (Write first count page) = v ≡ Whole
-IsKnown v (Zero first count page) = v ≡ Whole
-IsKnown v _ = ⊤
-
--- a command of the vocabulary, for a node that there is
-pub record IsCommandFor (v : Vocabulary) (nodes : ℕ) (command : Command) : Type 0 where
+-- a command for a node that there is
+pub record IsCommandFor (nodes : ℕ) (command : Command) : Type 0 where
   pub node_exists : command.node < nodes
   pub fits_batch : FitsBatch command.op
-  pub known : IsKnown v command.op

@@ -10,8 +10,6 @@ use Rattle.thp_text.specs.declared.script.Script.{Script}
 use Rattle.thp_text.specs.declared.settings.Settings.{Settings}
 use Rattle.thp_text.specs.declared.statement.Statement.{Statement}
 use Rattle.thp_text.specs.declared.statement.Statement.TheVariants.{Nothing, Section, Call}
-use Rattle.thp_text.specs.declared.vocabulary.Vocabulary.{Vocabulary}
-use Rattle.thp_text.specs.declared.vocabulary.Vocabulary.TheVariants.{SetupOnly, Whole}
 use Rattle.thp_text.specs.Readings.{◌>>=◌}
 use Rattle.thp_text.specs.Words.{Text, lines_of}
 use Rattle.thp_text.specs.Commands.{IsCommandFor}
@@ -42,12 +40,12 @@ end_of line None = Ok []
 end_of line (Some kind) = Err (line, kind)
 
 -- the commands of the lines from number `line` on, which stand in this section
-unfoldable pub commands_from : Vocabulary → Settings → ℕ → Option ℕ → List Text → Result (List Placed) Fault
-commands_from v s line section [] = Ok []
-commands_from v s line section (behind ∷ []) = end_of line (fault_behind behind)
-commands_from v s line section (text ∷ next ∷ texts) = do
-  statement ← on_line line (statement_in v s section text)
-  commands ← commands_from v s (line + 1) (section_after section statement) (next ∷ texts)
+unfoldable pub commands_from : Settings → ℕ → Option ℕ → List Text → Result (List Placed) Fault
+commands_from s line section [] = Ok []
+commands_from s line section (behind ∷ []) = end_of line (fault_behind behind)
+commands_from s line section (text ∷ next ∷ texts) = do
+  statement ← on_line line (statement_in s section text)
+  commands ← commands_from s (line + 1) (section_after section statement) (next ∷ texts)
   Ok (placed section statement ++ commands)
 
 -- the commands of one section, in order
@@ -63,25 +61,19 @@ sections_with workers ps = map (λ k. commands_in k ps) (range_with_len 0 (worke
 unfoldable pub script_with : ℕ → List Placed → Script
 script_with workers ps = record { setup = commands_in 0 ps; workers = map (λ k. commands_in k ps) (range_with_len 1 workers) }
 
--- The script that a text spells in a vocabulary, or its first fault.
-unfoldable pub script_of : Vocabulary → Settings → Text → Result Script Fault
-script_of v s text =
+-- the script that a text spells, or its first fault
+unfoldable pub script_of : Settings → Text → Result Script Fault
+script_of s text =
     if nat_lt 16777216 (length text) then Err (0, TooLong)
-    else (commands_from v s 1 None (lines_of text) >>= λ ps. Ok (script_with s.workers ps))
+    else (commands_from s 1 None (lines_of text) >>= λ ps. Ok (script_with s.workers ps))
 
 -- a fault of reading is the text's first, unless memory was refused
 abbrev pub TellsFault : {A : Type 0} → Result A Fault → ReadFault → Type 0
 TellsFault read (TextFault line kind) = read ≡ Err (line, kind)
 TellsFault read OutOfMemory = ⊤
 
--- without workers in the vocabulary their sections are empty
-abbrev pub KeepsTo : Vocabulary → List (List Command) → Type 0
-KeepsTo SetupOnly workers = All (λ commands. commands ≡ []) workers
-KeepsTo Whole workers = ⊤
-
--- each command is one of the vocabulary, for a node that there is, and there is a section for each worker
-pub record IsScriptFor (v : Vocabulary) (s : Settings) (script : Script) : Type 0 where
-  pub setup_commands : All (IsCommandFor v s.nodes) script.setup
-  pub worker_commands : All (λ commands. All (IsCommandFor v s.nodes) commands) script.workers
+-- each command is for a node that there is, and there is a section for each worker
+pub record IsScriptFor (s : Settings) (script : Script) : Type 0 where
+  pub setup_commands : All (IsCommandFor s.nodes) script.setup
+  pub worker_commands : All (λ commands. All (IsCommandFor s.nodes) commands) script.workers
   pub sections : length script.workers ≡ s.workers
-  pub kept : KeepsTo v script.workers

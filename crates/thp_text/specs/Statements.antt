@@ -7,8 +7,6 @@ use Rattle.thp_text.specs.declared.fault.TextKind.TheVariants.{BadByte, BadWord,
 use Rattle.thp_text.specs.declared.settings.Settings.{Settings}
 use Rattle.thp_text.specs.declared.statement.Statement.{Statement}
 use Rattle.thp_text.specs.declared.statement.Statement.TheVariants.{Nothing, Section, Call}
-use Rattle.thp_text.specs.declared.vocabulary.Vocabulary.{Vocabulary}
-use Rattle.thp_text.specs.declared.vocabulary.Vocabulary.TheVariants.{SetupOnly, Whole}
 use Rattle.thp_text.specs.Readings.{◌>>=◌}
 use Rattle.thp_text.specs.Words.{Text, words_of}
 use Rattle.thp_text.specs.Lines.{is_empty, is_printable}
@@ -35,25 +33,24 @@ worker_of s words = do
   k ← worker_number s word
   Ok (Section k)
 
-abbrev pub call_of : Vocabulary → Settings → Text → List Text → Result Statement TextKind
-call_of v s name words = command_of v s name words >>= λ command. Ok (Call command)
+abbrev pub call_of : Settings → Text → List Text → Result Statement TextKind
+call_of s name words = command_of s name words >>= λ command. Ok (Call command)
 
--- the section of a worker, where the vocabulary has workers, or a command
-abbrev pub worker_or_call : Vocabulary → Settings → Text → List Text → Result Statement TextKind
-worker_or_call SetupOnly s name words = call_of SetupOnly s name words
-worker_or_call Whole s name words =
+-- the section of a worker, or a command
+abbrev pub worker_or_call : Settings → Text → List Text → Result Statement TextKind
+worker_or_call s name words =
     if bytes_eq name (codes "worker") then worker_of s words
-    else call_of Whole s name words
+    else call_of s name words
 
 -- a section line or a command, by its first word and the others
-unfoldable pub section_or_call : Vocabulary → Settings → Text → List Text → Result Statement TextKind
-section_or_call v s name words =
+unfoldable pub section_or_call : Settings → Text → List Text → Result Statement TextKind
+section_or_call s name words =
     if bytes_eq name (codes "setup") then setup_of words
-    else worker_or_call v s name words
+    else worker_or_call s name words
 
-abbrev pub by_words : Vocabulary → Settings → List Text → Result Statement TextKind
-by_words v s [] = Err BadWord
-by_words v s (name ∷ words) = section_or_call v s name words
+abbrev pub by_words : Settings → List Text → Result Statement TextKind
+by_words s [] = Err BadWord
+by_words s (name ∷ words) = section_or_call s name words
 
 -- an empty line, or one that begins with `#` (35)
 abbrev pub says_nothing : Text → Bool
@@ -61,12 +58,12 @@ says_nothing [] = true
 says_nothing (b ∷ _) = b == 35
 
 -- what a whole line says, wherever it stands; the faults are in their order
-unfoldable pub statement_of : Vocabulary → Settings → Text → Result Statement TextKind
-statement_of v s line =
+unfoldable pub statement_of : Settings → Text → Result Statement TextKind
+statement_of s line =
     if not (list_all is_printable line) then Err BadByte
     else if says_nothing line then Ok Nothing
     else if list_any is_empty (words_of line) then Err BadWord
-    else by_words v s (words_of line)
+    else by_words s (words_of line)
 
 -- The section before a line: none before the first section line, 0 for `setup`, K for `worker K`. Sections ascend,
 -- and each command stands in one.
@@ -84,18 +81,17 @@ section_after section Nothing = section
 section_after section (Call command) = section
 
 -- what a whole line says in its place
-unfoldable pub statement_in : Vocabulary → Settings → Option ℕ → Text → Result Statement TextKind
-statement_in v s section line = do
-  statement ← statement_of v s line
+unfoldable pub statement_in : Settings → Option ℕ → Text → Result Statement TextKind
+statement_in s section line = do
+  statement ← statement_of s line
   if may_stand section statement then Ok statement else Err BadOrder
 
--- the section `setup`, or, where the vocabulary has workers, that of a worker that there is
-abbrev pub IsSectionFor : Vocabulary → Settings → ℕ → Type 0
-IsSectionFor SetupOnly s k = k ≡ 0
-IsSectionFor Whole s k = k ≤ s.workers
+-- the section `setup`, or that of a worker that there is
+abbrev pub IsSectionFor : Settings → ℕ → Type 0
+IsSectionFor s k = k ≤ s.workers
 
--- a section that there is, or a command of the vocabulary for a node that there is
-abbrev pub IsInRange : Vocabulary → Settings → Statement → Type 0
-IsInRange v s Nothing = ⊤
-IsInRange v s (Section k) = IsSectionFor v s k
-IsInRange v s (Call command) = IsCommandFor v s.nodes command
+-- a section that there is, or a command for a node that there is
+abbrev pub IsInRange : Settings → Statement → Type 0
+IsInRange s Nothing = ⊤
+IsInRange s (Section k) = IsSectionFor s k
+IsInRange s (Call command) = IsCommandFor s.nodes command

@@ -6,7 +6,6 @@ ghost use Rattle.thp_text.specs.Operands.{batch_op, page_op, range_op};
 use crate::fault::TextKind;
 use crate::script::{Command, Op};
 use crate::settings::Settings;
-use crate::vocabulary::Vocabulary;
 use crate::words::{Words, number};
 
 /// The calls on one page, behind whose name stand a node and the page.
@@ -223,20 +222,14 @@ fn call_command(settings: &Settings, name: &[u8], words: Words) -> Result<Comman
 
 /// The command that the first word names, with its operands.
 pub(crate) fn command_of(
-    vocabulary: Vocabulary,
     settings: &Settings,
     name: &[u8],
     words: Words,
 ) -> Result<Command, TextKind>
-    ensures { result ≡ command_of vocabulary settings.now name.now words.entry }
+    ensures { result ≡ command_of settings.now name.now words.entry }
 {
-    match vocabulary {
-        Vocabulary::SetupOnly => call_command(settings, name, words),
-        Vocabulary::Whole => {
-            if is_further(name) {
-                return further_command(settings, name, words);
-            }
-            call_command(settings, name, words)
-        }
+    if is_further(name) {
+        return further_command(settings, name, words);
     }
+    call_command(settings, name, words)
 }

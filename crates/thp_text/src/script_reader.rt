@@ -1,7 +1,6 @@
 //! Scripts from bytes.
 ghost use Rattle.std.specs.Prelude.{◌≡◌, ◌≤◌, ◌<◌, ◌+◌, ◌++◌, [], ℕ, List, IfOk, IfErr, OnOk, IfSome, length, vec_len};
 ghost use Rattle.thp_text.specs.Scripts.{placed, script_of, script_with, sections_with, IsScriptFor, Placed, TellsFault};
-ghost use Rattle.thp_text.specs.declared.vocabulary.Vocabulary.TheVariants.{Whole};
 ghost use Rattle.thp_text.specs.declared.fault.ReadFault.TheVariants.{OutOfMemory};
 
 use crate::fault::{ReadFault, TextKind};
@@ -11,7 +10,6 @@ use crate::script::{Command, Script};
 use crate::sequence::Sequence;
 use crate::settings::Settings;
 use crate::statement::{Statement, section_after, statement_in};
-use crate::vocabulary::Vocabulary;
 use crate::words::cut_at;
 use std::alloc::Global;
 
@@ -58,20 +56,15 @@ fn script_of_sections(mut sections: Vec<Sequence<Command>>) -> Script
     }
 }
 
-/// The script that a text spells in a vocabulary, or its first fault.
+/// The script that a text spells, or its first fault.
 ///
 /// A section line, `setup` or `worker K`, begins a section; the lines after it are its commands. Empty lines and lines
 /// that begin with `#` say nothing. The text is read once, from its start to its first fault. The script has a list of
 /// commands for each worker, also for those without a section.
-pub fn read_script_of(
-    alloc: Global,
-    vocabulary: Vocabulary,
-    settings: &Settings,
-    text: &[u8],
-) -> Result<Script, ReadFault>
-    ensures script { IfOk result (λ script. script_of vocabulary settings.now text.now ≡ Ok script) }
-    ensures in_range { IfOk result (IsScriptFor vocabulary settings.now) }
-    ensures fault { IfErr result (TellsFault (script_of vocabulary settings.now text.now)) }
+pub fn read_script(alloc: Global, settings: &Settings, text: &[u8]) -> Result<Script, ReadFault>
+    ensures script { IfOk result (λ script. script_of settings.now text.now ≡ Ok script) }
+    ensures in_range { IfOk result (IsScriptFor settings.now) }
+    ensures fault { IfErr result (TellsFault (script_of settings.now text.now)) }
 {
     if text.len() > MAX_INPUT {
         return Err(ReadFault::Text {
@@ -91,7 +84,7 @@ pub fn read_script_of(
                 None => Ok(script_of_sections(sections)),
             };
         };
-        let statement = match statement_in(vocabulary, settings, section, line) {
+        let statement = match statement_in(settings, section, line) {
             Ok(statement) => statement,
             Err(kind) => return Err(ReadFault::Text { line: number, kind }),
         };
@@ -100,13 +93,4 @@ pub fn read_script_of(
         number += 1;
         rest = after;
     }
-}
-
-/// The script that a text spells, with all sections and commands, or its first fault.
-pub fn read_script(alloc: Global, settings: &Settings, text: &[u8]) -> Result<Script, ReadFault>
-    ensures script { IfOk result (λ script. script_of Whole settings.now text.now ≡ Ok script) }
-    ensures in_range { IfOk result (IsScriptFor Whole settings.now) }
-    ensures fault { IfErr result (TellsFault (script_of Whole settings.now text.now)) }
-{
-    read_script_of(alloc, Vocabulary::Whole, settings, text)
 }

@@ -7,7 +7,6 @@ use crate::lines::{fault_of_line, is_printable};
 use crate::operands::{command_of, number_up_to};
 use crate::script::Command;
 use crate::settings::Settings;
-use crate::vocabulary::Vocabulary;
 use crate::words::Words;
 
 /// What a line says.
@@ -45,60 +44,51 @@ fn worker_of(settings: &Settings, mut words: Words) -> Result<Statement, TextKin
 }
 
 fn call_of(
-    vocabulary: Vocabulary,
     settings: &Settings,
     name: &[u8],
     words: Words,
 ) -> Result<Statement, TextKind>
-    ensures { result ≡ call_of vocabulary settings.now name.now words.entry }
+    ensures { result ≡ call_of settings.now name.now words.entry }
 {
-    let command = command_of(vocabulary, settings, name, words)?;
+    let command = command_of(settings, name, words)?;
     Ok(Statement::Call(command))
 }
 
 fn worker_or_call(
-    vocabulary: Vocabulary,
     settings: &Settings,
     name: &[u8],
     words: Words,
 ) -> Result<Statement, TextKind>
-    ensures { result ≡ worker_or_call vocabulary settings.now name.now words.entry }
+    ensures { result ≡ worker_or_call settings.now name.now words.entry }
 {
-    match vocabulary {
-        Vocabulary::SetupOnly => call_of(Vocabulary::SetupOnly, settings, name, words),
-        Vocabulary::Whole => {
-            if name == b"worker".as_slice() {
-                return worker_of(settings, words);
-            }
-            call_of(Vocabulary::Whole, settings, name, words)
-        }
+    if name == b"worker".as_slice() {
+        return worker_of(settings, words);
     }
+    call_of(settings, name, words)
 }
 
 #[tactic(auto, unfolding(crate::specs::Statements::section_or_call))]
 fn section_or_call(
-    vocabulary: Vocabulary,
     settings: &Settings,
     name: &[u8],
     words: Words,
 ) -> Result<Statement, TextKind>
-    ensures { result ≡ section_or_call vocabulary settings.now name.now words.entry }
+    ensures { result ≡ section_or_call settings.now name.now words.entry }
 {
     if name == b"setup".as_slice() {
         return setup_of(words);
     }
-    worker_or_call(vocabulary, settings, name, words)
+    worker_or_call(settings, name, words)
 }
 
 fn by_words(
-    vocabulary: Vocabulary,
     settings: &Settings,
     mut words: Words,
 ) -> Result<Statement, TextKind>
-    ensures { result ≡ by_words vocabulary settings.now words.entry }
+    ensures { result ≡ by_words settings.now words.entry }
 {
     match words.next() {
-        Some(name) => section_or_call(vocabulary, settings, name, words),
+        Some(name) => section_or_call(settings, name, words),
         None => Err(TextKind::BadWord),
     }
 }
@@ -116,11 +106,10 @@ fn says_nothing(line: &[u8]) -> bool
 /// at again only where it doesn't.
 #[tactic(auto, unfolding(crate::specs::Statements::statement_of))]
 fn statement_of(
-    vocabulary: Vocabulary,
     settings: &Settings,
     line: &[u8],
 ) -> Result<Statement, TextKind>
-    ensures { result ≡ statement_of vocabulary settings.now line.now }
+    ensures { result ≡ statement_of settings.now line.now }
 {
     if says_nothing(line) {
         if is_printable(line) {
@@ -128,7 +117,7 @@ fn statement_of(
         }
         return Err(TextKind::BadByte);
     }
-    match by_words(vocabulary, settings, Words::of_line(line)) {
+    match by_words(settings, Words::of_line(line)) {
         Ok(statement) => Ok(statement),
         Err(reading) => Err(fault_of_line(line, reading)),
     }
@@ -159,14 +148,13 @@ pub(crate) fn section_after(section: Option<u32>, statement: Statement) -> Optio
 /// What a whole line says in its place.
 #[tactic(auto, unfolding(crate::specs::Statements::statement_in))]
 pub(crate) fn statement_in(
-    vocabulary: Vocabulary,
     settings: &Settings,
     section: Option<u32>,
     line: &[u8],
 ) -> Result<Statement, TextKind>
-    ensures { result ≡ statement_in vocabulary settings.now section line.now }
+    ensures { result ≡ statement_in settings.now section line.now }
 {
-    let statement = statement_of(vocabulary, settings, line)?;
+    let statement = statement_of(settings, line)?;
     if !may_stand(section, statement) {
         return Err(TextKind::BadOrder);
     }
