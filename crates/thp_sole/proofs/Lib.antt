@@ -3,3 +3,6 @@ pub mod SameRefusals
 pub mod SameSteps
 pub mod Walks
 pub mod SideBySide
+pub mod SameTurns
+pub mod SameSections
+pub mod OneWorker

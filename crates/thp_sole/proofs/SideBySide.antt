@@ -21,46 +21,43 @@ bare_append a b = map-append (event_with 0) a b
 same_append : (a b c d : History) → SameButBlocks a b → SameButBlocks c d → SameButBlocks (a ++ c) (b ++ d)
 same_append a b c d e f = bare_append a c ∙ ap₂ (λ (x y : History). x ++ y) e f ∙ sym (bare_append b d)
 
--- both runs stand at nodes that are the same but for blocks, with the same open batches, and these steps are still to come
-pub record Pair (shape : ℕ → Shape) (h k : ℕ → History) (c : ℕ) (limit bound : ℕ → ℕ) (ms ks : List Made) : Type 0 where
+-- both runs stand at nodes that are the same but for blocks, with these open batches, which are the same, and these steps
+-- are still to come
+pub record Pair (shape : ℕ → Shape) (h k : ℕ → History) (c : ℕ) (limit bound : ℕ → ℕ) (batches others : ℕ → Option Open) (ms ks : List Made) : Type 0 where
   pub front : ℕ → History
   pub other : ℕ → History
-  pub batches : ℕ → Option Open
-  pub others : ℕ → Option Open
   pub ours : Walk shape h c limit front batches ms
   pub theirs : Walk shape k c bound other others ks
   pub same : (n : ℕ) → SameButBlocks (front n) (other n)
   pub opens : (n : ℕ) → batches n ≡ others n
 
-module _ (shape : ℕ → Shape) (h k : ℕ → History) (c : ℕ) (limit bound : ℕ → ℕ) (m q : Made) (ms ks : List Made) (p : Pair shape h k c limit bound (m ∷ ms) (q ∷ ks)) (at : m.node ≡ q.node) (step : m.told.step ≡ q.told.step) where
+module _ (shape : ℕ → Shape) (h k : ℕ → History) (c : ℕ) (limit bound : ℕ → ℕ) (batches others : ℕ → Option Open) (m q : Made) (ms ks : List Made) (p : Pair shape h k c limit bound batches others (m ∷ ms) (q ∷ ks)) (at : m.node ≡ q.node) (step : m.told.step ≡ q.told.step) where
   -- the same step of both does and answers the same
   pub next_alike : IsSameStep m.own q.own m.told.answer q.told.answer m.after q.after
   next_alike =
-      let does : Does (shape m.node) (p.other m.node) c (p.others m.node) q.told.step q.own q.told.answer q.after =
-      subst (λ n. Does (shape n) (p.other n) c (p.others n) q.told.step q.own q.told.answer q.after) (sym at) (does_next shape k c bound p.other p.others q ks p.theirs) in
-      let same_does : Does (shape m.node) (p.other m.node) c (p.batches m.node) m.told.step q.own q.told.answer q.after =
-      subst (λ (s : Step). Does (shape m.node) (p.other m.node) c (p.batches m.node) s q.own q.told.answer q.after) (sym step)
+      let does : Does (shape m.node) (p.other m.node) c (others m.node) q.told.step q.own q.told.answer q.after =
+      subst (λ n. Does (shape n) (p.other n) c (others n) q.told.step q.own q.told.answer q.after) (sym at) (does_next shape k c bound p.other others q ks p.theirs) in
+      let same_does : Does (shape m.node) (p.other m.node) c (batches m.node) m.told.step q.own q.told.answer q.after =
+      subst (λ (s : Step). Does (shape m.node) (p.other m.node) c (batches m.node) s q.own q.told.answer q.after) (sym step)
       (subst (λ (b : Option Open). Does (shape m.node) (p.other m.node) c b q.told.step q.own q.told.answer q.after) (sym (p.opens m.node)) does) in
-      let legal : IsLegal (shape m.node) (p.other m.node ++ q.own) = subst (λ n. IsLegal (shape n) (p.other n ++ q.own)) (sym at) (legal_after shape k c bound p.other p.others q ks p.theirs) in
-      one_step (shape m.node) (p.front m.node) (p.other m.node) c (p.batches m.node) m.told.step m.own q.own m.told.answer q.told.answer m.after q.after (p.same m.node)
-      (legal_after shape h c limit p.front p.batches m ms p.ours) legal (does_next shape h c limit p.front p.batches m ms p.ours) same_does
+      let legal : IsLegal (shape m.node) (p.other m.node ++ q.own) = subst (λ n. IsLegal (shape n) (p.other n ++ q.own)) (sym at) (legal_after shape k c bound p.other others q ks p.theirs) in
+      one_step (shape m.node) (p.front m.node) (p.other m.node) c (batches m.node) m.told.step m.own q.own m.told.answer q.told.answer m.after q.after (p.same m.node)
+      (legal_after shape h c limit p.front batches m ms p.ours) legal (does_next shape h c limit p.front batches m ms p.ours) same_does
 
   -- and both go on side by side
-  pub pair_on : Pair shape h k c limit bound ms ks
+  pub pair_on : Pair shape h k c limit bound (with_batch batches m.node m.after) (with_batch others q.node q.after) ms ks
   pair_on = record {
     front = front_after p.front m;
     other = front_after p.other q;
-    batches = with_batch p.batches m.node m.after;
-    others = with_batch p.others q.node q.after;
-    ours = walk_on shape h c limit p.front p.batches m ms p.ours;
-    theirs = walk_on shape k c bound p.other p.others q ks p.theirs;
+    ours = walk_on shape h c limit p.front batches m ms p.ours;
+    theirs = walk_on shape k c bound p.other others q ks p.theirs;
     same = λ n. subst (λ i. SameButBlocks (front_after p.front m n) (cond (nat_eq i n) (p.other n ++ q.own) (p.other n))) at (fronts n (nat_eq m.node n));
-    opens = λ n. subst (λ i. with_batch p.batches m.node m.after n ≡ cond (nat_eq n i) q.after (p.others n)) at (batch_of n (nat_eq n m.node));
+    opens = λ n. subst (λ i. with_batch batches m.node m.after n ≡ cond (nat_eq n i) q.after (others n)) at (batch_of n (nat_eq n m.node));
   } where
     fronts : (n : ℕ) (b : Bool) → SameButBlocks (cond b (p.front n ++ m.own) (p.front n)) (cond b (p.other n ++ q.own) (p.other n))
     fronts n true = same_append (p.front n) (p.other n) m.own q.own (p.same n) next_alike.events
     fronts n false = p.same n
 
-    batch_of : (n : ℕ) (b : Bool) → cond b m.after (p.batches n) ≡ cond b q.after (p.others n)
+    batch_of : (n : ℕ) (b : Bool) → cond b m.after (batches n) ≡ cond b q.after (others n)
     batch_of n true = next_alike.batches
     batch_of n false = p.opens n

@@ -24,7 +24,7 @@ each_both P Q R f [] h k = tt
 each_both P Q R f (m ∷ ms) h k = (f m h.0 k.0, each_both P Q R f ms h.1 k.1)
 
 -- each step comes before those behind it
-pub Ordered : List Made → Type 0
+unfoldable pub Ordered : List Made → Type 0
 Ordered [] = ⊤
 Ordered (m ∷ ms) = AllByRecursion (ComesBefore m) ms × Ordered ms
 

@@ -1,1 +1,2 @@
 pub mod OneStep
+pub mod OneRun

@@ -3,4 +3,4 @@
 
 mod laws;
 
-pub use laws::steps_have_one_answer;
+pub use laws::{one_worker_has_one_run, steps_have_one_answer};
