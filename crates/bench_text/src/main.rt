@@ -1,4 +1,4 @@
-//! Times of texts: journals written and scripts read, beside how long copying their bytes takes.
+//! Times of texts: journals written, read and checked, and scripts read, beside how long copying their bytes takes.
 //!
 //! Its one argument is the number of bytes of each text, about; 20,000 where there is none. The times go to standard
 //! error.
@@ -12,6 +12,7 @@ use std::env::{self, Env};
 use std::time::{CpuClock, Duration};
 use thp_journal::{NodeHistory, journal_text};
 use thp_model::{Event, Shape};
+use thp_read::{check_text, read_journal};
 use thp_text::{Report, Settings, read_script};
 
 // The shape of the node whose journal is written.
@@ -29,6 +30,7 @@ fn main(rt: HostRuntime) -> Result<()> {
         "takes and returns",
         &histories::rounds(rt.alloc(), bytes)?,
     )?;
+    time_journal(&rt, "combs", &histories::combs(rt.alloc(), bytes)?)?;
     time_journal(
         &rt,
         "scattered sets",
@@ -55,7 +57,7 @@ fn asked_bytes<R: Env + AllocGlobal>(rt: &R) -> Result<usize> {
     }
 }
 
-// Writes the journal of a node with these events, copies its text, and prints the times of both.
+// Writes the journal of a node with these events, reads and checks its text, copies it, and prints all times.
 fn time_journal<R: CpuClock + Eprint + AllocGlobal>(
     rt: &R,
     what: &str,
@@ -76,6 +78,29 @@ fn time_journal<R: CpuClock + Eprint + AllocGlobal>(
     let lines = events.len();
     eprintln!(rt;
         "{what}: {lines} events, {bytes} bytes: written {each} ps a byte, copied {least} ps a byte"
+    )?;
+    time_check(rt, what, &text)?;
+    Ok(())
+}
+
+// Reads a journal's text, and then reads and checks it, and prints the times of both.
+fn time_check<R: CpuClock + Eprint + AllocGlobal>(rt: &R, what: &str, text: &[u8]) -> Result<()> {
+    let start = rt.thread_cpu_time()?;
+    let journals = read_journal(rt.alloc(), text);
+    let read = rt.thread_cpu_time()?.saturating_sub(start);
+    let nodes = journals.map_or(0, |journals| journals.nodes.as_slice().len());
+    let start = rt.thread_cpu_time()?;
+    let answer = check_text(rt.alloc(), text);
+    let checked = rt.thread_cpu_time()?.saturating_sub(start);
+    let told = match answer {
+        Ok(None) => "legal",
+        Ok(Some(_)) => "illegal",
+        Err(_) => "not read",
+    };
+    let each = ps_each(read, text.len());
+    let both = ps_each(checked, text.len());
+    eprintln!(rt;
+        "  {nodes} node, {told}: read {each} ps a byte, read and checked {both} ps a byte"
     )?;
     Ok(())
 }

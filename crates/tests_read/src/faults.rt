@@ -1,7 +1,7 @@
 //! The first faults of journal texts, by line and kind.
 use std::alloc::Global;
 use thp_read::check_text;
-use thp_text::{ReadFault, TextKind};
+use thp_text::{MAX_INPUT, ReadFault, Report, Settings, TextKind, read_script};
 
 /// The first fault of a text by line and kind, `None` where it has none.
 fn first_fault(alloc: Global, text: &[u8]) -> Option<(u32, TextKind)> {
@@ -143,6 +143,31 @@ fn order_faults(rt: HostRuntime) {
     for (text, kind) in rows {
         assert!(rt; first_fault(rt.alloc(), text) == Some((2, kind)), "{kind}");
     }
+}
+
+#[test]
+fn a_text_that_is_too_long(rt: HostRuntime) {
+    let alloc = rt.alloc();
+    let settings = Settings::new(1, 16, 1, Report::Totals).expect(&rt, "within the limits");
+    let Ok(text) = vec![in alloc; b'\n'; MAX_INPUT + 1] else {
+        assert!(rt; false, "memory");
+        return;
+    };
+    let text = text.as_slice();
+    assert!(rt; text.len() == 16_777_217);
+    assert!(rt; first_fault(alloc, text) == Some((0, TextKind::TooLong)));
+    let script = read_script(alloc, &settings, text);
+    assert!(rt;
+        matches!(
+            script,
+            Err(ReadFault::Text {
+                line: 0,
+                kind: TextKind::TooLong,
+            })
+        )
+    );
+    // a byte less is within the limit, and its first line is no journal's
+    assert!(rt; first_fault(alloc, &text[1..]) == Some((1, TextKind::BadWord)));
 }
 
 #[test]

@@ -2,3 +2,5 @@ pub mod SetLaws
 pub mod JournalLaws
 pub mod NodeLaws
 pub mod AnswerLaws
+pub mod PlainWords
+pub mod PlainLines

@@ -1,5 +1,5 @@
 -- What the check of a journal text answers.
-use Rattle.std.specs.Prelude.{◌≡◌, ◌<◌, ◌+◌, ℕ, All, List, length, slice_get, Option, Some, None}
+use Rattle.std.specs.Prelude.{◌≡◌, ◌<◌, ◌+◌, ℕ, List, length, slice_get, Option, Some, None}
 use Rattle.thp_model.specs.BlockLaws.{SameButBlocks}
 use Rattle.thp_model.specs.History.{History}
 use Rattle.thp_model.specs.Legal.{IsLegal, IsFirstMisfit}

@@ -1,5 +1,5 @@
 -- Journals as text: the events of each node, or the first fault (this project's journal format).
-use Rattle.std.specs.Prelude.{◌≡◌, ◌≤◌, ◌+◌, ℕ, nat_lt, All, List, [], ◌∷◌, length, Option, Some, None, Result, Ok, Err, if◌then◌else◌}
+use Rattle.std.specs.Prelude.{◌≤◌, ◌+◌, ℕ, nat_lt, All, List, [], ◌∷◌, length, Option, Some, None, Result, Ok, Err, if◌then◌else◌}
 use Rattle.thp_model.specs.declared.shape.Shape.{Shape}
 use Rattle.thp_model.specs.BlockLaws.{with_least_blocks}
 use Rattle.thp_model.specs.History.{History}
@@ -13,9 +13,9 @@ use Rattle.thp_text.specs.Words.{Text, lines_of}
 use Rattle.thp_read.specs.declared.journals.Journals.{Journals}
 use Rattle.thp_read.specs.declared.journals.NodeJournal.{NodeJournal}
 use Rattle.thp_read.specs.declared.line.Line.{Line}
-use Rattle.thp_read.specs.declared.line.Line.TheVariants.{Head, Node, Happened, End}
+use Rattle.thp_read.specs.declared.line.Line.TheVariants.{Node, Happened}
 use Rattle.thp_read.specs.declared.place.Place.{Place}
-use Rattle.thp_read.specs.declared.place.Place.TheVariants.{Start, Inside, Ended}
+use Rattle.thp_read.specs.declared.place.Place.TheVariants.{Start, Ended}
 use Rattle.thp_read.specs.JournalLines.{line_in, place_after}
 
 -- where nothing stands behind the last line, the journal has come to its end, or is cut there

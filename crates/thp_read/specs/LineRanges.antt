@@ -2,7 +2,7 @@
 use Rattle.std.specs.Prelude.{◌≤◌, ⊤}
 use Rattle.thp_model.specs.Shapes.{IsShape}
 use Rattle.thp_read.specs.declared.line.Line.{Line}
-use Rattle.thp_read.specs.declared.line.Line.TheVariants.{Head, Node, Happened, End}
+use Rattle.thp_read.specs.declared.line.Line.TheVariants.{Node}
 
 -- the line tells a node that there may be, and its shape is one that a node can have
 abbrev pub IsInRange : Line → Type 0

@@ -8,9 +8,9 @@ use Rattle.thp_text.specs.declared.fault.TextKind.{TextKind}
 use Rattle.thp_text.specs.declared.fault.TextKind.TheVariants.{Cut}
 use Rattle.thp_read.specs.declared.journals.NodeJournal.{NodeJournal}
 use Rattle.thp_read.specs.declared.line.Line.{Line}
-use Rattle.thp_read.specs.declared.line.Line.TheVariants.{Head, Node, Happened, End}
+use Rattle.thp_read.specs.declared.line.Line.TheVariants.{Node, Happened}
 use Rattle.thp_read.specs.declared.place.Place.{Place}
-use Rattle.thp_read.specs.declared.place.Place.TheVariants.{Start, Inside, Ended}
+use Rattle.thp_read.specs.declared.place.Place.TheVariants.{Ended}
 use Rattle.thp_read.specs.declared.reading.Nodes.{Nodes}
 use Rattle.thp_read.specs.declared.reading.OpenNode.{OpenNode}
 

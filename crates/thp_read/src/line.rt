@@ -6,7 +6,7 @@ ghost use Rattle.thp_read.specs.LineRanges.{IsInRange};
 use crate::event_line::{event_of, small_number};
 use crate::version::Version;
 use thp_model::{Event, Shape};
-use thp_text::{TextKind, Words, has_empty_word, is_printable};
+use thp_text::{TextKind, Words, fault_of_line};
 
 /// What a line of a journal says.
 #[derive(Clone, Copy, Debug, PartialEq, Eq)]
@@ -211,17 +211,14 @@ fn by_words(version: Version, mut words: Words) -> Result<Line, TextKind>
     }
 }
 
-/// What a whole line says in a version of the format, wherever it stands.
-#[tactic(auto, unfolding(crate::specs::JournalLines::line_of))]
+/// What a whole line says in a version of the format, wherever it stands. Where its words say something it has neither bad
+/// bytes nor empty words, so its bytes are looked at again only where they don't.
 pub(crate) fn line_of(version: Version, text: &[u8]) -> Result<Line, TextKind>
     ensures value { result ≡ line_of version text.now }
     ensures in_range { IfOk result IsInRange }
 {
-    if !is_printable(text) {
-        return Err(TextKind::BadByte);
+    match by_words(version, Words::of_line(text)) {
+        Ok(line) => Ok(line),
+        Err(reading) => Err(fault_of_line(text, reading)),
     }
-    if has_empty_word(text) {
-        return Err(TextKind::BadWord);
-    }
-    by_words(version, Words::of_line(text))
 }

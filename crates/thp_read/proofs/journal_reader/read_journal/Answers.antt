@@ -1,8 +1,7 @@
-use Rattle.std.proofs.Common.{◌≡◌, ◌∙◌, ◌<◌, ◌+◌, ◌≤◌, [], ◌∷◌, ◌++◌, ap, sym, arith, refl, rules, length, length-append}
+use Rattle.std.proofs.Common.{◌∙◌, ◌<◌, ◌≤◌, [], ◌∷◌, ◌++◌, arith, refl, rules, length, length-append}
 use Rattle.std.specs.Prelude.{All}
 use Rattle.std.proofs.lemmas.List.Elements.{All-nil}
-use Rattle.thp_read.specs.declared.journals.NodeJournal.{NodeJournal}
-use Rattle.thp_read.specs.Journals.{journals_of, AreJournals, IsNodeJournal}
+use Rattle.thp_read.specs.Journals.{journals_of, IsNodeJournal}
 use Rattle.thp_read.specs.Reading.{nodes_in, IsNodeBefore}
 use Rattle.thp_read.proofs.JournalLaws.{ends_cut, ends_well, read_line_more, read_none, stops_at_line, too_long}
 use Rattle.thp_read.proofs.NodeLaws.{all_in_range, each_step, if_ok, nodes_step, tells_memory}

@@ -1,4 +1,4 @@
-use Rattle.std.proofs.Common.{◌≡◌, ap, rules}
+use Rattle.std.proofs.Common.{ap}
 use Rattle.thp_read.specs.Reading.{journal_so_far, nodes_in, with_event}
 use Rattle.thp_read.proofs.NodeLaws.{last_grows}
 use Rattle.thp_read.proofs.reading.push.Goals as goal

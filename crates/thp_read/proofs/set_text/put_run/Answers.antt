@@ -1,4 +1,4 @@
-use Rattle.std.proofs.Common.{◌≡◌, ◌∙◌, arith}
+use Rattle.std.proofs.Common.{◌∙◌, arith}
 use Rattle.thp_read.proofs.SetLaws.{put_one, put_more}
 use Rattle.thp_read.proofs.set_text.put_run.Goals as goal
 

@@ -1,4 +1,4 @@
-use Rattle.std.proofs.Common.{◌≡◌, rules}
+use Rattle.std.proofs.Common.{rules}
 use Rattle.std.specs.Option.{option_copied}
 use Rattle.thp_read.proofs.SetLaws.{three_numbers}
 use Rattle.thp_read.proofs.set_text.run_of.Goals as goal
