@@ -15,7 +15,7 @@ node_bare : (j k : Journal) → IsSameJournal j k → bare j ≡ bare k
 node_bare j k same = ap₂ (λ (s : Shape) (h : History). let n : Journal = (s, h) in n) same.shape same.events
 
 -- nodes that are the same but for their blocks are equal without them
-all_bare : (js ks : List Journal) → AllZip IsSameJournal js ks → map bare js ≡ map bare ks
+pub all_bare : (js ks : List Journal) → AllZip IsSameJournal js ks → map bare js ≡ map bare ks
 all_bare [] [] h = refl
 all_bare [] (k ∷ ks) h = absurd h
 all_bare (j ∷ js) [] h = absurd h

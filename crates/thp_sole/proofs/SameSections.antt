@@ -31,10 +31,6 @@ ordered (m ∷ ms) pairs = (
 pub steps_of-append : (ts us : List Turn) → steps_of (ts ++ us) ≡ steps_of ts ++ steps_of us
 steps_of-append ts us = flat_map-append (λ (t : Turn). t.steps) ts us
 
--- all steps of a section
-abbrev pub made_by : {nodes : ℕ} {shape : ℕ → Shape} {history : ℕ → History} {c : ℕ} {commands : List Command} {answers : List Answer} → IsSection nodes shape history c commands answers → List Made
-made_by s = steps_of (s.turns ++ s.closed)
-
 -- A section whose steps stand behind these fronts and fill the nodes up to these limits is a walk.
 pub section_walk : (nodes : ℕ) (shape : ℕ → Shape) (history : ℕ → History) (c : ℕ) (commands : List Command) (answers : List Answer) (s : IsSection nodes shape history c commands answers) (limit : ℕ → ℕ) (front : ℕ → History) →
     ((n : ℕ) → IsLegal (shape n) (history n)) → All (IsAbove front) (steps_of (s.turns ++ s.closed)) → All (IsWithin limit) (steps_of (s.turns ++ s.closed)) →

@@ -1,0 +1,2 @@
+pub mod SpelledWorkers
+pub mod SameReports
