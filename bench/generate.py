@@ -7,6 +7,7 @@ KIND   churn   pages are allocated, partly unmapped (so queued), scanned eight a
        middle  the queue is kept as long as the node has blocks, and pages are freed from its middle
        maps    ranges of subpages and whole pages are mapped and unmapped on four pages, beside as many pages as the
                node has blocks
+       counts  short commands: pins come and go on four pages, and the length of the queue is asked for
 BLOCKS how many blocks the node has, so how long the queue grows
 BYTES  about how long the script is; below 16,777,216
 """
@@ -55,9 +56,17 @@ def maps(blocks):
             yield f"unmapwhole 0 {page}\n"
 
 
+def counts(blocks):
+    """Pins on and off four of the node's pages, and a count behind each pair."""
+    for _ in range(blocks):
+        yield "alloc 0\n"
+    for page in itertools.cycle(range(4)):
+        yield f"pin 0 {page}\nunpin 0 {page}\ncount 0\n"
+
+
 def main():
     kind, blocks, limit = sys.argv[1], int(sys.argv[2]), int(sys.argv[3])
-    lines = {"churn": churn, "middle": middle, "maps": maps}[kind](blocks)
+    lines = {"churn": churn, "middle": middle, "maps": maps, "counts": counts}[kind](blocks)
     written = sys.stdout.write("setup\n")
     for line in lines:
         if written + len(line) > limit:

@@ -5,7 +5,7 @@ use std::process::Abort;
 use thp_model::{Outcome, PageId, Refusal, SubSet};
 use thp_node::{BackReply, Done, ScanReply, Tried};
 use thp_text::Report;
-use thp_work::{Answer, Reply, Section};
+use thp_work::{Answer, AnswerLog, Reply, Section};
 
 // The answers to the commands of a section, all on one node.
 fn section(
@@ -15,14 +15,14 @@ fn section(
     node: u32,
     replies: &[Result<Reply, Refusal>],
 ) -> Section {
-    let mut answers = Vec::new(alloc);
+    let mut answers = AnswerLog::new(alloc, replies.len(), true).expect(rt, "room");
     for (command, reply) in replies.iter().enumerate() {
         let answer = Answer {
             command: u32::try_from(command).expect(rt, "a few commands"),
             node,
             reply: *reply,
         };
-        assert!(rt; answers.push(answer).is_ok());
+        answers.push(answer);
     }
     Section { worker, answers }
 }

@@ -62,14 +62,16 @@ fn answered(answer: &Answer) -> Said {
 // The answers of a section are these.
 pub(crate) fn are_answers(ran: &Ran, section: usize, wanted: &[Said]) -> bool {
     match ran.sections.get(section) {
-        Some(section) => {
-            section.answers.len() == wanted.len()
-                && section
-                    .answers
-                    .iter()
-                    .zip(wanted)
-                    .all(|(answer, want)| answered(answer) == *want)
-        }
+        Some(section) => match section.answers.kept() {
+            Some(answers) => {
+                answers.len() == wanted.len()
+                    && answers
+                        .iter()
+                        .zip(wanted)
+                        .all(|(answer, want)| answered(answer) == *want)
+            }
+            None => false,
+        },
         None => false,
     }
 }

@@ -59,7 +59,10 @@ fn script(alloc: Global, seed: u64) -> Result<String, AllocError> {
 fn pages_answered(ran: &Ran) -> usize {
     let mut pages = 0usize;
     for section in ran.sections.iter() {
-        for answer in section.answers.iter() {
+        let Some(answers) = section.answers.kept() else {
+            continue;
+        };
+        for answer in answers.iter() {
             if let Ok(Reply::Page(_)) = answer.reply {
                 pages = pages.wrapping_add(1);
             }

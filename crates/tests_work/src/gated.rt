@@ -118,14 +118,14 @@ fn run_two<'a, R: Threads + Sync + Abort, G: Gate + Sync>(
     let mut workers = Vec::new(alloc);
     workers.push(one).expect(rt, "room");
     workers.push(two).expect(rt, "room");
-    let (_, worked) = run_workers(rt, alloc, passes, 1, &workers, gate).expect(rt, "memory");
+    let (_, worked) = run_workers(rt, alloc, passes, 1, &workers, true, gate).expect(rt, "memory");
     worked
 }
 
 // The section is done, and its commands allocated these pages.
 fn allocated(worked: &Worked, pages: [u64; 2]) -> bool {
-    match (worked.answers.get(0), worked.answers.get(1)) {
-        (Some(first), Some(second)) => {
+    match worked.answers.kept() {
+        Some([first, second]) => {
             worked.rest.is_none()
                 && matches!(first.reply, Ok(Reply::Page(PageId(page))) if page == pages[0])
                 && matches!(second.reply, Ok(Reply::Page(PageId(page))) if page == pages[1])

@@ -107,7 +107,7 @@ fn stopped_at(worked: &Worked, command: u32, steps: u32) -> bool {
 
 // The answer to a command.
 fn reply_at(worked: &Worked, command: usize) -> Option<Result<Reply, Refusal>> {
-    match worked.answers.get(command) {
+    match worked.answers.kept()?.get(command) {
         Some(answer) => Some(answer.reply),
         None => None,
     }

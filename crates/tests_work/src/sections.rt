@@ -88,7 +88,7 @@ pub fn begin<'a>(
         to: busy.to,
         period: busy.period,
     };
-    let worked = work(alloc, commands, 1, &mut nodes, &NoGate).expect(rt, "memory");
+    let worked = work(alloc, commands, 1, true, &mut nodes, &NoGate).expect(rt, "memory");
     let Stutter {
         inner,
         calls: _,

@@ -28,12 +28,15 @@ pub(crate) fn answers_text(
     Ok(text)
 }
 
-// the answers of a section
+// the answers of a section; those that weren't kept can't be had, as if memory for them was refused
 #[tactic(auto, unfolding(crate::specs::Answers::section_text))]
 fn put_section(text: &mut Vec<u8>, nodes: &[Node], section: &Section) -> Result<(), AllocError>
     ensures { OnOk result (text.new.items ≡ text.old.items ++ section_text (map shape_of nodes.now) section.now) }
 {
-    for answer in &section.answers {
+    let Some(answers) = section.answers.kept() else {
+        return Err(AllocError);
+    };
+    for answer in answers {
         put_answer(text, nodes, section.worker, answer)?;
     }
     Ok(())

@@ -7,7 +7,6 @@ ghost use Rattle.thp_report.specs.Reports.{told_of};
 use itoa::Buffer;
 use std::alloc::{AllocError, Global};
 use thp_journal::put;
-use thp_model::{Event, What};
 use thp_node::Node;
 
 /// The totals of the nodes, in order.
@@ -35,7 +34,7 @@ fn put_nine_lines(text: &mut Vec<u8>, number: usize, node: &Node) -> Result<(), 
 {
     let counters = node.counters();
     put_line(text, b"node ", number as u128)?;
-    put_line(text, b"pages ", allocations_in(node.journal()) as u128)?;
+    put_line(text, b"pages ", pages_of(node))?;
     put_line(text, b"queue ", u128::from(node.queue_len()))?;
     put_line(text, b"frames_held ", node.frames_held())?;
     put_line(text, b"frames_given ", node.frames_given())?;
@@ -74,13 +73,12 @@ fn put_line(text: &mut Vec<u8>, label: &[u8], number: u128) -> Result<(), AllocE
     put(text, b"\n")
 }
 
-/// How many pages were allocated.
-#[tactic(auto, unfolding(thp_model::specs::History::count_of))]
-fn allocations_in(journal: &[Event]) -> usize
-    ensures { result ≡ allocations journal.now }
+/// How many pages were allocated: the frames that pages hold and those given back, by how many a page has at first.
+fn pages_of(node: &Node) -> u128
+    ensures { result ≡ allocations node.now.journal }
 {
-    journal
-        .iter()
-        .filter(|event| matches!(event.what, What::Alloc { .. }))
-        .count()
+    let subpages = u128::from(node.shape().subpages());
+    // Its length tells the proof that the sum is bounded.
+    let _events = node.journal();
+    (node.frames_held() + node.frames_given()) / subpages
 }

@@ -1,7 +1,7 @@
 //! From the bytes of a script to the bytes of its report.
-ghost use Rattle.std.specs.Prelude.{◌≡◌, IfErr, IfOk, false};
+ghost use Rattle.std.specs.Prelude.{◌≡◌, IfErr, IfOk, Ok, false};
 ghost use Rattle.thp_run.specs.Programs.{IsReport, RunEnds};
-ghost use Rattle.thp_text.specs.Scripts.{script_of, TellsFault};
+ghost use Rattle.thp_text.specs.Scripts.{script_of, IsScriptFor, TellsFault};
 
 use crate::device::{read_input, write_text};
 use crate::fault::RunFault;
@@ -11,21 +11,30 @@ use std::io::{Read, Write};
 use std::thread::Threads;
 use thp_report::report_text;
 use thp_scripts::run_script;
-use thp_text::{ReadFault, Settings, read_script};
+use thp_text::{ReadFault, Script, Settings, read_script};
 use thp_work::Gate;
+
+/// The script that the input spells. The input is let go.
+fn script_in(alloc: Global, settings: &Settings, input: Vec<u8>) -> Result<Script, ReadFault>
+    ensures script { IfOk result (λ script. script_of settings.now input.items ≡ Ok script) }
+    ensures in_range { IfOk result (IsScriptFor settings.now) }
+    ensures fault { IfErr result (TellsFault (script_of settings.now input.items)) }
+{
+    read_script(alloc, settings, input.as_slice())
+}
 
 /// The report of a run of the script that the input spells.
 fn report_of<T: Threads + Sync, G: Gate + Sync>(
     rt: &T,
     alloc: Global,
     settings: &Settings,
-    input: &[u8],
+    input: Vec<u8>,
     gate: &G,
 ) -> Result<Vec<u8>, ReadFault>
-    ensures text { IfOk result (λ text. IsReport settings.now input.now text.items) }
-    ensures fault { IfErr result (TellsFault (script_of settings.now input.now)) }
+    ensures text { IfOk result (λ text. IsReport settings.now input.items text.items) }
+    ensures fault { IfErr result (TellsFault (script_of settings.now input.items)) }
 {
-    let script = read_script(alloc, settings, input)?;
+    let script = script_in(alloc, settings, input)?;
     let ran = run_script(rt, alloc, settings, script, gate)?;
     let text = report_text(
         alloc,
@@ -54,6 +63,6 @@ pub fn run<T: Threads + Sync, R: Read, W: Write, G: Gate + Sync>(
     ensures { RunEnds settings.now (R.remaining reader.old.device) (W.contents writer.old.device) (W.contents writer.new.device) reader.new.failed writer.new.failed result }
 {
     let input = read_input(alloc, reader)?;
-    let text = report_of(rt, alloc, settings, input.as_slice(), gate)?;
+    let text = report_of(rt, alloc, settings, input, gate)?;
     write_text(writer, text.as_slice()).ok_or(RunFault::Write)
 }

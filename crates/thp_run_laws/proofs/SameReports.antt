@@ -17,7 +17,6 @@ use Rattle.thp_text.specs.declared.script.Script.{Script}
 use Rattle.thp_text.specs.declared.settings.Report.{Report}
 use Rattle.thp_text.specs.declared.settings.Report.TheVariants as report
 use Rattle.thp_text.specs.declared.settings.Settings.{Settings}
-use Rattle.thp_text.specs.declared.vocabulary.Vocabulary.TheVariants.{Whole}
 use Rattle.thp_text.specs.Scripts.{script_of}
 use Rattle.thp_work.specs.declared.reply.Section.{Section}
 use Rattle.thp_scripts.specs.NewNodes.{AreNodesFor, histories_of, journal_in, shapes_of}
@@ -91,7 +90,7 @@ same_report report.Journal js ks xs ys nodes sections = one_text js ks nodes
 same_report report.Answers js ks xs ys nodes sections = ap (λ shapes. answers_text shapes xs) (told_shapes js ks nodes) ∙ same_sections (map shape_in ks) xs ys sections
 
 -- an input spells one script
-one_script : (script other : Script) (s : Settings) (input : List ℕ) → script_of Whole s input ≡ Ok script → script_of Whole s input ≡ Ok other → other ≡ script
+one_script : (script other : Script) (s : Settings) (input : List ℕ) → script_of s input ≡ Ok script → script_of s input ≡ Ok other → other ≡ script
 one_script script other s input e f = cc
 
 -- a script in which one worker at most has commands has one report

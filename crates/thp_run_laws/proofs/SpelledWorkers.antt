@@ -7,7 +7,6 @@ use Rattle.std.proofs.lemmas.List.FromFn.{length-range_with_len}
 use Rattle.thp_text.specs.declared.fault.TextKind.TheVariants.{TooLong}
 use Rattle.thp_text.specs.declared.script.Script.{Script}
 use Rattle.thp_text.specs.declared.settings.Settings.{Settings}
-use Rattle.thp_text.specs.declared.vocabulary.Vocabulary.{Vocabulary}
 use Rattle.thp_text.specs.Readings.{◌>>=◌}
 use Rattle.thp_text.specs.Scripts.{Fault, Placed, commands_from, commands_in, script_of, script_with}
 use Rattle.thp_text.specs.Words.{lines_of}

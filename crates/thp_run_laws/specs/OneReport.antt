@@ -2,14 +2,13 @@
 use Rattle.std.specs.Prelude.{◌≡◌, ◌≤◌, List, ℕ, Some, Ok, false}
 use Rattle.thp_text.specs.declared.script.Script.{Script}
 use Rattle.thp_text.specs.declared.settings.Settings.{Settings}
-use Rattle.thp_text.specs.declared.vocabulary.Vocabulary.TheVariants.{Whole}
 use Rattle.thp_text.specs.Scripts.{script_of}
 use Rattle.thp_run.specs.Programs.{IsReport, RunEnds}
 use Rattle.thp_sole.specs.OneRun.{HasOneWorker}
 
 -- one worker at most has commands in the script that the input spells
 abbrev pub SpellsOneWorker : Settings → List ℕ → Type 0
-SpellsOneWorker s input = (script : Script) → script_of Whole s input ≡ Ok script → HasOneWorker script
+SpellsOneWorker s input = (script : Script) → script_of s input ≡ Ok script → HasOneWorker script
 
 -- so it is where the settings have one worker, or none
 abbrev pub OneWorkerIsSpelled : Type 0

@@ -14,7 +14,7 @@ use std::alloc::{AllocError, Global};
 use std::thread::Threads;
 use thp_cell::{NodeCell, Pass};
 use thp_node::Node;
-use thp_text::{Script, Settings};
+use thp_text::{Report, Script, Settings};
 use thp_work::{Gate, NodePasses, Section};
 
 /// What a run leaves: the nodes, and the answers of each section.
@@ -22,7 +22,7 @@ use thp_work::{Gate, NodePasses, Section};
 pub struct Ran {
     /// The nodes, by number.
     pub nodes: Vec<Node>,
-    /// The answers of `setup`, and then those of each worker.
+    /// The answers of `setup`, and then those of each worker; they are kept where the report is of answers.
     pub sections: Vec<Section>,
 }
 
@@ -46,7 +46,18 @@ pub fn run_script<R: Threads + Sync, G: Gate + Sync>(
     let callers = settings.workers + 1;
     let nodes = new_nodes(alloc, settings)?;
     let (cells, passes) = share(alloc, nodes, callers)?;
-    let (passes, sections) = run_on(rt, alloc, cells.as_slice(), passes, callers, script, gate)?;
+    // No other report tells an answer.
+    let keeps = matches!(settings.report, Report::Answers);
+    let (passes, sections) = run_on(
+        rt,
+        alloc,
+        cells.as_slice(),
+        passes,
+        callers,
+        script,
+        keeps,
+        gate,
+    )?;
     let nodes = finish(alloc, cells, passes)?;
     Ok(Ran { nodes, sections })
 }
@@ -59,6 +70,7 @@ fn run_on<R: Threads + Sync, G: Gate + Sync>(
     passes: Vec<Pass>,
     callers: u32,
     script: Script,
+    keeps: bool,
     gate: &G,
 ) -> Result<(Vec<Pass>, Vec<Section>), AllocError>
     requires cells { map cell_of passes.items ≡ cells.now }
@@ -70,7 +82,7 @@ fn run_on<R: Threads + Sync, G: Gate + Sync>(
 {
     let nodes = open(alloc, cells, passes)?;
     let passes = NodePasses::new(nodes, callers, 0, callers);
-    let (passes, sections) = run_sections(rt, alloc, passes, script, gate)?;
+    let (passes, sections) = run_sections(rt, alloc, passes, script, keeps, gate)?;
     Ok((close(alloc, passes)?, sections))
 }
 

@@ -11,12 +11,13 @@ use thp_text::{Command, Script, Sequence};
 use thp_work::{Gate, NoGate, Passes, Section, Steps, Worked, run_range, work, work_rest};
 
 /// Does `setup` as caller 0, then the section of each worker on a thread of its own, and then, workers ascending, what they
-/// postponed. The passes have caller 0 and a caller for each worker.
+/// postponed. The passes have caller 0 and a caller for each worker. The answers are kept or aren't.
 pub(crate) fn run_sections<R: Threads + Sync, P: Passes + Send + Drop, G: Gate + Sync>(
     rt: &R,
     alloc: Global,
     passes: P,
     script: Script,
+    keeps: bool,
     gate: &G,
 ) -> Result<(P, Vec<Section>), AllocError>
     requires new { IsNew (length script.workers) (P.fronts passes) }
@@ -25,9 +26,9 @@ pub(crate) fn run_sections<R: Threads + Sync, P: Passes + Send + Drop, G: Gate +
 {
     let Script { setup, workers } = script;
     let mut passes = passes;
-    let setup = work(alloc, setup.as_slice(), 0, &mut passes, &NoGate)?;
+    let setup = work(alloc, setup.as_slice(), 0, keeps, &mut passes, &NoGate)?;
     let workers = vectors(alloc, workers)?;
-    let (passes, worked) = run_range(rt, alloc, passes, 1, workers.as_slice(), gate)?;
+    let (passes, worked) = run_range(rt, alloc, passes, 1, workers.as_slice(), keeps, gate)?;
     let mut passes = passes;
     let done = do_rest(alloc, workers.as_slice(), worked, &mut passes)?;
     let sections = sections(alloc, setup, done)?;

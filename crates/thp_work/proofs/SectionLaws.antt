@@ -1,7 +1,6 @@
 -- Commands, one after another, and the put-backs at a section's end.
 use Rattle.std.proofs.Common.{◌≡◌, ◌∙◌, ◌⊎◌, ◌++◌, ◌+◌, ◌-◌, ◌<◌, ◌≤◌, ap, ℕ, zero, suc, Bool, true, false, List, [], ◌∷◌, length, take, map, refl, sym, subst, inl, inr, arith, append_assoc, length-append, Option, Some, None, Ok, Err}
-use Rattle.std.specs.Prelude.{slice_get, Result, IfOk, Vec, vec_capacity}
-use Rattle.std.specs.declared.alloc.Global.{Global}
+use Rattle.std.specs.Prelude.{slice_get, Result, IfOk}
 use Rattle.std.specs.declared.alloc.AllocError.{AllocError}
 use Rattle.std.proofs.lemmas.List.{append-nil, map-append, length-map, take_all}
 use Rattle.std.proofs.lemmas.Bool.{cases_lt}
@@ -16,6 +15,7 @@ use Rattle.thp_work.specs.declared.reply.Rest.{Rest}
 use Rattle.thp_work.specs.declared.scanning.Begun.{Begun}
 use Rattle.thp_work.specs.declared.scanning.Progress.{Progress}
 use Rattle.thp_work.specs.declared.scanning.Progress.TheVariants.{On, Ended}
+use Rattle.thp_work.specs.Logs.{LogState}
 use Rattle.thp_work.specs.Does.{Open, Reaction}
 use Rattle.thp_work.specs.Fronts.{Fronts, Goes}
 use Rattle.thp_work.specs.Turns.{Told, IsBegun, TurnsOut, first_begun}
@@ -325,19 +325,19 @@ ends_answers c old mid commands answers back e =
     omega (arith, all, said, length-map e.turns command_of, length-answers 0 e.turns)
 
 -- the section came to its end
-pub works_end : (c : ℕ) (old mid : Fronts) (commands : List Command) (answers : Vec Answer Global) (back node : ℕ) → length commands ≤ vec_capacity answers → Ends c old mid commands answers.items back → old.nodes ≤ node → ((k : ℕ) → k < node → mid.batches c k ≡ None) → Works c old mid commands (record { answers = answers; rest = None })
+pub works_end : (c : ℕ) (old mid : Fronts) (commands : List Command) (answers : LogState) (back node : ℕ) → length commands ≤ answers.room → Ends c old mid commands answers.items back → old.nodes ≤ node → ((k : ℕ) → k < node → mid.batches c k ≡ None) → Works c old mid commands (record { answers = answers; rest = None })
 works_end c old mid commands answers back node room e all shut = record {
   to = (back, e, closing_all (mid.batches c) old.nodes (λ k lt. shut k (omega (arith, lt, all))));
   room = room;
 }
 
 -- or stops within its put-backs
-pub works_closing : (c : ℕ) (old mid : Fronts) (commands : List Command) (answers : Vec Answer Global) (back : ℕ) (r : Rest) → length commands ≤ vec_capacity answers → Ends c old mid commands answers.items back → r.command ≡ length commands → r.steps ≡ back → Works c old mid commands (record { answers = answers; rest = Some r })
+pub works_closing : (c : ℕ) (old mid : Fronts) (commands : List Command) (answers : LogState) (back : ℕ) (r : Rest) → length commands ≤ answers.room → Ends c old mid commands answers.items back → r.command ≡ length commands → r.steps ≡ back → Works c old mid commands (record { answers = answers; rest = Some r })
 works_closing c old mid commands answers back r room e at is = record {
   to = (at ∙ ends_answers c old mid commands answers.items back e, inr (at, rw is e));
   room = room;
 }
 
 -- or at a command
-pub works_stop : (c : ℕ) (old mid : Fronts) (commands : List Command) (answers : Vec Answer Global) (r : Rest) → length commands ≤ vec_capacity answers → Begins c old mid commands answers.items (begun_of r) → r.command ≡ length answers.items → r.command < length commands → Works c old mid commands (record { answers = answers; rest = Some r })
+pub works_stop : (c : ℕ) (old mid : Fronts) (commands : List Command) (answers : LogState) (r : Rest) → length commands ≤ answers.room → Begins c old mid commands answers.items (begun_of r) → r.command ≡ length answers.items → r.command < length commands → Works c old mid commands (record { answers = answers; rest = Some r })
 works_stop c old mid commands answers r room b at lt = record { to = (at, inl (lt, b)); room = room }

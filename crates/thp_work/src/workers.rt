@@ -11,17 +11,19 @@ use std::alloc::{AllocError, Global};
 use std::thread::Threads;
 use thp_text::Command;
 
-/// Does the sections of the workers from `first` on, each on a thread of its own, on nodes that they share.
+/// Does the sections of the workers from `first` on, each on a thread of its own, on nodes that they share. Their
+/// answers are kept or aren't.
 pub fn run_workers<'a, R: Threads + Sync, G: Gate + Sync>(
     rt: &R,
     alloc: Global,
     passes: NodePasses<'a>,
     first: u32,
     workers: &[Vec<Command>],
+    keeps: bool,
     gate: &G,
 ) -> Result<(NodePasses<'a>, Vec<Worked>), AllocError>
     requires { CanRun (fronts_in passes) first workers.now }
     ensures { IfOk result (λ r. Ran first (fronts_in passes.entry) (fronts_in r.0) workers.now r.1.items) }
 {
-    run_range(rt, alloc, passes, first, workers, gate)
+    run_range(rt, alloc, passes, first, workers, keeps, gate)
 }

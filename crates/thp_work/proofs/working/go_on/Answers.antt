@@ -15,7 +15,7 @@ do_command-requires-clause-ready g c =
     let commands = c.args.commands.now in
     let i = c.loop-index.index in
     let command = get_or commands i (record { node = 0; op = Alloc }) in
-    let len : length c.loop-index.answers.items ≡ i = omega (arith, c.loop-index.answers.ok.0, inv.count) in
+    let len : length c.loop-index.answers.items ≡ i = inv.count in
     let at : slice_get commands (length c.loop-index.answers.items) ≡ Some command = ap (slice_get commands) len ∙ slice_get-get_or commands i (record { node = 0; op = Alloc }) c.loop-index-test.true in
     (begun_on c.args.worker c.requires.begun.0 (fronts c.loop-index.steps) commands c.loop-index.answers.items c.loop-index.begun command at (inv.begins c.requires.begun.0 c.requires.begun.1)).ready
 
@@ -36,7 +36,7 @@ returns-in-On-clause-works g c =
     let commands = c.args.commands.now in
     let i = c.loop-index.index in
     let command = get_or commands i (record { node = 0; op = Alloc }) in
-    let len : length c.loop-index.answers.items ≡ i = omega (arith, c.loop-index.answers.ok.0, inv.count) in
+    let len : length c.loop-index.answers.items ≡ i = inv.count in
     let at : slice_get commands (length c.loop-index.answers.items) ≡ Some command = ap (slice_get commands) len ∙ slice_get-get_or commands i (record { node = 0; op = Alloc }) c.loop-index-test.true in
     let p = rw c.in-On.is at c.in_ok-reply.ensures.proceeds in
     λ old b. works_stop c.args.worker old (fronts c.do_command.new.steps) commands c.loop-index.answers _ inv.room
@@ -54,24 +54,24 @@ loop-index-preserved g c =
     let answers = c.loop-index.answers.items in
     let i = c.loop-index.index in
     let command = get_or commands i (record { node = 0; op = Alloc }) in
-    let len : length answers ≡ i = omega (arith, c.loop-index.answers.ok.0, inv.count) in
+    let len : length answers ≡ i = inv.count in
     let at : slice_get commands (length answers) ≡ Some command = ap (slice_get commands) len ∙ slice_get-get_or commands i (record { node = 0; op = Alloc }) c.loop-index-test.true in
     let p = rw c.in-Ended.is at c.in_ok-reply.ensures.proceeds in
     record {
       goes = goes_trans c.args.worker f0 mid new inv.goes c.do_command.ensures.goes;
       begins = λ old b.
-          rw (c.push_reserved.ensures.items, c.first_begun-begun.ensures)
+          rw (c.push.ensures.items, c.first_begun-begun.ensures)
           (subst (λ (k : ℕ). Begins c.args.worker old new commands (answers ++ record { command = k; node = command.node; reply = c.in-Ended.reply } ∷ []) first_begun) len
           (begins_more c.args.worker old mid new commands answers c.loop-index.begun command at (inv.begins old b) c.do_command.ensures.goes c.in-Ended.reply p));
-      count = omega (arith, c.push_reserved.ensures.len, inv.count);
-      room = omega (arith, c.push_reserved.ensures.capacity, inv.room);
+      count = omega (arith, c.push.ensures.count, inv.count);
+      room = omega (arith, c.push.ensures.room, inv.room);
     }
 
 pub close-requires-clause-ends : goal.close-requires-clause-ends
 close-requires-clause-ends g c =
     let fronts = g.S.Steps.fronts in
     let inv = c.loop-index.invariant in
-    let le : length c.args.commands.now ≤ length c.loop-index.answers.items = omega (arith, c.loop-index.answers.ok.0, inv.count, c.loop-index-test.false) in
+    let le : length c.args.commands.now ≤ length c.loop-index.answers.items = omega (arith, inv.count, c.loop-index-test.false) in
     (c.requires.begun.0, ends_first c.args.worker c.requires.begun.0 (fronts c.loop-index.steps) c.args.commands.now c.loop-index.answers.items c.loop-index.begun le (inv.begins c.requires.begun.0 c.requires.begun.1))
 
 pub returns-clause-goes : goal.returns-clause-goes
@@ -83,5 +83,5 @@ pub returns-clause-works : goal.returns-clause-works
 returns-clause-works g c =
     let fronts = g.S.Steps.fronts in
     let inv = c.loop-index.invariant in
-    let le : length c.args.commands.now ≤ length c.loop-index.answers.items = omega (arith, c.loop-index.answers.ok.0, inv.count, c.loop-index-test.false) in
+    let le : length c.args.commands.now ≤ length c.loop-index.answers.items = omega (arith, inv.count, c.loop-index-test.false) in
     λ old b. c.close.ensures.works old (ends_first c.args.worker old (fronts c.loop-index.steps) c.args.commands.now c.loop-index.answers.items c.loop-index.begun le (inv.begins old b))

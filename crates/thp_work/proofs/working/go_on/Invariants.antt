@@ -1,5 +1,4 @@
 use Rattle.std.proofs.Common.{◌≡◌, ◌≤◌, length}
-use Rattle.std.specs.Prelude.{vec_capacity, vec_len}
 use Rattle.thp_work.specs.Fronts.{Fronts, Goes}
 use Rattle.thp_work.specs.Sections.{Begins}
 use Rattle.thp_work.proofs.working.go_on.Given as goal
@@ -10,6 +9,6 @@ invariant-loop-index g l =
     record {
       goes : Goes l.worker (fronts l.fn.steps) (fronts l.steps);
       begins : (old : Fronts) → Begins l.worker old (fronts l.fn.steps) l.commands l.fn.answers.items l.fn.begun → Begins l.worker old (fronts l.steps) l.commands l.answers.items l.begun;
-      count : vec_len l.answers ≡ l.index;
-      room : length l.commands ≤ vec_capacity l.answers;
+      count : length l.answers.items ≡ l.index;
+      room : length l.commands ≤ l.answers.room;
     }

@@ -1,0 +1,200 @@
+//! Journals from text, and whether they are legal.
+use crate::event::{Event, Outcome, Shape, What};
+use crate::node::{Node, Tried};
+use crate::text::{Kind, TextFault, Words, last_words, number, read_lines, set_of, small_number, words_of};
+
+/// What a text tells of a node: its shape, the line of its first event, and its events.
+pub struct Told {
+    shape: Shape,
+    line: usize,
+    events: Vec<Event>,
+}
+
+enum Line {
+    Head(u32),
+    Node(u32, Shape),
+    Happened(Event),
+    End,
+}
+
+/// The journals that a text tells, or its first fault.
+pub fn read_journals(text: &[u8]) -> Result<Vec<Told>, TextFault> {
+    let mut told: Vec<Told> = Vec::new();
+    let (mut version, mut ended) = (None, false);
+    let lines = read_lines(text, |number, line| {
+        let line = line_of(line, version.unwrap_or(1))?;
+        let is_begun = version.is_some() && !ended;
+        let is_inside = is_begun && !told.is_empty();
+        match line {
+            Line::Head(first) if version.is_none() => version = Some(first),
+            Line::Node(at, shape) if is_begun && at as usize == told.len() => {
+                told.push(Told { shape, line: number + 1, events: Vec::new() });
+            }
+            Line::Happened(event) if is_inside => told.last_mut().unwrap().events.push(event),
+            Line::End if is_inside => ended = true,
+            _ => return Err(Kind::BadOrder),
+        }
+        Ok(())
+    })?;
+    if ended { Ok(told) } else { Err(TextFault { line: lines + 1, kind: Kind::Cut }) }
+}
+
+/// The line of the first event that doesn't fit those before it.
+pub fn first_illegal(told: &[Told]) -> Option<usize> {
+    told.iter().find_map(|Told { shape, line, events }| {
+        let mut node = Node::new(*shape);
+        let misfit = events.iter().position(|event| {
+            node.journal.clear();
+            !is_replayed(&mut node, event)
+        });
+        misfit.map(|at| line + at)
+    })
+}
+
+// does what an event tells of, and answers whether that is what happens
+fn is_replayed(node: &mut Node, event: &Event) -> bool {
+    let c = event.caller;
+    match event.what {
+        What::Alloc { page, .. } => node.alloc(c) == Ok(page),
+        What::MapWhole { page } => node.map_whole(c, page).is_ok(),
+        What::MapSub { page, first, count } => node.map_sub(c, page, first, count).is_ok(),
+        What::SplitPmd { page } => node.split_pmd(c, page).is_ok(),
+        What::Pin { page } => node.pin(c, page).is_ok(),
+        What::Write { page, first, count } => node.write(c, page, first, count).is_ok(),
+        What::Zero { page, first, count } => node.zero(c, page, first, count).is_ok(),
+        What::UnmapWhole { page, outcome, released } => node.unmap_whole(c, page) == Ok((outcome, released)),
+        What::UnmapSub { page, first, count, outcome, released } => {
+            node.unmap_sub(c, page, first, count) == Ok((outcome, released))
+        }
+        What::Unpin { page, outcome, released } => node.unpin(c, page) == Ok((outcome, released)),
+        What::Taken { page } => node.take_first(c) == Some(page),
+        What::Split { page, released } => node.try_page(c, page) == Some(Tried::Split(released)),
+        What::Pinned { page } => node.try_page(c, page) == Some(Tried::Pinned),
+        What::Used { page } => node.try_page(c, page) == Some(Tried::Used),
+        What::Back { page } => node.return_first(c) == Some((page, true)),
+        What::Dropped { page } => node.return_first(c) == Some((page, false)),
+        What::Close => node.close(c).is_ok(),
+    }
+}
+
+fn line_of(line: &[u8], version: u32) -> Result<Line, Kind> {
+    let mut words = words_of(line);
+    match words.next().unwrap_or_default() {
+        b"thp-journal" => match last_words(&mut words)? {
+            [b"1"] => Ok(Line::Head(1)),
+            [b"2"] => Ok(Line::Head(2)),
+            [b"3"] => Ok(Line::Head(3)),
+            [_] => Err(Kind::BadNumber),
+        },
+        b"node" => node_line(words, version),
+        b"end" => last_words(&mut words).map(|[]| Line::End),
+        caller => event_of(caller, words, version).map(Line::Happened),
+    }
+}
+
+fn node_line(mut words: Words, version: u32) -> Result<Line, Kind> {
+    let at = words.next().ok_or(Kind::BadWord)?;
+    let blocks = behind(&mut words, b"blocks", version == 1)?;
+    let order = if version > 1 { behind(&mut words, b"order", version == 2)? } else { b"9" };
+    let switch = if version > 2 { behind(&mut words, b"underused", true)? } else { b"off" };
+    let [] = last_words(&mut words)?;
+    let order = between(2, 9, order)?;
+    let underused = match switch {
+        b"off" => None,
+        threshold => Some(small_number(threshold, (1 << order) - 1)?),
+    };
+    let at = small_number(at, 7)?;
+    Ok(Line::Node(at, Shape { blocks: between(1, 4096, blocks)?, order, underused }))
+}
+
+// the word behind a key
+fn behind<'a>(words: &mut Words<'a>, key: &[u8], is_last: bool) -> Result<&'a [u8], Kind> {
+    if words.next() != Some(key) {
+        return Err(Kind::BadWord);
+    }
+    words.next().ok_or(if is_last { Kind::BadCount } else { Kind::BadWord })
+}
+
+fn between(least: u32, most: u32, word: &[u8]) -> Result<u32, Kind> {
+    match small_number(word, most)? {
+        value if value < least => Err(Kind::BadNumber),
+        value => Ok(value),
+    }
+}
+
+fn event_of(caller: &[u8], mut words: Words, version: u32) -> Result<Event, Kind> {
+    let what = match words.next().ok_or(Kind::BadWord)? {
+        b"alloc" => of_page(words, |page| What::Alloc { page, block: 0 }),
+        b"mapwhole" => of_page(words, |page| What::MapWhole { page }),
+        b"unmapwhole" => {
+            of_loss(words, |page, outcome, released| What::UnmapWhole { page, outcome, released })
+        }
+        b"mapsub" => of_range(words, |page, first, count| What::MapSub { page, first, count }),
+        b"unmapsub" => unmap_of(words),
+        b"splitpmd" => of_page(words, |page| What::SplitPmd { page }),
+        b"pin" => of_page(words, |page| What::Pin { page }),
+        b"unpin" => of_loss(words, |page, outcome, released| What::Unpin { page, outcome, released }),
+        b"taken" => of_page(words, |page| What::Taken { page }),
+        b"split" => split_of(words),
+        b"pinned" => of_page(words, |page| What::Pinned { page }),
+        b"back" => of_page(words, |page| What::Back { page }),
+        b"dropped" => of_page(words, |page| What::Dropped { page }),
+        b"close" => last_words(&mut words).map(|[]| What::Close),
+        b"write" if version > 2 => of_range(words, |page, first, count| What::Write { page, first, count }),
+        b"zero" if version > 2 => of_range(words, |page, first, count| What::Zero { page, first, count }),
+        b"used" if version > 2 => of_page(words, |page| What::Used { page }),
+        _ => Err(Kind::BadWord),
+    };
+    // a caller that is no number is told before a set that is none
+    let caller = match what {
+        Ok(_) | Err(Kind::BadSet) => small_number(caller, 63)?,
+        Err(kind) => return Err(kind),
+    };
+    Ok(Event { caller, what: what? })
+}
+
+fn of_page(mut words: Words, what: impl Fn(u64) -> What) -> Result<What, Kind> {
+    let [page] = last_words(&mut words)?;
+    Ok(what(number(page, u64::MAX)?))
+}
+
+fn of_range(mut words: Words, what: impl Fn(u64, u32, u32) -> What) -> Result<What, Kind> {
+    let [page, first, count] = last_words(&mut words)?;
+    Ok(what(number(page, u64::MAX)?, small_number(first, 65_535)?, small_number(count, 65_535)?))
+}
+
+fn of_loss(
+    mut words: Words,
+    what: impl Fn(u64, Outcome, crate::sub_set::SubSet) -> What,
+) -> Result<What, Kind> {
+    let page = words.next().ok_or(Kind::BadCount)?;
+    let (outcome, [set]) = (outcome_of(&mut words)?, last_words(&mut words)?);
+    Ok(what(number(page, u64::MAX)?, outcome, set_of(set)?))
+}
+
+fn unmap_of(mut words: Words) -> Result<What, Kind> {
+    let mut next = || words.next().ok_or(Kind::BadCount);
+    let (page, first, count) = (next()?, next()?, next()?);
+    let (outcome, [set]) = (outcome_of(&mut words)?, last_words(&mut words)?);
+    Ok(What::UnmapSub {
+        page: number(page, u64::MAX)?,
+        first: small_number(first, 65_535)?,
+        count: small_number(count, 65_535)?,
+        outcome,
+        released: set_of(set)?,
+    })
+}
+
+fn split_of(mut words: Words) -> Result<What, Kind> {
+    let [page, set] = last_words(&mut words)?;
+    Ok(What::Split { page: number(page, u64::MAX)?, released: set_of(set)? })
+}
+
+fn outcome_of(words: &mut Words) -> Result<Outcome, Kind> {
+    match words.next().ok_or(Kind::BadCount)? {
+        b"stays" => Ok(Outcome::Stays),
+        b"queued" => Ok(Outcome::Queued),
+        b"freed" => Ok(Outcome::Freed),
+        _ => Err(Kind::BadWord),
+    }
+}

@@ -1,0 +1,98 @@
+//! The answers of a section, kept or only counted.
+ghost use Rattle.std.specs.Prelude.{◌≡◌, ◌<◌, ◌≤◌, ◌+◌, ◌++◌, ◌∷◌, [], true, length, vec_len, vec_capacity, IfOk, IfSome};
+
+use crate::reply::Answer;
+use std::alloc::{AllocError, Global};
+use std::marker::Model;
+use std::snapshot::Snapshot;
+
+// The answers so far, which only contracts see: they take no bytes.
+#[derive(Drop)]
+enum Told {
+    Nothing,
+    After(Snapshot<Answer>, Snapshot<Told>),
+}
+
+/// The answers to the commands of a section, in order. A log that doesn't keep them takes no memory for them: it counts them,
+/// and only contracts see which they are.
+#[derive(Drop)]
+pub struct AnswerLog {
+    keeps: bool,
+    // all answers where the log keeps them, else none
+    kept: Vec<Answer>,
+    count: usize,
+    // for how many answers there is room
+    room: usize,
+    told: Snapshot<Told>,
+}
+
+impl Model for AnswerLog {
+    ghost use Rattle.thp_work.specs.Logs.{told_items, IsLog, LogState};
+
+    ghost Value = { LogState };
+
+    ghost view = { λ l. record { items = told_items l.told.value; room = l.room } };
+
+    ghost invariant = { λ l. IsLog l.keeps l.kept l.count l.room l.told.value };
+}
+
+impl AnswerLog {
+    /// A log without answers, with room for so many.
+    pub fn new(alloc: Global, room: usize, keeps: bool) -> Result<AnswerLog, AllocError>
+        ensures items { IfOk result (λ log. log.items ≡ []) }
+        ensures room { IfOk result (λ log. log.room ≡ room) }
+    {
+        let kept = Vec::with_capacity(alloc, if keeps { room } else { 0 })?;
+        Ok(AnswerLog {
+            keeps,
+            kept,
+            count: 0,
+            room,
+            told: Snapshot::of(&Told::Nothing),
+        })
+    }
+
+    /// Adds an answer, for which there is room.
+    pub fn push(&mut self, answer: Answer)
+        requires { length self.old.items < self.old.room }
+        ensures items { self.new.items ≡ self.old.items ++ answer ∷ [] }
+        ensures count { length self.new.items ≡ length self.old.items + 1 }
+        ensures room { self.new.room ≡ self.old.room }
+    {
+        let last = Snapshot::of(&answer);
+        let nothing = Snapshot::of(&Told::Nothing);
+        let told = std::mem::replace(&mut self.told, nothing);
+        self.told = Snapshot::of(&Told::After(last, told));
+        self.count += 1;
+        push_where(self.keeps, &mut self.kept, answer);
+    }
+
+    /// How many answers there are.
+    pub fn len(&self) -> usize
+        ensures { result ≡ length self.now.items }
+    {
+        self.count
+    }
+
+    /// The answers, where the log keeps them.
+    pub fn kept(&self) -> Option<&[Answer]>
+        ensures { IfSome result (λ answers. answers.now ≡ self.now.items) }
+    {
+        if self.keeps {
+            Some(self.kept.as_slice())
+        } else {
+            None
+        }
+    }
+}
+
+// Adds an item, for which there is room, where it is wanted.
+fn push_where<T: Copy>(wanted: bool, items: &mut Vec<T>, item: T)
+    requires { wanted ≡ true → vec_len items.old < vec_capacity items.old }
+    ensures items { wanted ≡ true → items.new.items ≡ items.old.items ++ item ∷ [] }
+    ensures capacity { vec_capacity items.new ≡ vec_capacity items.old }
+{
+    if wanted {
+        items.push_reserved(item);
+    }
+}
