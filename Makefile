@@ -3,6 +3,7 @@
 # make install: puts the proved program and its man page below PREFIX (default /usr/local; DESTDIR as usual)
 # make test:    every check (all proofs from nothing, must-fail edits, tests, stored runs); ends in 'N passed, M failed'
 # make fuzz:    random scripts on the built program and on a plain reading of the model in Python: CASES=n SEED=s
+# make memory:  each growth of memory and each start of a thread refused in turn (wants Python 3 and a C compiler)
 # make bench:   times on large scripts, of single calls and of texts (docs/PROOFS.md has the figures)
 # How long each takes: README.md, "First minutes".
 PREFIX ?= /usr/local
@@ -11,7 +12,7 @@ SCRIPT = examples/first.script
 CASES ?= 2000
 SEED ?= 1
 
-.PHONY: try run install test fuzz bench
+.PHONY: try run install test fuzz memory bench
 
 try:
 	@cd crates/thpsplit && rt try < ../../$(SCRIPT)
@@ -28,6 +29,11 @@ test:
 
 fuzz: run
 	@python3 tests/fuzz.py $(PROGRAM) --cases $(CASES) --seed $(SEED)
+
+memory: run
+	@cd crates/tests_memory && rt test
+	@cd crates/tests_growth && rt test
+	@python3 tests/memory.py $(PROGRAM) crates/tests_memory/out/tests_memory_tests crates/tests_growth/out/tests_growth_tests
 
 bench:
 	@bash bench/run

@@ -1,0 +1,163 @@
+//! The program on devices that fail: its exit status, and what it tells on standard error.
+use crate::devices::{Manner, Mishap, Sink, Source};
+use crate::passages::{FIRST_SCRIPT, JOURNAL};
+use std::alloc::Global;
+use std::io::ErrorKind;
+use std::thread::Threads;
+use thp_run::{Watched, run_program};
+
+/// The words of a command line, and what is read.
+#[derive(Clone, Copy)]
+struct Task {
+    word: &'static str,
+    input: &'static [u8],
+}
+
+const TASKS: [Task; 4] = [
+    Task {
+        word: "--nodes=2",
+        input: FIRST_SCRIPT,
+    },
+    Task {
+        word: "--check",
+        input: JOURNAL,
+    },
+    Task {
+        word: "--report=journal",
+        input: FIRST_SCRIPT,
+    },
+    Task {
+        word: "--version",
+        input: b"",
+    },
+];
+
+/// Scripts and journals at fault, and what is told of them.
+const FAULTY: [(Task, &[u8]); 2] = [
+    (
+        Task {
+            word: "--nodes=2",
+            input: b"fly\n",
+        },
+        b"thpsplit: line 1: bad-word\n",
+    ),
+    (
+        Task {
+            word: "--check",
+            input: b"thp-journal 1",
+        },
+        b"thpsplit: line 1: cut\n",
+    ),
+];
+
+/// What the program did: its exit status, how often it read and wrote, standard output and standard error.
+#[derive(Drop)]
+struct Ended {
+    status: u8,
+    reads: u32,
+    writes: u32,
+    output: Vec<u8>,
+    errors: Vec<u8>,
+}
+
+/// The program on devices of these manners.
+fn end_of<T: Threads + Sync>(
+    rt: &T,
+    alloc: Global,
+    task: &Task,
+    reads: Manner,
+    writes: Manner,
+    tells: Manner,
+) -> Option<Ended> {
+    let mut words = Vec::new(alloc);
+    for word in ["thpsplit", task.word] {
+        words.push(String::from_str(alloc, word).ok()?).ok()?;
+    }
+    let mut reader = Watched::new(Source::new(task.input, reads));
+    let mut output = Watched::new(Sink::new(alloc, writes));
+    let mut errors = Watched::new(Sink::new(alloc, tells));
+    let status = run_program(rt, alloc, Ok(words), &mut reader, &mut output, &mut errors);
+    let source = reader.into_inner();
+    let output = output.into_inner();
+    Some(Ended {
+        status,
+        reads: source.calls,
+        writes: output.calls,
+        output: output.held,
+        errors: errors.into_inner().held,
+    })
+}
+
+const FAILS: Mishap = Mishap::Fails(ErrorKind::Other);
+
+const LARGE: Manner = Manner {
+    step: 8192,
+    mishap: None,
+};
+
+/// Has each read of the program fail in turn; how many did. `None` where it ends wrong.
+fn fail_reads<T: Threads + Sync>(rt: &T, alloc: Global, task: &Task) -> Option<u32> {
+    let all = end_of(rt, alloc, task, Manner::by(1), LARGE, LARGE)?.reads;
+    for call in 0..all {
+        let reads = Manner::with(1, call, FAILS);
+        let ended = end_of(rt, alloc, task, reads, LARGE, LARGE)?;
+        let is_told = ended.errors.as_slice() == b"thpsplit: read failed\n".as_slice();
+        if ended.status != 3 || !is_told || !ended.output.is_empty() {
+            return None;
+        }
+    }
+    Some(all)
+}
+
+/// Has each write to standard output fail in turn; how many did. `None` where the program ends wrong.
+fn fail_writes<T: Threads + Sync>(rt: &T, alloc: Global, task: &Task) -> Option<u32> {
+    let all = end_of(rt, alloc, task, LARGE, Manner::by(1), LARGE)?.writes;
+    for call in 0..all {
+        let writes = Manner::with(1, call, FAILS);
+        let ended = end_of(rt, alloc, task, LARGE, writes, LARGE)?;
+        let is_told = ended.errors.as_slice() == b"thpsplit: write failed\n".as_slice();
+        if ended.status != 3 || !is_told || ended.output.len() != call as usize {
+            return None;
+        }
+    }
+    Some(all)
+}
+
+/// Has each write to standard error fail in turn: the exit status stays. How many did; `None` where the program ends wrong.
+fn fail_tells<T: Threads + Sync>(rt: &T, alloc: Global, task: &Task, told: &[u8]) -> Option<u32> {
+    let mut tried = 0u32;
+    for count in 0..=told.len() {
+        let tells = Manner::with(1, tried, FAILS);
+        let ended = end_of(rt, alloc, task, LARGE, LARGE, tells)?;
+        let is_front = ended.errors.as_slice() == &told[..count];
+        if ended.status != 2 || !is_front || !ended.output.is_empty() {
+            return None;
+        }
+        tried = tried.saturating_add(1);
+    }
+    Some(tried)
+}
+
+#[test]
+fn failing_devices(rt: HostRuntime) {
+    let alloc = rt.alloc();
+    let mut reads = 0u32;
+    let mut writes = 0u32;
+    for task in &TASKS {
+        let failed = fail_reads(&rt, alloc, task).expect(&rt, "failed reads");
+        reads = reads.saturating_add(failed);
+        let failed = fail_writes(&rt, alloc, task).expect(&rt, "failed writes");
+        writes = writes.saturating_add(failed);
+    }
+    assert_eq!(rt; (reads, writes), (219, 411));
+}
+
+#[test]
+fn failing_standard_error(rt: HostRuntime) {
+    let mut tried = 0u32;
+    for (task, told) in &FAULTY {
+        let failed = fail_tells(&rt, rt.alloc(), task, told).expect(&rt, "failed writes");
+        tried = tried.saturating_add(failed);
+    }
+    assert_eq!(rt; tried, 51);
+}

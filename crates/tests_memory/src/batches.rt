@@ -1,0 +1,81 @@
+//! Takes, tries and put-backs of a batch, where the journal has so many events.
+ghost use Rattle.std.specs.Prelude.{◌<◌};
+ghost use Rattle.thp_node.specs.Batches.{IsInFront};
+
+use crate::nodes::{MOST, expect_unchanged, node_after, view_of};
+use std::alloc::Global;
+use std::process::Abort;
+use thp_model::PageId;
+use thp_node::{BackReply, Batch, Node, Tried};
+
+fn take_at_last(rt: &(impl Abort + Print), node: &mut Node) -> Batch
+    ensures { IsInFront node.new.journal result }
+{
+    let before = view_of(node);
+    match node.take(1, 8) {
+        Ok(batch) => return batch,
+        Err(refusal) => expect_unchanged(rt, node, before, refusal, "Node::take"),
+    }
+    match node.take(1, 8) {
+        Ok(batch) => batch,
+        Err(_) => panic!(rt; "a take was refused twice"),
+    }
+}
+
+fn try_at_last(rt: &(impl Abort + Print), node: &mut Node, batch: &mut Batch) -> Tried
+    requires { IsInFront node.old.journal batch.old }
+    ensures { IsInFront node.new.journal batch.new }
+{
+    let before = view_of(node);
+    match node.split_next(batch) {
+        Ok(tried) => return tried,
+        Err(refusal) => expect_unchanged(rt, node, before, refusal, "Node::split_next"),
+    }
+    match node.split_next(batch) {
+        Ok(tried) => tried,
+        Err(_) => panic!(rt; "a try was refused twice"),
+    }
+}
+
+fn return_at_last(rt: &(impl Abort + Print), node: &mut Node, batch: Batch) -> BackReply
+    requires { IsInFront node.old.journal batch }
+{
+    let before = view_of(node);
+    let batch = match node.put_back(batch) {
+        Ok(reply) => return reply,
+        Err((batch, refusal)) => {
+            expect_unchanged(rt, node, before, refusal, "Node::put_back");
+            batch
+        }
+    };
+    match node.put_back(batch) {
+        Ok(reply) => reply,
+        Err(_) => panic!(rt; "a put-back was refused twice"),
+    }
+}
+
+/// Takes the pinned page, tries it and puts it back.
+fn pass_batch(rt: &(impl Abort + Print), alloc: Global, writes: usize) {
+    let mut node = node_after(rt, alloc, writes);
+    let mut batch = take_at_last(rt, &mut node);
+    assert_eq!(rt; batch.pages().len(), 1);
+    let tried = try_at_last(rt, &mut node, &mut batch);
+    assert_eq!(rt; tried, Tried::Pinned(PageId(0)));
+    let reply = return_at_last(rt, &mut node, batch);
+    assert_eq!(rt;
+        reply,
+        BackReply {
+            back: 1,
+            dropped: 0
+        }
+    );
+    assert_eq!(rt; node.journal().len(), writes.saturating_add(8));
+    assert_eq!(rt; node.queue_len(), 1);
+}
+
+#[test]
+fn put_back_without_memory(rt: HostRuntime) {
+    for writes in 0..MOST {
+        pass_batch(&rt, rt.alloc(), writes);
+    }
+}

@@ -1,0 +1,200 @@
+//! Each call of a node that records, made where the journal has so many events, so that some of them make it grow.
+use crate::devices::tell;
+use std::alloc::Global;
+use std::process::Abort;
+use thp_model::{PageId, Refusal, Shape};
+use thp_node::{Counters, NewFault, Node};
+
+/// How many events there are at most before a call.
+pub(crate) const MOST: usize = 70;
+
+const PAGE: PageId = PageId(0);
+
+/// A call, about page 0 where it is one about a page.
+#[derive(Clone, Copy, PartialEq, Eq, Debug)]
+pub(crate) enum Call {
+    AllocPage,
+    MapWhole,
+    UnmapWhole,
+    MapSub,
+    // of the subpage of this number
+    UnmapSub(u32),
+    SplitPmd,
+    Pin,
+    Unpin,
+    Write,
+    Zero,
+    Close,
+    Scan,
+    Reserve,
+}
+
+/// What makes a page of a node stand in the queue, mapped as a whole and pinned, so that each call has something to do.
+pub(crate) const BEFORE: [Call; 5] = [
+    Call::AllocPage,
+    Call::SplitPmd,
+    Call::UnmapSub(0),
+    Call::MapWhole,
+    Call::Pin,
+];
+
+/// Each call, and how many events it records there.
+const CALLS: [(Call, usize); 13] = [
+    (Call::AllocPage, 1),
+    (Call::MapWhole, 1),
+    (Call::UnmapWhole, 1),
+    (Call::MapSub, 1),
+    (Call::UnmapSub(1), 1),
+    (Call::SplitPmd, 1),
+    (Call::Pin, 1),
+    (Call::Unpin, 1),
+    (Call::Write, 1),
+    (Call::Zero, 1),
+    (Call::Close, 1),
+    // a take, a find that the page is pinned, and its return
+    (Call::Scan, 3),
+    (Call::Reserve, 0),
+];
+
+fn make(node: &mut Node, call: Call) -> Result<(), Refusal> {
+    match call {
+        Call::AllocPage => {
+            let _page = node.alloc_page(1)?;
+            Ok(())
+        }
+        Call::MapWhole => node.map_whole(1, PAGE),
+        Call::UnmapWhole => {
+            let _done = node.unmap_whole(1, PAGE)?;
+            Ok(())
+        }
+        Call::MapSub => node.map_sub(1, PAGE, 2, 1),
+        Call::UnmapSub(subpage) => {
+            let _done = node.unmap_sub(1, PAGE, subpage, 1)?;
+            Ok(())
+        }
+        Call::SplitPmd => node.split_pmd(1, PAGE),
+        Call::Pin => node.pin(1, PAGE),
+        Call::Unpin => {
+            let _done = node.unpin(1, PAGE)?;
+            Ok(())
+        }
+        Call::Write => node.write(1, PAGE, 1, 1),
+        Call::Zero => node.zero(1, PAGE, 1, 1),
+        Call::Close => node.close(1),
+        Call::Scan => {
+            let _reply = node.scan(1, 8)?;
+            Ok(())
+        }
+        Call::Reserve => node.reserve(200),
+    }
+}
+
+/// What a node shows: its events, its queue, its frames and its statistics.
+#[derive(Clone, Copy, PartialEq, Eq, Debug)]
+pub(crate) struct View {
+    events: usize,
+    queued: u32,
+    held: u128,
+    given: u128,
+    counters: Counters,
+}
+
+pub(crate) fn view_of(node: &Node) -> View {
+    View {
+        events: node.journal().len(),
+        queued: node.queue_len(),
+        held: node.frames_held(),
+        given: node.frames_given(),
+        counters: node.counters(),
+    }
+}
+
+/// A call was refused for want of memory alone, and changed nothing.
+pub(crate) fn expect_unchanged(
+    rt: &(impl Abort + Print),
+    node: &Node,
+    before: View,
+    refusal: Refusal,
+    call: &str,
+) {
+    tell(rt, call);
+    assert_eq!(rt; refusal, Refusal::OutOfMemory);
+    assert_eq!(rt; view_of(node), before);
+}
+
+pub(crate) fn node_at_last(rt: &(impl Abort + Print), alloc: Global, shape: Shape) -> Node {
+    match Node::new(alloc, shape) {
+        Ok(node) => return node,
+        Err(fault) => {
+            assert_eq!(rt; fault, NewFault::OutOfMemory);
+            tell(rt, "Node::new");
+        }
+    }
+    Node::new(alloc, shape).expect(rt, "a node at the second try")
+}
+
+/// Makes a call, at the second try at the latest.
+pub(crate) fn make_at_last(rt: &(impl Abort + Print), node: &mut Node, call: Call, name: &str) {
+    let before = view_of(node);
+    if let Err(refusal) = make(node, call) {
+        expect_unchanged(rt, node, before, refusal, name);
+        assert_eq!(rt; make(node, call), Ok(()));
+    }
+}
+
+fn name_of(call: Call) -> &'static str {
+    match call {
+        Call::AllocPage => "Node::alloc_page",
+        Call::MapWhole => "Node::map_whole",
+        Call::UnmapWhole => "Node::unmap_whole",
+        Call::MapSub => "Node::map_sub",
+        Call::UnmapSub(_) => "Node::unmap_sub",
+        Call::SplitPmd => "Node::split_pmd",
+        Call::Pin => "Node::pin",
+        Call::Unpin => "Node::unpin",
+        Call::Write => "Node::write",
+        Call::Zero => "Node::zero",
+        Call::Close => "Node::close",
+        Call::Scan => "Node::scan",
+        Call::Reserve => "Node::reserve",
+    }
+}
+
+/// A node of two blocks with a page that is queued and pinned, and so many writes after that.
+pub(crate) fn node_after(rt: &(impl Abort + Print), alloc: Global, writes: usize) -> Node {
+    let shape = Shape {
+        blocks: 2,
+        order: 2,
+        underused: None,
+    };
+    let mut node = node_at_last(rt, alloc, shape);
+    for call in BEFORE {
+        make_at_last(rt, &mut node, call, name_of(call));
+    }
+    for _ in 0..writes {
+        make_at_last(rt, &mut node, Call::Write, "Node::write");
+    }
+    node
+}
+
+/// Makes each call, each on a node of its own with so many writes before.
+fn make_each(rt: &(impl Abort + Print), alloc: Global, writes: usize) {
+    for (call, events) in CALLS {
+        let mut node = node_after(rt, alloc, writes);
+        let before = node.journal().len();
+        make_at_last(rt, &mut node, call, name_of(call));
+        assert_eq!(rt; node.journal().len(), before.saturating_add(events));
+        // and the node goes on
+        if call != Call::Close {
+            make_at_last(rt, &mut node, Call::Close, "Node::close");
+        }
+        assert_eq!(rt; node.alloc_page(1), Err(Refusal::Closed));
+    }
+}
+
+#[test]
+fn each_call(rt: HostRuntime) {
+    for writes in 0..MOST {
+        make_each(&rt, rt.alloc(), writes);
+    }
+}

@@ -1,0 +1,136 @@
+//! The calls that runs and checks are made of, each at the second try at the latest.
+ghost use Rattle.std.specs.Prelude.{◌≡◌};
+
+use crate::devices::tell;
+use crate::runs::{JOURNAL, SCRIPT};
+use std::alloc::Global;
+use std::process::Abort;
+use thp_blocks::LeastBlocks;
+use thp_check::{CheckFault, check};
+use thp_journal::{NodeHistory, journal_text};
+use thp_line::read_line;
+use thp_model::{Event, PageId, Shape, What};
+use thp_page::PageTable;
+use thp_places::Places;
+use thp_read::{check_text, read_journal};
+use thp_text::{ReadFault, Report, Settings, read_script};
+
+const SHAPE: Shape = Shape {
+    blocks: 64,
+    order: 2,
+    underused: None,
+};
+
+#[test]
+fn tables_and_places(rt: HostRuntime) {
+    if PageTable::new(rt.alloc(), 64, 2).is_err() {
+        tell(&rt, "PageTable::new");
+        assert!(rt; PageTable::new(rt.alloc(), 64, 2).is_ok());
+    }
+    if Places::new(rt.alloc(), SHAPE).is_err() {
+        tell(&rt, "Places::new");
+        assert!(rt; Places::new(rt.alloc(), SHAPE).is_ok());
+    }
+}
+
+/// The allocation of a page by caller 0, in block 0.
+fn allocation(page: u64) -> Event {
+    Event {
+        caller: 0,
+        what: What::Alloc {
+            page: PageId(page),
+            block: 0,
+        },
+    }
+}
+
+/// Gives the next page its block, which has its number, at the second try at the latest.
+fn place_at_last(rt: &(impl Abort + Print), blocks: &mut LeastBlocks, page: u64) {
+    let mut placed = blocks.place(allocation(page));
+    if placed.is_err() {
+        tell(rt, "LeastBlocks::place");
+        placed = blocks.place(allocation(page));
+    }
+    let is_there = match placed {
+        Ok(
+            Event {
+                what: What::Alloc { block, .. },
+                ..
+            },
+        ) => u64::from(block) == page,
+        _ => false,
+    };
+    assert!(rt; is_there, "page {page}");
+}
+
+#[test]
+fn least_blocks(rt: HostRuntime) {
+    let mut made = LeastBlocks::new(rt.alloc(), SHAPE);
+    if made.is_err() {
+        tell(&rt, "LeastBlocks::new");
+        made = LeastBlocks::new(rt.alloc(), SHAPE);
+    }
+    let mut blocks = made.expect(&rt, "blocks at the second try");
+    for page in 0..64 {
+        place_at_last(&rt, &mut blocks, page);
+    }
+}
+
+fn settings_of(rt: &impl Abort) -> Settings {
+    Settings::new(3, 16, 3, Report::Totals).expect(rt, "within the limits")
+}
+
+#[test]
+fn texts(rt: HostRuntime) {
+    let settings = settings_of(&rt);
+    if let Err(fault) = read_script(rt.alloc(), &settings, SCRIPT) {
+        assert!(rt; matches!(fault, ReadFault::OutOfMemory));
+        tell(&rt, "read_script");
+        assert!(rt; read_script(rt.alloc(), &settings, SCRIPT).is_ok());
+    }
+    if let Err(fault) = read_journal(rt.alloc(), JOURNAL) {
+        assert!(rt; matches!(fault, ReadFault::OutOfMemory));
+        tell(&rt, "read_journal");
+        assert!(rt; read_journal(rt.alloc(), JOURNAL).is_ok());
+    }
+    if let Err(fault) = check_text(rt.alloc(), JOURNAL) {
+        assert!(rt; matches!(fault, ReadFault::OutOfMemory));
+        tell(&rt, "check_text");
+        assert!(rt; matches!(check_text(rt.alloc(), JOURNAL), Ok(None)));
+    }
+}
+
+#[test]
+fn histories(rt: HostRuntime) {
+    let events = [allocation(0)];
+    let checked = check(rt.alloc(), SHAPE, events.as_slice());
+    if checked == Err(CheckFault::OutOfMemory) {
+        tell(&rt, "check");
+        assert_eq!(rt; check(rt.alloc(), SHAPE, events.as_slice()), Ok(()));
+    } else {
+        assert_eq!(rt; checked, Ok(()));
+    }
+    let nodes = [NodeHistory {
+        shape: SHAPE,
+        events: events.as_slice(),
+    }];
+    if journal_text(rt.alloc(), nodes.as_slice()).is_err() {
+        tell(&rt, "journal_text");
+        assert!(rt; journal_text(rt.alloc(), nodes.as_slice()).is_ok());
+    }
+}
+
+#[test]
+fn lines(rt: HostRuntime) {
+    let words = [
+        "thpsplit",
+        "--nodes=2",
+        "--orders",
+        "2,9",
+        "--report=journal",
+    ];
+    if read_line(rt.alloc(), words.as_slice()).is_err() {
+        tell(&rt, "read_line");
+        assert!(rt; read_line(rt.alloc(), words.as_slice()).is_ok());
+    }
+}

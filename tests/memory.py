@@ -1,0 +1,129 @@
+#!/usr/bin/env python3
+"""Refuses each growth of memory in turn, and each start of a thread, and looks at what comes of that (`make memory`).
+
+    tests/memory.py PROGRAM [TESTS ..]
+
+PROGRAM is the built `thpsplit`. Where memory is refused to it, it ends with status 3, tells `thpsplit: out of memory` and
+writes nothing; or it got by with less, or without the thread, and all is as ever. TESTS are built tests, each of which passes
+whatever growth is refused; it may tell by a line `refused: CALL` which call met that. Wants a C compiler, `cc` or what CC
+names. A line for each case tells how many growths were refused; the exit status is 1 where a run ended wrong.
+"""
+
+import os
+import pathlib
+import re
+import struct
+import subprocess
+import sys
+import tempfile
+from collections import Counter
+from concurrent.futures import ThreadPoolExecutor
+
+from script import Run
+
+HERE = pathlib.Path(__file__).parent
+TOLD = "thpsplit: out of memory\n"
+
+FIRST = "setup\nalloc 0\nsplitpmd 0 0\nunmap 0 0 0 256\nscan 0 8\n"
+# three workers on a node each, one of whom leaves a batch open
+SECTIONS = {
+    0: ["alloc 0", "alloc 1", "alloc 2", "pin 1 0"],
+    1: ["splitpmd 0 0", "unmap 0 0 0 256", "scan 0 8", "alloc 0", "splitpmd 0 1", "unmap 0 1 0 1", "take 0 8"],
+    2: ["splitpmd 1 0", "unmap 1 0 0 1", "take 1 8", "splitnext 1", "putback 1", "count 1"],
+    3: ["unmapwhole 2 0", "alloc 2", "map 2 1 0 3", "write 2 1 0 4", "zero 2 1 0 1", "close 2"],
+}
+
+
+def main():
+    if len(sys.argv) < 2:
+        sys.exit(__doc__)
+    program, *tests = sys.argv[1:]
+    with tempfile.TemporaryDirectory() as folder:
+        refuser = Refuser(pathlib.Path(folder))
+        wrong = sum(try_case(refuser, program, *case) for case in cases())
+        wrong += sum(try_tests(refuser, path) for path in tests)
+    print(f"{wrong} wrong")
+    sys.exit(wrong != 0)
+
+
+class Refuser:
+    """Runs programs with one growth or one start of a thread refused."""
+
+    def __init__(self, folder):
+        self.folder, self.library = folder, folder / "refuse.so"
+        words = [os.environ.get("CC", "cc"), "-O2", "-shared", "-fPIC", "-o", self.library, HERE / "refuse.c", "-ldl"]
+        subprocess.run(words, check=True)
+
+    def run(self, words, text, which="MEMORY", number=0):
+        """The run, and how many growths and starts of threads it made."""
+        with tempfile.NamedTemporaryFile(dir=self.folder) as counts:
+            counts.write(bytes(16))
+            counts.flush()
+            names = {"LD_PRELOAD": self.library, "REFUSE_COUNTS": counts.name, f"REFUSE_{which}": str(number)}
+            ran = subprocess.run(words, input=text, capture_output=True, text=True, env={**os.environ, **names})
+            counts.seek(0)
+            return ran, struct.unpack("=QQ", counts.read())
+
+    def each(self, words, text):
+        """The runs with each growth and then each start of a thread refused."""
+        growths, starts = self.run(words, text)[1]
+        asked = [("MEMORY", number) for number in range(1, growths + 1)]
+        asked += [("THREAD", number) for number in range(1, starts + 1)]
+        with ThreadPoolExecutor(os.cpu_count()) as pool:
+            runs = list(pool.map(lambda it: self.run(words, text, *it)[0], asked))
+        return runs[:growths], runs[growths:]
+
+
+def cases():
+    """Runs of the program: a name, its options, what it reads, and what it prints."""
+    shapes = [(16, 9, None)] * 3
+    run = Run(shapes)
+    for caller, lines in SECTIONS.items():
+        run.section(caller, lines)
+    names = ["setup", "worker 1", "worker 2", "worker 3"]
+    script = joined(line for caller, lines in SECTIONS.items() for line in (names[caller], *lines))
+    journal = joined(run.journal())
+    first = Run([(16, 9, None)])
+    first.section(0, FIRST.splitlines()[1:])
+    yield "first script", [], FIRST, joined(first.totals())
+    options = ["--nodes", "3", "--workers", "3"]
+    yield "workers, totals", options, script, joined(run.totals())
+    yield "workers, journal", [*options, "--report", "journal"], script, journal
+    yield "workers, answers", [*options, "--report", "answers"], script, joined(run.answers)
+    yield "check", ["--check"], journal, "legal\n"
+
+
+def joined(lines):
+    return "".join(line + "\n" for line in lines)
+
+
+def try_case(refuser, program, name, options, text, wanted):
+    """Runs the program with each growth and each thread refused; how many of these runs ended wrong."""
+    def kind(ran):
+        told = (ran.returncode, ran.stdout, ran.stderr)
+        return {(3, "", TOLD): "told", (0, wanted, ""): "whole"}.get(told, "wrong")
+
+    growths, starts = (Counter(map(kind, runs)) for runs in refuser.each([program, *options], text))
+    print(f"{name}: {growths.total()} growths refused: {growths['told']} told, {growths['whole']} met by less, {growths['wrong']} wrong; "
+          f"{starts.total()} threads refused: {starts['told']} told, {starts['whole']} done without, {starts['wrong']} wrong", flush=True)
+    return growths["wrong"] + starts["wrong"]
+
+
+def try_tests(refuser, path):
+    """Runs each test with each growth and each thread refused; how many of these runs failed."""
+    listed = subprocess.run([path, "--list"], capture_output=True, text=True, check=True).stdout
+    failed, calls = 0, Counter()
+    for name in re.findall(r"^(.*): test$", listed, re.MULTILINE):
+        growths, starts = refuser.each([path, name], "")
+        bad = [number for number, ran in enumerate(growths + starts, 1) if ran.returncode]
+        for ran in growths:
+            calls.update(re.findall(r"^refused: (.*)$", ran.stdout, re.MULTILINE))
+        print(f"{name}: {len(growths)} growths and {len(starts)} threads refused, {len(bad)} failed {bad[:5]}", flush=True)
+        failed += len(bad)
+    for call, count in sorted(calls.items()):
+        print(f"  {call} was refused {count} times")
+    return failed
+
+
+if __name__ == "__main__":
+    main()
