@@ -1,0 +1,64 @@
+//! Nodes for rounds.
+ghost use Rattle.std.specs.Prelude.{◌≡◌, ◌+◌, ◌<◌, [], IfOk, IfSome, length};
+ghost use Rattle.thp_cell.specs.Views.{HasAll};
+ghost use Rattle.thp_work.specs.Passes.{Agree};
+
+use std::alloc::{AllocError, Global};
+use thp_cell::{NodeCell, Pass};
+use thp_model::Shape;
+use thp_node::Node;
+use thp_work::NodePass;
+
+/// A node with room for every worker's page.
+pub(crate) fn new_node(alloc: Global) -> Option<Node>
+    ensures { IfSome result (λ n. n.journal ≡ []) }
+{
+    let shape = Shape {
+        blocks: 16,
+        order: 9,
+        underused: None,
+    };
+    match Node::new(alloc, shape) {
+        Ok(node) => Some(node),
+        Err(_) => None,
+    }
+}
+
+/// A cell with a page for each of its callers, and the pass that has them all.
+pub(crate) fn new_cell(alloc: Global, callers: u32) -> Option<(NodeCell, Pass)>
+    ensures cell { IfSome result (λ r. r.1.cell ≡ r.0) }
+    ensures all { IfSome result (λ r. HasAll r.1) }
+    ensures callers { IfSome result (λ r. r.1.callers ≡ callers) }
+{
+    let node = new_node(alloc)?;
+    let Ok((cell, mut pass)) = NodeCell::new(alloc, node, callers) else {
+        return None;
+    };
+    for _page in 0..callers {
+        if let Err(_) = cell.alloc_page(&mut pass, 0) {
+            return None;
+        }
+    }
+    Some((cell, pass))
+}
+
+/// One node more.
+pub(crate) fn with_node<'a>(
+    alloc: Global,
+    nodes: Vec<NodePass<'a>>,
+    cell: &'a NodeCell,
+    pass: Pass,
+    callers: u32,
+) -> Result<Vec<NodePass<'a>>, AllocError>
+    requires cell { pass.cell ≡ cell.now }
+    requires all { HasAll pass }
+    requires callers { pass.callers ≡ callers }
+    requires agree { Agree callers 0 callers nodes.items }
+    requires few { length nodes.items < 4 }
+    ensures agree { IfOk result (λ r. Agree callers 0 callers r.items) }
+    ensures more { IfOk result (λ r. length r.items ≡ length nodes.entry.items + 1) }
+{
+    let mut nodes = nodes;
+    nodes.push(NodePass::new(alloc, cell, pass)?)?;
+    Ok(nodes)
+}
