@@ -1,5 +1,5 @@
-//! Whole scripts run by workers: rows of sections, open batches and gated workers, and generated scripts on shared nodes. Tests
-//! alone: they stand above the run, the texts and the check of histories.
+//! Whole scripts run by workers: rows of sections, open batches and gated workers. Tests alone: they stand above the
+//! run, the texts and the check of histories.
 #![tactic(auto)]
 
 #[cfg(test)]
@@ -8,7 +8,5 @@ mod batches;
 mod gated;
 #[cfg(test)]
 mod runs;
-#[cfg(test)]
-mod stress;
 #[cfg(test)]
 mod workers;

@@ -1,0 +1,115 @@
+//! Open batches as a caller's own events tell them.
+use crate::parts::Part;
+use crate::tallies::Tally;
+use std::alloc::Global;
+use thp_model::{PageId, What};
+use thp_node::{BackReply, Tried};
+
+// The pages of a take, oldest first, without those that were split or found in use, and how many places were passed.
+#[derive(Drop)]
+pub(crate) struct Batch {
+    pages: Vec<Option<PageId>>,
+    passed: usize,
+}
+
+impl Batch {
+    // The batch that the caller's next events take, so many.
+    pub(crate) fn take(alloc: Global, part: &mut Part<'_>, count: u32) -> Option<Batch> {
+        let mut pages = Vec::new(alloc);
+        for _ in 0..count {
+            match part.next()? {
+                What::Taken { page } => pages.push(Some(page)).ok()?,
+                _ => return None,
+            }
+        }
+        Some(Batch { pages, passed: 0 })
+    }
+
+    // Goes to a page behind those that were passed, past freed pages alone; answers its place.
+    fn go_to(&mut self, tally: &Tally, page: PageId) -> Option<usize> {
+        for place in self.passed..self.pages.len() {
+            if let Some(other) = self.pages[place] {
+                if other == page {
+                    self.passed = place.wrapping_add(1);
+                    return Some(place);
+                }
+                if !tally.is_freed(other) {
+                    return None;
+                }
+            }
+        }
+        None
+    }
+
+    // No page but freed ones stands behind those that were passed.
+    pub(crate) fn is_passed(&self, tally: &Tally) -> bool {
+        for place in self.passed..self.pages.len() {
+            if let Some(page) = self.pages[place] {
+                if !tally.is_freed(page) {
+                    return false;
+                }
+            }
+        }
+        true
+    }
+
+    // A page that left the batch.
+    fn let_go(&mut self, tally: &Tally, page: PageId) -> Option<()> {
+        let place = self.go_to(tally, page)?;
+        let page = self.pages.get_mut(place)?;
+        *page = None;
+        Some(())
+    }
+
+    // The try that is the caller's next event.
+    pub(crate) fn try_next(&mut self, tally: &Tally, part: &mut Part<'_>) -> Option<Tried> {
+        match part.next()? {
+            What::Split { page, released: _ } => {
+                self.let_go(tally, page)?;
+                Some(Tried::Split(page))
+            }
+            What::Pinned { page } => {
+                let _place = self.go_to(tally, page)?;
+                Some(Tried::Pinned(page))
+            }
+            What::Used { page } => {
+                self.let_go(tally, page)?;
+                Some(Tried::Used(page))
+            }
+            _ => None,
+        }
+    }
+
+    // The put-back that is the caller's next events, so many: each page that is left goes back or is dropped, in order.
+    pub(crate) fn put_back(
+        self,
+        tally: &Tally,
+        part: &mut Part<'_>,
+        count: usize,
+    ) -> Option<BackReply> {
+        let mut batch = self;
+        batch.passed = 0;
+        let mut reply = BackReply {
+            back: 0,
+            dropped: 0,
+        };
+        for _ in 0..count {
+            match part.next()? {
+                What::Back { page } => {
+                    let _place = batch.go_to(tally, page)?;
+                    reply.back = reply.back.checked_add(1)?;
+                }
+                What::Dropped { page } => {
+                    let _place = batch.go_to(tally, page)?;
+                    reply.dropped = reply.dropped.checked_add(1)?;
+                }
+                _ => return None,
+            }
+        }
+        if batch.is_passed(tally) {
+            Some(reply)
+        } else {
+            None
+        }
+    }
+}

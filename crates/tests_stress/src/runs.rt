@@ -1,0 +1,89 @@
+//! Runs of generated scripts, whose workers may take turns.
+use crate::scripts::{ORDERS, Plan, UNDERUSED, script};
+use std::alloc::Global;
+use std::process::Abort;
+use std::sync::atomic::{AtomicU32, Ordering};
+use std::thread;
+use std::thread::Threads;
+use std::time::{Clock, Duration};
+use thp_scripts::{Ran, run_script};
+use thp_text::{Report, Script, Settings, read_script};
+use thp_work::Gate;
+
+// Lets workers do their commands one at a time, each two of them at most before another's, if they are to take turns at
+// all. Who waits long goes on.
+#[derive(Drop)]
+struct Turns<'r, R> {
+    rt: &'r R,
+    take_turns: bool,
+    // of each worker
+    commands: u32,
+    // whose turn it is, 0 for nobody's
+    turn: AtomicU32,
+}
+
+impl<R: Clock> Turns<'_, R> {
+    fn rest(&self) {
+        thread::sleep(self.rt, Duration::from_micros(1));
+    }
+
+    fn await_turn(&self, worker: u32) {
+        for _ in 0..100u32 {
+            let taken = self
+                .turn
+                .compare_exchange(0, worker, Ordering::SeqCst, Ordering::SeqCst);
+            if taken.is_ok() {
+                return;
+            }
+            self.rest();
+        }
+        self.turn.store(worker, Ordering::SeqCst);
+    }
+}
+
+impl<R: Clock> Gate for Turns<'_, R> {
+    fn pass(&self, worker: u32, index: u32) {
+        if !self.take_turns {
+            return;
+        }
+        if self.turn.load(Ordering::SeqCst) == worker {
+            self.turn.store(0, Ordering::SeqCst);
+        }
+        if index % 2 == 0 {
+            self.rest();
+        }
+        if index < self.commands {
+            self.await_turn(worker);
+        }
+    }
+}
+
+// The nodes, blocks and workers of a plan.
+pub(crate) fn settings_of(rt: &impl Abort, plan: &Plan) -> Settings {
+    let settings = Settings::new(8, plan.blocks, plan.workers, Report::Totals);
+    let settings = settings.expect(rt, "within the limits");
+    let settings = settings.with_orders(ORDERS.as_slice()).expect(rt, "orders");
+    settings
+        .with_underused(UNDERUSED.as_slice())
+        .expect(rt, "thresholds")
+}
+
+// The script of a plan, and what its run leaves.
+pub(crate) fn ran<R: Threads + Clock + Abort + Sync>(
+    rt: &R,
+    alloc: Global,
+    plan: &Plan,
+    settings: &Settings,
+) -> (Script, Ran) {
+    let text = script(alloc, plan).expect(rt, "room");
+    let commands = read_script(alloc, settings, text.as_bytes()).expect(rt, "a script");
+    let script = read_script(alloc, settings, text.as_bytes()).expect(rt, "a script");
+    let gate = Turns {
+        rt,
+        take_turns: plan.take_turns,
+        commands: plan.commands,
+        turn: AtomicU32::new(0),
+    };
+    let ran = run_script(rt, alloc, settings, script, &gate).expect(rt, "memory");
+    (commands, ran)
+}

@@ -1,0 +1,99 @@
+//! Three runs, each of some 100,000 commands.
+use crate::runs::{ran, settings_of};
+use crate::scripts::Plan;
+use crate::tallies::Tally;
+use crate::texts::{are_answers, are_totals, is_journal};
+use crate::walks::explain_section;
+use std::alloc::Global;
+use std::process::Abort;
+use std::thread::Threads;
+use std::time::Clock;
+use thp_check::check;
+use thp_node::Node;
+use thp_scripts::Ran;
+use thp_text::{Script, Settings};
+
+// What the events of each node add up to.
+fn tallies_of(alloc: Global, nodes: &[Node]) -> Option<Vec<Tally>> {
+    let mut tallies = Vec::new(alloc);
+    for node in nodes {
+        tallies.push(Tally::of(alloc, node)?).ok()?;
+    }
+    Some(tallies)
+}
+
+// Each section's answers are explained.
+fn explain_sections(rt: &impl Abort, alloc: Global, tallies: &[Tally], script: &Script, ran: &Ran) {
+    assert_eq!(rt; ran.sections.len(), script.workers.as_slice().len() + 1);
+    for (number, section) in ran.sections.iter().enumerate() {
+        assert_eq!(rt; section.worker as usize, number);
+        let commands = match number.checked_sub(1) {
+            Some(worker) => script.workers.as_slice().get(worker).expect(rt, "a worker"),
+            None => &script.setup,
+        };
+        let commands = commands.as_slice();
+        let explained = explain_section(alloc, ran.nodes.as_slice(), tallies, commands, section);
+        assert!(rt; explained.is_some(), "section {number}");
+    }
+}
+
+// The reports tell what the nodes and the answers say.
+fn tell_the_run(rt: &impl Abort, alloc: Global, settings: &Settings, tallies: &[Tally], ran: &Ran) {
+    let nodes = ran.nodes.as_slice();
+    assert_eq!(rt; is_journal(alloc, settings, nodes), Some(true));
+    assert_eq!(rt; are_totals(alloc, settings, nodes, tallies), Some(true));
+    let sections = ran.sections.as_slice();
+    assert_eq!(rt; are_answers(alloc, settings, nodes, sections), Some(true));
+}
+
+// Runs the script of a plan, and goes over what it left.
+fn run_plan<R: Threads + Clock + Abort + Sync>(rt: &R, alloc: Global, plan: &Plan) {
+    let settings = settings_of(rt, plan);
+    let (script, ran) = ran(rt, alloc, plan, &settings);
+    assert_eq!(rt; ran.nodes.len(), 8);
+    for node in ran.nodes.iter() {
+        assert!(rt; check(alloc, node.shape(), node.journal()).is_ok());
+    }
+    let tallies = tallies_of(alloc, ran.nodes.as_slice()).expect(rt, "a tally");
+    explain_sections(rt, alloc, tallies.as_slice(), &script, &ran);
+    tell_the_run(rt, alloc, &settings, tallies.as_slice(), &ran);
+}
+
+#[test]
+fn eight_workers(rt: HostRuntime) {
+    let plan = Plan {
+        seed: 1,
+        blocks: 64,
+        workers: 8,
+        commands: 12_600,
+        pace: 80,
+        take_turns: false,
+    };
+    run_plan(&rt, rt.alloc(), &plan);
+}
+
+#[test]
+fn twenty_four_workers(rt: HostRuntime) {
+    let plan = Plan {
+        seed: 2,
+        blocks: 256,
+        workers: 24,
+        commands: 4_200,
+        pace: 12,
+        take_turns: true,
+    };
+    run_plan(&rt, rt.alloc(), &plan);
+}
+
+#[test]
+fn sixty_three_workers(rt: HostRuntime) {
+    let plan = Plan {
+        seed: 3,
+        blocks: 4_096,
+        workers: 63,
+        commands: 1_600,
+        pace: 4,
+        take_turns: true,
+    };
+    run_plan(&rt, rt.alloc(), &plan);
+}

@@ -1,0 +1,181 @@
+//! The reports of a run, beside what the nodes and answers say.
+use crate::commands::without_block;
+use crate::tallies::Tally;
+use std::alloc::{AllocError, Global};
+use thp_model::{Event, Outcome, PageId, Refusal, SubSet};
+use thp_node::{BackReply, Node, ScanReply, Tried};
+use thp_read::{NodeJournal, check_text, read_journal};
+use thp_report::report_text;
+use thp_text::{Report, Settings};
+use thp_work::{Reply, Section};
+
+// The report of this kind.
+fn report_of(
+    alloc: Global,
+    settings: &Settings,
+    report: Report,
+    nodes: &[Node],
+    sections: &[Section],
+) -> Option<Vec<u8>> {
+    let mut settings = *settings;
+    settings.report = report;
+    report_text(alloc, &settings, nodes, sections).ok()
+}
+
+// Whether the report `totals` is what the journals add up to.
+pub(crate) fn are_totals(
+    alloc: Global,
+    settings: &Settings,
+    nodes: &[Node],
+    tallies: &[Tally],
+) -> Option<bool> {
+    let told = report_of(alloc, settings, Report::Totals, nodes, &[])?;
+    let mut text = String::new(alloc);
+    for (number, tally) in tallies.iter().enumerate() {
+        tally.write(&mut text, number).ok()?;
+    }
+    Some(told.as_slice() == text.as_bytes())
+}
+
+// Whether the report `journal` is legal, and read back it tells the nodes' events, but for blocks.
+pub(crate) fn is_journal(alloc: Global, settings: &Settings, nodes: &[Node]) -> Option<bool> {
+    let text = report_of(alloc, settings, Report::Journal, nodes, &[])?;
+    if check_text(alloc, text.as_slice()).ok()?.is_some() {
+        return Some(false);
+    }
+    let journals = read_journal(alloc, text.as_slice()).ok()?;
+    let read = journals.nodes.as_slice();
+    Some(read.len() == nodes.len() && read.iter().zip(nodes).all(|(read, node)| tells(read, node)))
+}
+
+fn tells(read: &NodeJournal, node: &Node) -> bool {
+    let events = read.events.as_slice();
+    read.shape == node.shape()
+        && events.len() == node.journal().len()
+        && events
+            .iter()
+            .zip(node.journal())
+            .all(|(read, event)| is_same(read, event))
+}
+
+fn is_same(read: &Event, event: &Event) -> bool {
+    read.caller == event.caller && without_block(read.what) == without_block(event.what)
+}
+
+// Whether the report `answers` has a line for each answer.
+pub(crate) fn are_answers(
+    alloc: Global,
+    settings: &Settings,
+    nodes: &[Node],
+    sections: &[Section],
+) -> Option<bool> {
+    let told = report_of(alloc, settings, Report::Answers, nodes, sections)?;
+    let mut text = String::new(alloc);
+    for section in sections {
+        write_section(&mut text, nodes, section).ok()?;
+    }
+    Some(told.as_slice() == text.as_bytes())
+}
+
+fn write_section(text: &mut String, nodes: &[Node], section: &Section) -> Result<(), AllocError> {
+    for (place, answer) in section.answers.iter().enumerate() {
+        write!(text, "{} {} ", section.worker, place.wrapping_add(1))?;
+        let looks = match nodes.get(answer.node as usize) {
+            Some(node) => node.shape().shrinks_underused(),
+            None => false,
+        };
+        match answer.reply {
+            Ok(reply) => write_reply(text, reply, looks)?,
+            Err(refusal) => write_refusal(text, refusal)?,
+        }
+        write!(text, "\n")?;
+    }
+    Ok(())
+}
+
+fn write_refusal(text: &mut String, refusal: Refusal) -> Result<(), AllocError> {
+    let word = match refusal {
+        Refusal::NoPage => "no-page",
+        Refusal::BadRange => "bad-range",
+        Refusal::IsSplit => "is-split",
+        Refusal::NotMapped => "not-mapped",
+        Refusal::Gone => "gone",
+        Refusal::NotPinned => "not-pinned",
+        Refusal::TooMany => "too-many",
+        Refusal::Closed => "closed",
+        Refusal::NoBlock => "no-block",
+        Refusal::HasBatch => "has-batch",
+        Refusal::OutOfMemory => "no word",
+    };
+    write!(text, "refused {word}")
+}
+
+fn write_reply(text: &mut String, reply: Reply, looks: bool) -> Result<(), AllocError> {
+    match reply {
+        Reply::Page(PageId(page)) => write!(text, "page {page}"),
+        Reply::Unit => write!(text, "ok"),
+        Reply::Done(done) => {
+            write_outcome(text, done.outcome)?;
+            write_set(text, &done.released)
+        }
+        Reply::Scan(scan) => write_scan(text, &scan, looks),
+        Reply::Count(length) => write!(text, "count {length}"),
+        Reply::Taken(taken) => write!(text, "taken {taken}"),
+        Reply::Tried(Tried::Split(PageId(page))) => write!(text, "split {page}"),
+        Reply::Tried(Tried::Pinned(PageId(page))) => write!(text, "pinned {page}"),
+        Reply::Tried(Tried::Used(PageId(page))) => write!(text, "used {page}"),
+        Reply::Tried(Tried::Done) => write!(text, "done"),
+        Reply::Back(BackReply { back, dropped }) => write!(text, "back {back} dropped {dropped}"),
+        Reply::NoBatch => write!(text, "no-batch"),
+    }
+}
+
+fn write_outcome(text: &mut String, outcome: Outcome) -> Result<(), AllocError> {
+    match outcome {
+        Outcome::Stays => write!(text, "stays "),
+        Outcome::Queued => write!(text, "queued "),
+        Outcome::Freed => write!(text, "freed "),
+    }
+}
+
+fn write_scan(text: &mut String, scan: &ScanReply, looks: bool) -> Result<(), AllocError> {
+    write!(text, "taken {} split {} ", scan.taken, scan.split)?;
+    write!(text, "pinned {} back {} ", scan.pinned, scan.back)?;
+    write!(text, "dropped {}", scan.dropped)?;
+    if looks {
+        write!(text, " used {}", scan.used)?;
+    }
+    Ok(())
+}
+
+// Writes a set as its runs.
+fn write_set(text: &mut String, set: &SubSet) -> Result<(), AllocError> {
+    let mut comma = "";
+    let mut start = None;
+    for subpage in 0..=512u32 {
+        let is_in = subpage < 512 && set.contains(subpage);
+        match (start, is_in) {
+            (None, true) => start = Some(subpage),
+            (Some(first), false) => {
+                write!(text, "{comma}")?;
+                write_run(text, first, subpage.wrapping_sub(1))?;
+                comma = ",";
+                start = None;
+            }
+            _ => {}
+        }
+    }
+    if comma == "" {
+        write!(text, "-")
+    } else {
+        Ok(())
+    }
+}
+
+fn write_run(text: &mut String, first: u32, last: u32) -> Result<(), AllocError> {
+    if first == last {
+        write!(text, "{first}")
+    } else {
+        write!(text, "{first}-{last}")
+    }
+}
