@@ -6,22 +6,6 @@ use std::process::Abort;
 use thp_model::{PageId, Refusal};
 use thp_node::{BackReply, Batch, Node, ScanReply, Tried};
 
-pub(crate) fn scanned(taken: u32, split: u32, pinned: u32, back: u32, dropped: u32) -> ScanReply {
-    ScanReply {
-        taken,
-        split,
-        pinned,
-        back,
-        dropped,
-        used: 0,
-    }
-}
-
-// A scan that also found so many pages in use.
-pub(crate) fn with_used(reply: ScanReply, used: u32) -> ScanReply {
-    ScanReply { used, ..reply }
-}
-
 // A batch of up to `n` pages.
 pub(crate) fn take(rt: &impl Abort, node: &mut Node, caller: u32, n: u32) -> Batch
     requires caller { caller < 64 }

@@ -3,12 +3,9 @@
 ghost use Rattle.std.specs.Prelude.{◌<◌, ◌≤◌};
 ghost use Rattle.thp_node.specs.Batches.{IsInFront, FrontsStay};
 
-use crate::batches::scanned;
-use crate::calls::{
-    Answer, Call, answer_of, event_count, expect, expect_queued, node_of_shape, queued, stays,
-};
 use std::alloc::Global;
 use std::process::Abort;
+use tests_calls::{Answer, Call, STAYS, answer_of, first_wrong, queueing, shape_of};
 use thp_model::{PageId, Refusal, Shape};
 use thp_node::{BackReply, Batch, Counters, NewFault, Node, ScanReply, Tried};
 
@@ -24,7 +21,7 @@ struct View {
 
 fn view_of(node: &Node) -> View {
     View {
-        events: event_count(node),
+        events: node.journal().len(),
         queued: node.queue_len(),
         held: node.frames_held(),
         given: node.frames_given(),
@@ -43,7 +40,7 @@ fn node_at_last(rt: &impl Abort, alloc: Global, shape: Shape) -> Node {
         Ok(node) => return node,
         Err(fault) => assert_eq!(rt; fault, NewFault::OutOfMemory),
     }
-    node_of_shape(rt, alloc, shape)
+    Node::new(alloc, shape).expect(rt, "a node at the second try")
 }
 
 // Makes these calls one after the other, each with its answer at the second try at the latest.
@@ -56,20 +53,15 @@ fn expect_at_last(rt: &impl Abort, node: &mut Node, caller: u32, steps: &[(Call,
         let first = answer_of(node, caller, call);
         if first == Answer::Refused(Refusal::OutOfMemory) {
             assert_eq!(rt; view_of(node), before);
-            expect(rt, node, caller, &[(call, want)]);
+            assert_eq!(rt;
+                answer_of(node, caller, call),
+                want,
+                "step {place} again: {call:?}"
+            );
         } else {
             assert_eq!(rt; first, want, "step {place}: {call:?}");
         }
     }
-}
-
-fn queue_at_last(rt: &impl Abort, node: &mut Node, page: PageId) {
-    let steps = [
-        (Call::Alloc, Answer::Page(page)),
-        (Call::SplitPmd(page), Answer::Done),
-        (Call::UnmapSub(page, 0, 1), queued()),
-    ];
-    expect_at_last(rt, node, 0, &steps);
 }
 
 fn scan_at_last(rt: &impl Abort, node: &mut Node) -> ScanReply {
@@ -134,20 +126,15 @@ fn return_at_last(rt: &impl Abort, node: &mut Node, batch: Batch) -> BackReply
 // A page is queued and gets so many pins; then it is taken, tried and put back.
 fn put_back_after_pins(rt: &impl Abort, alloc: Global, pins: usize) {
     let page = PageId(0);
-    let shape = Shape {
-        blocks: 16,
-        order: 9,
-        underused: None,
-    };
-    let mut node = node_at_last(rt, alloc, shape);
-    queue_at_last(rt, &mut node, page);
+    let mut node = node_at_last(rt, alloc, shape_of(16));
+    expect_at_last(rt, &mut node, 0, &queueing(page));
     for _pin in 0..pins {
         expect_at_last(rt, &mut node, 0, &[(Call::Pin(page), Answer::Done)]);
     }
     let mut batch = take_at_last(rt, &mut node, 1);
     let tried = try_at_last(rt, &mut node, &mut batch);
     assert_eq!(rt; tried, Tried::Pinned(page));
-    assert_eq!(rt; event_count(&node), pins.saturating_add(5));
+    assert_eq!(rt; node.journal().len(), pins.saturating_add(5));
     let reply = return_at_last(rt, &mut node, batch);
     assert_eq!(rt;
         reply,
@@ -156,7 +143,7 @@ fn put_back_after_pins(rt: &impl Abort, alloc: Global, pins: usize) {
             dropped: 0
         }
     );
-    expect_queued(rt, &node, 1);
+    assert_eq!(rt; node.queue_len(), 1);
 }
 
 // The growth that is refused falls into the put-back for some of these numbers of pins.
@@ -169,13 +156,13 @@ fn put_back_without_memory(rt: HostRuntime) {
 
 // A page is queued, and goes through every other call that needs no batch.
 fn calls_about_one_page(rt: &impl Abort, node: &mut Node, page: PageId) {
-    queue_at_last(rt, node, page);
+    expect_at_last(rt, node, 0, &queueing(page));
     expect_at_last(rt, node, 0, &[(Call::Pin(page), Answer::Done)]);
     let steps = [
         (Call::MapWhole(page), Answer::Done),
         (Call::MapSub(page, 0, 2), Answer::Done),
-        (Call::UnmapWhole(page), stays()),
-        (Call::Unpin(page), stays()),
+        (Call::UnmapWhole(page), STAYS),
+        (Call::Unpin(page), STAYS),
         (Call::Write(page, 1, 3), Answer::Done),
         (Call::Zero(page, 2, 1), Answer::Done),
     ];
@@ -195,7 +182,15 @@ fn each_growth_refused(rt: HostRuntime) {
     }
     expect_at_last(&rt, &mut node, 0, &[(Call::Pin(PageId(1)), Answer::Done)]);
     let scan = scan_at_last(&rt, &mut node);
-    assert_eq!(rt; scan, scanned(8, 7, 1, 1, 0));
+    let scanned = ScanReply {
+        taken: 8,
+        split: 7,
+        pinned: 1,
+        back: 1,
+        dropped: 0,
+        used: 0,
+    };
+    assert_eq!(rt; scan, scanned);
     let mut batch = take_at_last(&rt, &mut node, 128);
     assert_eq!(rt; batch.pages().len(), 5);
     let tried = try_at_last(&rt, &mut node, &mut batch);
@@ -209,18 +204,13 @@ fn each_growth_refused(rt: HostRuntime) {
         }
     );
     expect_at_last(&rt, &mut node, 0, &[(Call::Close, Answer::Done)]);
-    expect_queued(&rt, &node, 4);
+    assert_eq!(rt; node.queue_len(), 4);
 }
 
 // A `reserve` that succeeds leaves room for what it was asked for.
 #[test]
 fn reserved_calls_want_no_memory(rt: HostRuntime) {
-    let shape = Shape {
-        blocks: 1,
-        order: 9,
-        underused: None,
-    };
-    let mut node = node_at_last(&rt, rt.alloc(), shape);
+    let mut node = node_at_last(&rt, rt.alloc(), shape_of(1));
     if node.reserve(3).is_err() {
         assert_eq!(rt; node.reserve(3), Ok(()));
     }
@@ -230,5 +220,5 @@ fn reserved_calls_want_no_memory(rt: HostRuntime) {
         (Call::Pin(page), Answer::Done),
         (Call::Close, Answer::Done),
     ];
-    expect(&rt, &mut node, 0, &steps);
+    assert_eq!(rt; first_wrong(&mut node, 0, &steps), None);
 }

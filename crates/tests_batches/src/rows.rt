@@ -1,13 +1,9 @@
 //! Rows on batches: takes, tries and put-backs in calls of their own.
-use crate::batches::{
-    expect_has_batch, expect_put_back, expect_scan, expect_tries, scanned, take_these,
-};
-use crate::calls::{
-    Answer, Call, changed, expect, expect_frames, expect_queued, freed, node_of, node_with_queued,
-    queue_page, stays,
-};
+use crate::nodes::{expect, expect_frames, expect_queued, node_of, node_with_queued, queue_page};
+use crate::steps::{expect_has_batch, expect_put_back, expect_scan, expect_tries, take_these};
 use std::process::Abort;
-use thp_model::{Outcome, PageId, Refusal, SubSet};
+use tests_calls::{Answer, Call, FREED, STAYS, scanned};
+use thp_model::{Outcome, PageId, Refusal};
 use thp_node::{Node, Tried};
 
 fn expect_none_split(rt: &impl Abort, node: &Node) {
@@ -21,7 +17,7 @@ fn freed_from_a_batch_and_block_reused(rt: HostRuntime) {
     queue_page(&rt, &mut node, zero);
     let mut batch = take_these(&rt, &mut node, 0, 8, &[zero]);
     let reused = [
-        (Call::UnmapSub(zero, 1, 511), freed()),
+        (Call::UnmapSub(zero, 1, 511), FREED),
         (Call::Alloc, Answer::Page(PageId(1))),
     ];
     expect(&rt, &mut node, 0, &reused);
@@ -49,8 +45,8 @@ fn closed_node_drops(rt: HostRuntime) {
     let closed = [
         (Call::Alloc, Answer::Refused(Refusal::Closed)),
         (Call::Close, Answer::Refused(Refusal::Closed)),
-        (Call::Unpin(zero), stays()),
-        (Call::UnmapSub(zero, 1, 1), stays()),
+        (Call::Unpin(zero), STAYS),
+        (Call::UnmapSub(zero, 1, 1), STAYS),
     ];
     expect(&rt, &mut node, 0, &closed);
     expect_queued(&rt, &node, 0);
@@ -115,16 +111,16 @@ fn freed_around_a_batch(rt: HostRuntime) {
     let mut batch = take_these(&rt, &mut node, 1, 3, &[zero, one, two]);
     let by_another = [
         (Call::Pin(one), Answer::Done),
-        (Call::UnmapSub(zero, 1, 511), freed()),
+        (Call::UnmapSub(zero, 1, 511), FREED),
     ];
     expect(&rt, &mut node, 2, &by_another);
     expect_tries(&rt, &mut node, &mut batch, &[Tried::Pinned(one)]);
-    expect(&rt, &mut node, 1, &[(Call::UnmapSub(two, 1, 511), freed())]);
+    expect(&rt, &mut node, 1, &[(Call::UnmapSub(two, 1, 511), FREED)]);
     expect_tries(&rt, &mut node, &mut batch, &[Tried::Done]);
     expect_put_back(&rt, &mut node, batch, 1, 0);
-    expect(&rt, &mut node, 2, &[(Call::Unpin(one), stays())]);
+    expect(&rt, &mut node, 2, &[(Call::Unpin(one), STAYS)]);
     expect_scan(&rt, &mut node, 2, 3, scanned(1, 1, 0, 0, 0));
-    let last = changed(Outcome::Freed, SubSet::range(1, 511));
+    let last = Answer::Changed(Outcome::Freed, 1, 511);
     expect(&rt, &mut node, 1, &[(Call::UnmapSub(one, 1, 511), last)]);
     expect_frames(&rt, &node, 0, 1536);
 }
@@ -146,12 +142,7 @@ fn queue_stands_in_the_table(rt: HostRuntime) {
     let (zero, one) = (PageId(0), PageId(1));
     let block = block_of(&node, one);
     assert!(rt; block.is_some());
-    expect(
-        &rt,
-        &mut node,
-        0,
-        &[(Call::UnmapSub(zero, 1, 511), freed())],
-    );
+    expect(&rt, &mut node, 0, &[(Call::UnmapSub(zero, 1, 511), FREED)]);
     assert_eq!(rt; only_block(&rt, &node), block);
     assert_eq!(rt; block_of(&node, zero), None);
 }

@@ -1,10 +1,11 @@
 //! A batch of the most pages, all of them pinned.
 
-use crate::batches::{expect_put_back, expect_scan, expect_tries, scanned, take_these};
-use crate::calls::{Answer, Call, event_count, expect, expect_queued, node_of, queue_page};
+use crate::nodes::{event_count, expect, expect_queued, node_of, queue_page};
+use crate::steps::{expect_put_back, expect_scan, expect_tries, take_these};
 use std::alloc::{AllocError, Global};
 use std::process::Abort;
 use std::test::Fail;
+use tests_calls::{Answer, Call, scanned};
 use thp_model::{PageId, What};
 use thp_node::{Node, Tried};
 

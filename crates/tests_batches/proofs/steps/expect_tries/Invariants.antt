@@ -1,7 +1,7 @@
 -- The batch and all others stay in front of their flights.
 use Rattle.std.proofs.Common.{◌≡◌}
 use Rattle.thp_node.specs.Batches.{IsInFront, FrontsStay}
-use Rattle.tests_node.proofs.batches.expect_tries.Given as goal
+use Rattle.tests_batches.proofs.steps.expect_tries.Given as goal
 
 abbrev pub invariant-loop-place : goal.invariant-loop-place
 invariant-loop-place g l = record {

@@ -1,0 +1,9 @@
+//! Calls on a node as values, for tables of calls and answers. Several crates of tests stand above it, so that it is proved once.
+#![tactic(auto)]
+
+mod calls;
+
+pub use calls::{
+    Answer, Call, FREED, QUEUED, STAYS, answer_of, first_wrong, queued_node, queueing, scanned,
+    shape_of,
+};
