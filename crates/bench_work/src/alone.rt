@@ -51,7 +51,7 @@ pub(crate) fn by_section<R: Clock + CpuClock + AllocGlobal>(rt: &R, rounds: u32)
     let mut passes = passes_of(alloc, &cell, pass)?;
     let commands = section(alloc, 1, 0, 0, rounds)?;
     let watch = Watch::start(rt)?;
-    let worked = work(alloc, &commands, 1, &mut passes, &NoGate)?;
+    let worked = work(alloc, &commands, 1, false, &mut passes, &NoGate)?;
     let done = worked.answers.len();
     watch.stop(rt, done as u64, commands.len().saturating_sub(done) as u64)
 }

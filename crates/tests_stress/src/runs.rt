@@ -60,7 +60,7 @@ impl<R: Clock> Gate for Turns<'_, R> {
 
 // The nodes, blocks and workers of a plan.
 pub(crate) fn settings_of(rt: &impl Abort, plan: &Plan) -> Settings {
-    let settings = Settings::new(8, plan.blocks, plan.workers, Report::Totals);
+    let settings = Settings::new(8, plan.blocks, plan.workers, Report::Answers);
     let settings = settings.expect(rt, "within the limits");
     let settings = settings.with_orders(ORDERS.as_slice()).expect(rt, "orders");
     settings

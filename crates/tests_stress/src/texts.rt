@@ -78,7 +78,10 @@ pub(crate) fn are_answers(
 }
 
 fn write_section(text: &mut String, nodes: &[Node], section: &Section) -> Result<(), AllocError> {
-    for (place, answer) in section.answers.iter().enumerate() {
+    let Some(answers) = section.answers.kept() else {
+        return Err(AllocError);
+    };
+    for (place, answer) in answers.iter().enumerate() {
         write!(text, "{} {} ", section.worker, place.wrapping_add(1))?;
         let looks = match nodes.get(answer.node as usize) {
             Some(node) => node.shape().shrinks_underused(),

@@ -158,7 +158,7 @@ pub(crate) fn explain_section(
             })
             .ok()?;
     }
-    explain_answers(alloc, commands, section.answers.as_slice(), &mut walks)?;
+    explain_answers(alloc, commands, section.answers.kept()?, &mut walks)?;
     for walk in walks {
         walk.end()?;
     }

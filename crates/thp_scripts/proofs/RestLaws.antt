@@ -1,10 +1,10 @@
 -- What is left of the workers' sections, done one after another.
-use Rattle.std.proofs.Common.{◌≡◌, ◌∙◌, ◌++◌, ◌+◌, ◌<◌, ◌≤◌, ap, ℕ, zero, suc, List, [], ◌∷◌, length, get_or, map, refl, sym, subst, arith, length-append, append_assoc, Option, Some}
+use Rattle.std.proofs.Common.{◌≡◌, ◌∙◌, ◌++◌, ◌+◌, ◌<◌, ◌≤◌, ap, ℕ, Bool, zero, suc, List, [], ◌∷◌, length, get_or, map, refl, sym, subst, arith, length-append, append_assoc, Option, Some}
 use Rattle.std.specs.Prelude.{All, Vec, slice_get}
 use Rattle.std.specs.declared.alloc.Global.{Global}
 use Rattle.std.proofs.lemmas.List.{append-nil, length-map}
 use Rattle.std.proofs.lemmas.Option.{slice_get_read}
-use Rattle.std.proofs.lemmas.List.Elements.{All-nil, All-push}
+use Rattle.std.proofs.lemmas.List.Elements.{All-cons, All-head, All-nil, All-push, All-tail}
 use Rattle.thp_model.specs.Legal.{IsLegal}
 use Rattle.thp_text.specs.declared.script.Command.{Command}
 use Rattle.thp_text.specs.declared.script.Script.{Script}
@@ -13,10 +13,10 @@ use Rattle.thp_work.specs.declared.reply.Worked.{Worked}
 use Rattle.thp_work.specs.Fronts.{Fronts, Goes, HasAll, HasCaller, SameHolding}
 use Rattle.thp_work.specs.Halves.{AllWork, CanRun, KnowsOf, Ran}
 use Rattle.thp_work.specs.Halves as halves
-use Rattle.thp_work.specs.Sections.{IsDoneFor, Works}
+use Rattle.thp_work.specs.Sections.{IsDoneFor, IsKept, Works}
 use Rattle.thp_work.proofs.HalvesLaws.{works_from, all_work_as}
 use Rattle.thp_work.proofs.StepLaws.{same_refl, same_trans, has_later}
-use Rattle.thp_scripts.specs.Sections.{GoesFrom, IsFitScript, IsFitSection, IsNew, RunsTo, commands_in, numbered}
+use Rattle.thp_scripts.specs.Sections.{GoesFrom, IsFitScript, IsFitSection, IsNew, KeepsAnswers, RunsTo, commands_in, numbered}
 use Rattle.thp_scripts.proofs.RunLaws.{all_work-length, same_nodes}
 
 -- ---- callers that went on
@@ -212,3 +212,9 @@ module _ (f mid : Fronts) (script : Script) (vs : List (Vec Command Global)) (ne
 -- an element by its index
 pub at_index : (vs : List (Vec Command Global)) (v : Vec Command Global) (i n : ℕ) → i ≡ n → n < length vs → v ≡ get_or vs i v → slice_get vs n ≡ Some v
 at_index vs v i n e lt is = subst (λ k. slice_get vs k ≡ Some v) e (slice_get_read vs (length vs) i v refl (omega (arith, e, lt)) is)
+
+-- sections keep the answers that their workers' did
+pub kept_numbered : (keeps : Bool) (k : ℕ) (ws : List Worked) → All (IsKept keeps) ws → All (KeepsAnswers keeps) (numbered k ws)
+kept_numbered keeps k [] all = All-nil (KeepsAnswers keeps)
+kept_numbered keeps k (w ∷ ws) all =
+    All-cons (KeepsAnswers keeps) (record { worker = k; answers = w.answers }) (numbered (k + 1) ws) (All-head (IsKept keeps) w ws all) (kept_numbered keeps (k + 1) ws (All-tail (IsKept keeps) w ws all))

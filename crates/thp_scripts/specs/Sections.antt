@@ -1,5 +1,5 @@
 -- All sections of a script, done by the holder of all callers of the nodes.
-use Rattle.std.specs.Prelude.{◌≡◌, ℕ, ◌+◌, ◌<◌, ◌≤◌, ◌^◌, List, [], ◌∷◌, ◌++◌, All, None, length, map, Vec}
+use Rattle.std.specs.Prelude.{◌≡◌, ℕ, ◌+◌, ◌<◌, ◌≤◌, ◌^◌, Bool, List, [], ◌∷◌, ◌++◌, All, None, length, map, Vec}
 use Rattle.std.specs.declared.alloc.Global.{Global}
 use Rattle.thp_model.specs.History.{History}
 use Rattle.thp_model.specs.Legal.{IsLegal}
@@ -41,6 +41,10 @@ pub record GoesFrom (from : ℕ) (old new : Fronts) : Type 0 where
 -- the workers' commands as vectors
 abbrev pub commands_in : List (Vec Command Global) → List (List Command)
 commands_in workers = map (λ (v : Vec Command Global). v.items) workers
+
+-- the answers of the section are kept, or aren't
+abbrev pub KeepsAnswers : Bool → Section → Type 0
+KeepsAnswers keeps section = section.answers.keeps ≡ keeps
 
 -- what became of sections, by number
 abbrev pub numbered : ℕ → List Worked → List Section

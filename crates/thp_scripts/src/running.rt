@@ -4,7 +4,8 @@ ghost use Rattle.thp_cell.specs.Views.{PassState};
 ghost use Rattle.thp_text.specs.Scripts.{IsScriptFor};
 ghost use Rattle.thp_scripts.specs.NewNodes.{histories_of, shapes_of, AreNodesFor};
 ghost use Rattle.thp_scripts.specs.Runs.{IsRun};
-ghost use Rattle.thp_scripts.specs.Sections.{IsFitScript};
+ghost use Rattle.thp_text.specs.declared.settings.Report.TheVariants.{Answers};
+ghost use Rattle.thp_scripts.specs.Sections.{IsFitScript, KeepsAnswers};
 ghost use Rattle.thp_scripts.specs.Sharing.{cell_of, AreFew, IsFresh, RunsOn};
 
 use crate::nodes::new_nodes;
@@ -38,6 +39,7 @@ pub fn run_script<R: Threads + Sync, G: Gate + Sync>(
 ) -> Result<Ran, AllocError>
     requires { IsScriptFor settings.now script }
     ensures nodes { IfOk result (λ r. AreNodesFor settings.now r.nodes.items) }
+    ensures answers { settings.now.report ≡ Answers → IfOk result (λ r. All (KeepsAnswers true) r.sections.items) }
     ensures run { IfOk result (λ r. IsRun settings.now.nodes (shapes_of r.nodes.items) script (histories_of r.nodes.items) r.sections.items) }
 {
     if !are_few(&script) {
@@ -46,8 +48,7 @@ pub fn run_script<R: Threads + Sync, G: Gate + Sync>(
     let callers = settings.workers + 1;
     let nodes = new_nodes(alloc, settings)?;
     let (cells, passes) = share(alloc, nodes, callers)?;
-    // No other report tells an answer.
-    let keeps = matches!(settings.report, Report::Answers);
+    let keeps = tells_answers(settings.report);
     let (passes, sections) = run_on(
         rt,
         alloc,
@@ -78,12 +79,20 @@ fn run_on<R: Threads + Sync, G: Gate + Sync>(
     requires fresh { All (IsFresh callers) passes.items }
     requires few { length passes.items ≤ 8 }
     requires fits { IsFitScript (length passes.items) script }
-    ensures { IfOk result (λ r. RunsOn passes.items r.0.items script r.1.items) }
+    ensures runs { IfOk result (λ r. RunsOn passes.items r.0.items script r.1.items) }
+    ensures keeps { IfOk result (λ r. All (KeepsAnswers keeps) r.1.items) }
 {
     let nodes = open(alloc, cells, passes)?;
     let passes = NodePasses::new(nodes, callers, 0, callers);
     let (passes, sections) = run_sections(rt, alloc, passes, script, keeps, gate)?;
     Ok((close(alloc, passes)?, sections))
+}
+
+/// Whether a report tells answers; no other one does.
+fn tells_answers(report: Report) -> bool
+    ensures { report ≡ Answers → result ≡ true }
+{
+    matches!(report, Report::Answers)
 }
 
 /// Each section has fewer than 2^32 commands.

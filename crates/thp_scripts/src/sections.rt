@@ -1,9 +1,9 @@
 //! All sections of a script: `setup`, the workers side by side, and what they postponed.
-ghost use Rattle.std.specs.Prelude.{◌≡◌, ◌+◌, ◌≤◌, ◌∷◌, [], All, IfOk, length};
+ghost use Rattle.std.specs.Prelude.{◌≡◌, ◌+◌, ◌≤◌, ◌∷◌, [], All, Bool, IfOk, length};
 ghost use Rattle.thp_work.specs.Fronts.{Fronts, HasAll};
 ghost use Rattle.thp_work.specs.Halves.{AllWork, IsSection};
-ghost use Rattle.thp_work.specs.Sections.{IsDoneFor};
-ghost use Rattle.thp_scripts.specs.Sections.{commands_in, numbered, GoesFrom, IsFitScript, IsNew, RunsTo};
+ghost use Rattle.thp_work.specs.Sections.{IsDoneFor, IsKept};
+ghost use Rattle.thp_scripts.specs.Sections.{commands_in, numbered, GoesFrom, IsFitScript, IsNew, KeepsAnswers, RunsTo};
 
 use std::alloc::{AllocError, Global};
 use std::thread::Threads;
@@ -22,7 +22,8 @@ pub(crate) fn run_sections<R: Threads + Sync, P: Passes + Send + Drop, G: Gate +
 ) -> Result<(P, Vec<Section>), AllocError>
     requires new { IsNew (length script.workers) (P.fronts passes) }
     requires fits { IsFitScript (P.fronts passes).nodes script }
-    ensures { IfOk result (λ r. RunsTo (P.fronts passes) (P.fronts r.0) script r.1.items) }
+    ensures runs { IfOk result (λ r. RunsTo (P.fronts passes) (P.fronts r.0) script r.1.items) }
+    ensures keeps { IfOk result (λ r. All (KeepsAnswers keeps) r.1.items) }
 {
     let Script { setup, workers } = script;
     let mut passes = passes;
@@ -64,6 +65,7 @@ fn do_rest<P: Steps>(
     ensures goes { IfOk result (λ _. GoesFrom 1 (P.fronts passes.old) (P.fronts passes.new)) }
     ensures work { (old : Fronts) → AllWork 1 old (P.fronts passes.old) workers.now worked.items → IfOk result (λ r. AllWork 1 old (P.fronts passes.new) workers.now r.items) }
     ensures done { IfOk result (λ r. All IsDoneFor r.items) }
+    ensures keeps { (keeps : Bool) → All (IsKept keeps) worked.items → IfOk result (λ r. All (IsKept keeps) r.items) }
 {
     let mut done = Vec::new(alloc);
     for worked in worked {

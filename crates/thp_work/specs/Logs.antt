@@ -5,9 +5,10 @@ use Rattle.thp_work.specs.declared.reply.Answer.{Answer}
 use Rattle.thp_work.specs.declared.answer_log.Told.{Told}
 use Rattle.thp_work.specs.declared.answer_log.Told.TheVariants.{Nothing, After'}
 
--- the answers so far, in order, and for how many there is room
+-- the answers so far, in order, whether they are kept, and for how many there is room
 pub record LogState : Type 0 where
   pub items : List Answer
+  pub keeps : Bool
   pub room : ℕ
 
 -- the answers, by what the log was told

@@ -1,5 +1,5 @@
 //! The answers of a section, kept or only counted.
-ghost use Rattle.std.specs.Prelude.{◌≡◌, ◌<◌, ◌≤◌, ◌+◌, ◌++◌, ◌∷◌, [], true, length, vec_len, vec_capacity, IfOk, IfSome};
+ghost use Rattle.std.specs.Prelude.{◌≡◌, ◌<◌, ◌≤◌, ◌+◌, ◌++◌, ◌∷◌, [], true, false, length, vec_len, vec_capacity, IfOk, MatchOption};
 
 use crate::reply::Answer;
 use std::alloc::{AllocError, Global};
@@ -31,7 +31,7 @@ impl Model for AnswerLog {
 
     ghost Value = { LogState };
 
-    ghost view = { λ l. record { items = told_items l.told.value; room = l.room } };
+    ghost view = { λ l. record { items = told_items l.told.value; keeps = l.keeps; room = l.room } };
 
     ghost invariant = { λ l. IsLog l.keeps l.kept l.count l.room l.told.value };
 }
@@ -40,6 +40,7 @@ impl AnswerLog {
     /// A log without answers, with room for so many.
     pub fn new(alloc: Global, room: usize, keeps: bool) -> Result<AnswerLog, AllocError>
         ensures items { IfOk result (λ log. log.items ≡ []) }
+        ensures keeps { IfOk result (λ log. log.keeps ≡ keeps) }
         ensures room { IfOk result (λ log. log.room ≡ room) }
     {
         let kept = Vec::with_capacity(alloc, if keeps { room } else { 0 })?;
@@ -57,6 +58,7 @@ impl AnswerLog {
         requires { length self.old.items < self.old.room }
         ensures items { self.new.items ≡ self.old.items ++ answer ∷ [] }
         ensures count { length self.new.items ≡ length self.old.items + 1 }
+        ensures keeps { self.new.keeps ≡ self.old.keeps }
         ensures room { self.new.room ≡ self.old.room }
     {
         let last = Snapshot::of(&answer);
@@ -76,7 +78,7 @@ impl AnswerLog {
 
     /// The answers, where the log keeps them.
     pub fn kept(&self) -> Option<&[Answer]>
-        ensures { IfSome result (λ answers. answers.now ≡ self.now.items) }
+        ensures { MatchOption result (self.now.keeps ≡ false) (λ answers. (self.now.keeps ≡ true) × (answers.now ≡ self.now.items)) }
     {
         if self.keeps {
             Some(self.kept.as_slice())

@@ -1,7 +1,8 @@
 //! Workers on the passes of real nodes, each on a thread of its own.
-ghost use Rattle.std.specs.Prelude.{IfOk};
+ghost use Rattle.std.specs.Prelude.{All, IfOk};
 ghost use Rattle.thp_work.specs.Halves.{CanRun, Ran};
 ghost use Rattle.thp_work.specs.Passes.{fronts_in};
+ghost use Rattle.thp_work.specs.Sections.{IsKept};
 
 use crate::gate::Gate;
 use crate::halves::run_range;
@@ -23,7 +24,8 @@ pub fn run_workers<'a, R: Threads + Sync, G: Gate + Sync>(
     gate: &G,
 ) -> Result<(NodePasses<'a>, Vec<Worked>), AllocError>
     requires { CanRun (fronts_in passes) first workers.now }
-    ensures { IfOk result (λ r. Ran first (fronts_in passes.entry) (fronts_in r.0) workers.now r.1.items) }
+    ensures ran { IfOk result (λ r. Ran first (fronts_in passes.entry) (fronts_in r.0) workers.now r.1.items) }
+    ensures keeps { IfOk result (λ r. All (IsKept keeps) r.1.items) }
 {
     run_range(rt, alloc, passes, first, workers, keeps, gate)
 }

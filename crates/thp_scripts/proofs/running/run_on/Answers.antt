@@ -24,13 +24,13 @@ run_sections-requires-clause-fits g c κs within =
     subst (λ (q : Passes). IsFitScript (length q.held) c.args.script) (sym c.new-passes.ensures)
     (subst (λ k. IsFitScript k c.args.script) (pairs_length IsUnused c.args.passes.items c.in_ok-nodes.nodes.items c.in_ok-nodes.ensures) c.requires.fits)
 
-pub returns : goal.returns
-returns g c =
+pub returns-clause-runs : goal.returns-clause-runs
+returns-clause-runs g c =
     let held = c.in_ok-nodes.nodes.items in
     let q = c.in_ok-passes.passes in
     let callers = c.args.callers in
     let first : Passes = record { callers = callers; first = 0; end = callers; held = held } in
     let runs : RunsTo (fronts_in first) (fronts_in q) c.args.script c.in_ok-passes.sections.items =
-    subst (λ (p : Passes). RunsTo (fronts_in p) (fronts_in q) c.args.script c.in_ok-passes.sections.items) c.new-passes.ensures c.in_ok-passes.ensures in
+    subst (λ (p : Passes). RunsTo (fronts_in p) (fronts_in q) c.args.script c.in_ok-passes.sections.items) c.new-passes.ensures c.in_ok-passes.ensures.runs in
     rw c.in_ok-close.ensures.passes
     (runs_on callers c.args.passes.items held q c.args.script c.in_ok-passes.sections.items c.in_ok-nodes.ensures c.requires.fresh c.requires.callers c.in_ok-close.ensures.agree runs)

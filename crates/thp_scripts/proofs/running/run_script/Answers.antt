@@ -1,4 +1,6 @@
-use Rattle.std.proofs.Common.{◌≡◌, ◌∙◌, ◌+◌, ◌≤◌, arith, length, rules, sym}
+use Rattle.std.proofs.Common.{◌≡◌, ◌∙◌, ◌+◌, ◌≤◌, arith, length, rules, subst, sym}
+use Rattle.std.specs.Prelude.{All}
+use Rattle.thp_scripts.specs.Sections.{KeepsAnswers}
 use Rattle.thp_scripts.specs.Sharing.{AreFew, IsRoot}
 use Rattle.thp_scripts.proofs.NodeLaws.{pairs_length}
 use Rattle.thp_scripts.proofs.SharingLaws.{is_run, nodes_asked, roots_fresh, script_fits}
@@ -23,10 +25,13 @@ pub returns-clause-nodes : goal.returns-clause-nodes
 returns-clause-nodes g c =
     let s = c.args.settings.now in
     nodes_asked s c.args.script (s.workers + 1) c.in_ok-nodes.nodes.items c.in_ok-cells.passes.items c.in_ok-passes.passes.items c.in_ok-nodes-2.nodes.items c.in_ok-passes.sections.items
-    c.in_ok-nodes.ensures.shapes c.in_ok-cells.ensures.roots c.in_ok-passes.ensures c.in_ok-nodes-2.ensures
+    c.in_ok-nodes.ensures.shapes c.in_ok-cells.ensures.roots c.in_ok-passes.ensures.runs c.in_ok-nodes-2.ensures
 
 pub returns-clause-run : goal.returns-clause-run
 returns-clause-run g c =
     let s = c.args.settings.now in
     is_run s c.args.script (s.workers + 1) c.in_ok-nodes.nodes.items c.in_ok-cells.passes.items c.in_ok-passes.passes.items c.in_ok-nodes-2.nodes.items c.in_ok-passes.sections.items
-    c.in_ok-nodes.ensures.shapes c.in_ok-cells.ensures.roots c.in_ok-passes.ensures c.in_ok-nodes-2.ensures
+    c.in_ok-nodes.ensures.shapes c.in_ok-cells.ensures.roots c.in_ok-passes.ensures.runs c.in_ok-nodes-2.ensures
+
+pub returns-clause-answers : goal.returns-clause-answers
+returns-clause-answers g c = λ is. subst (λ b. All (KeepsAnswers b) c.in_ok-passes.sections.items) (c.tells_answers-keeps.ensures is) c.in_ok-passes.ensures.keeps

@@ -64,6 +64,7 @@ loop-index-preserved g c =
           (subst (λ (k : ℕ). Begins c.args.worker old new commands (answers ++ record { command = k; node = command.node; reply = c.in-Ended.reply } ∷ []) first_begun) len
           (begins_more c.args.worker old mid new commands answers c.loop-index.begun command at (inv.begins old b) c.do_command.ensures.goes c.in-Ended.reply p));
       count = omega (arith, c.push.ensures.count, inv.count);
+      keeps = c.push.ensures.keeps ∙ inv.keeps;
       room = omega (arith, c.push.ensures.room, inv.room);
     }
 
