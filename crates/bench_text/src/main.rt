@@ -79,12 +79,12 @@ fn time_journal<R: CpuClock + Eprint + AllocGlobal>(
     eprintln!(rt;
         "{what}: {lines} events, {bytes} bytes: written {each} ps a byte, copied {least} ps a byte"
     )?;
-    time_check(rt, what, &text)?;
+    time_check(rt, &text)?;
     Ok(())
 }
 
 // Reads a journal's text, and then reads and checks it, and prints the times of both.
-fn time_check<R: CpuClock + Eprint + AllocGlobal>(rt: &R, what: &str, text: &[u8]) -> Result<()> {
+fn time_check<R: CpuClock + Eprint + AllocGlobal>(rt: &R, text: &[u8]) -> Result<()> {
     let start = rt.thread_cpu_time()?;
     let journals = read_journal(rt.alloc(), text);
     let read = rt.thread_cpu_time()?.saturating_sub(start);
