@@ -23,8 +23,8 @@ use Rattle.thp_scripts.specs.NewNodes.{AreNodesFor, histories_of, journal_in, sh
 use Rattle.thp_scripts.specs.NewNodes as nodes
 use Rattle.thp_scripts.specs.Runs.{IsRun}
 use Rattle.thp_sole.specs.OneRun.{IsSameRun, IsSameSection}
-use Rattle.thp_sole.proofs.OneWorker.{one_run, some_at}
-use Rattle.thp_run_laws.specs.OneReport.{OneWorkerHasOneReport, OneWorkerWritesOneText}
+use Rattle.thp_sole.proofs.WorkersApart.{one_run, some_at}
+use Rattle.thp_run_laws.specs.OneReport.{WorkersApartHaveOneReport, WorkersApartWriteOneText}
 
 -- ---- nodes
 
@@ -93,17 +93,17 @@ same_report report.Answers js ks xs ys nodes sections = ap (λ shapes. answers_t
 one_script : (script other : Script) (s : Settings) (input : List ℕ) → script_of s input ≡ Ok script → script_of s input ≡ Ok other → other ≡ script
 one_script script other s input e f = cc
 
--- a script in which one worker at most has commands has one report
-pub one_report : OneWorkerHasOneReport
-one_report s input text other sole r t =
+-- a script whose workers keep to nodes of their own has one report
+pub one_report : WorkersApartHaveOneReport
+one_report s input text other apart r t =
     let shapes : shapes_of t.nodes ≡ shapes_of r.nodes = λ i n. same_shape s t.nodes r.nodes t.nodes_are r.nodes_are n i in
     let theirs : IsRun s.nodes (shapes_of r.nodes) r.script (histories_of t.nodes) t.sections =
     subst (λ x. IsRun s.nodes (shapes_of r.nodes) x (histories_of t.nodes) t.sections) (one_script r.script t.script s input r.spelled t.spelled) (subst (λ f. IsRun s.nodes f t.script (histories_of t.nodes) t.sections) shapes t.is_run) in
-    let same : IsSameRun (histories_of r.nodes) (histories_of t.nodes) r.sections t.sections = one_run s.nodes (shapes_of r.nodes) r.script (histories_of r.nodes) (histories_of t.nodes) r.sections t.sections (sole r.script r.spelled) r.is_run theirs in
+    let same : IsSameRun (histories_of r.nodes) (histories_of t.nodes) r.sections t.sections = one_run s.nodes (shapes_of r.nodes) r.script (histories_of r.nodes) (histories_of t.nodes) r.sections t.sections (apart r.script r.spelled) r.is_run theirs in
     let count : length r.nodes ≡ length t.nodes = r.nodes_are.count ∙ sym t.nodes_are.count in
     let told = same_told r.nodes t.nodes count (same_shape s r.nodes t.nodes r.nodes_are t.nodes_are) same.histories in
     r.written ∙ same_report s.report (map told_of r.nodes) (map told_of t.nodes) r.sections t.sections told same.answers ∙ sym t.written
 
 -- and is written as one text
-pub one_writing : OneWorkerWritesOneText
-one_writing s input old new other sole a b = a.0.2 ∙ ap (λ text. old ++ text) (one_report s input a.0.0 b.0.0 sole a.0.1 b.0.1) ∙ sym b.0.2
+pub one_writing : WorkersApartWriteOneText
+one_writing s input old new other apart a b = a.0.2 ∙ ap (λ text. old ++ text) (one_report s input a.0.0 b.0.0 apart a.0.1 b.0.1) ∙ sym b.0.2

@@ -10,8 +10,8 @@ use Rattle.thp_text.specs.declared.settings.Settings.{Settings}
 use Rattle.thp_text.specs.Readings.{◌>>=◌}
 use Rattle.thp_text.specs.Scripts.{Fault, Placed, commands_from, commands_in, script_of, script_with}
 use Rattle.thp_text.specs.Words.{lines_of}
-use Rattle.thp_sole.proofs.OneWorker.{place_of}
-use Rattle.thp_run_laws.specs.OneReport.{OneWorkerIsSpelled}
+use Rattle.thp_sole.proofs.WorkersApart.{one_is_apart, place_of}
+use Rattle.thp_run_laws.specs.OneReport.{OneSettingIsApart, OneWorkerIsApart}
 
 -- a section for each worker of the settings
 workers_with : (workers : ℕ) (placed : List Placed) → length (script_with workers placed).workers ≡ workers
@@ -29,12 +29,16 @@ as_many v s input script e = go (nat_lt 16777216 (length input)) (commands_from 
       let same : script_with s.workers placed ≡ script = cc in
       ap (λ (x : Script). length x.workers) (sym same) ∙ workers_with s.workers placed
 
+-- one worker keeps to nodes of its own
+pub one_is_spelled : OneWorkerIsApart
+one_is_spelled s input sole script spelled = one_is_apart script (sole script spelled)
+
 -- no worker but the first has commands where there is no other
-pub one_spelled : OneWorkerIsSpelled
-one_spelled s input few script spelled = (
+pub setting_is_apart : OneSettingIsApart
+setting_is_apart s input few = one_is_spelled s input (λ script spelled. (
   0,
   λ k commands at other.
-      let many = as_many _ s input script spelled in
+      let many = as_many Whole s input script spelled in
       let place = place_of script.workers k commands at in
       absurd (other (omega (arith, many, place, few))),
-)
+))

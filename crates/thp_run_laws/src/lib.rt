@@ -3,4 +3,4 @@
 
 mod laws;
 
-pub use laws::one_worker_has_one_report;
+pub use laws::{one_worker_has_one_report, workers_apart_have_one_report};

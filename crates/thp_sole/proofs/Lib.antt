@@ -5,4 +5,4 @@ pub mod Walks
 pub mod SideBySide
 pub mod SameTurns
 pub mod SameSections
-pub mod OneWorker
+pub mod WorkersApart

@@ -1,7 +1,8 @@
 -- A caller's section in two runs, side by side: where the nodes were the same before it, the same is done and answered.
-use Rattle.std.proofs.Common.{◌≡◌, ◌+◌, ℕ, suc, false, List, [], ◌∷◌, ◌++◌, map, take, length, Option, refl, ap, sym, subst, ◌∙◌, arith}
+use Rattle.std.proofs.Common.{◌≡◌, ◌+◌, ℕ, suc, Bool, true, false, cond, nat_eq, List, [], ◌∷◌, ◌++◌, map, take, length, Option, refl, ap, sym, subst, ◌∙◌, arith}
 use Rattle.std.specs.Prelude.{All, AllPairs, filter}
 use Rattle.std.specs.List.{AllByRecursion, range_with_len}
+use Rattle.std.proofs.lemmas.Bool.{eqb-true, ne_eqb}
 use Rattle.std.proofs.lemmas.Grind.{flat_map-append}
 use Rattle.std.proofs.lemmas.List.{append-nil}
 use Rattle.std.proofs.lemmas.List.Elements.{recursion_from_All}
@@ -12,11 +13,11 @@ use Rattle.thp_model.specs.Legal.{IsLegal}
 use Rattle.thp_text.specs.declared.script.Command.{Command}
 use Rattle.thp_work.specs.declared.reply.Answer.{Answer}
 use Rattle.thp_work.specs.Does.{Open}
-use Rattle.thp_work.specs.Sections.{ComesBefore, IsMade, IsTurn, Made, Turn, answers_from, batches_after, closing, command_of, own_events, put_back_on, steps_of}
+use Rattle.thp_work.specs.Sections.{ComesBefore, IsMade, IsTurn, Made, Turn, answers_from, batches_after, closing, command_of, is_open, own_events, put_back_on, steps_of, with_batch}
 use Rattle.thp_scripts.specs.Runs.{IsSection, no_batches}
 use Rattle.thp_sole.proofs.SameTurns.{turns_twice}
 use Rattle.thp_sole.proofs.SideBySide.{Pair}
-use Rattle.thp_sole.proofs.Walks.{IsAbove, IsWithin, Ordered, Walk}
+use Rattle.thp_sole.proofs.Walks.{IsAbove, IsWithin, Ordered, Walk, own_else}
 
 -- each step comes before those behind it
 ordered : (ms : List Made) → AllPairs ComesBefore ms → Ordered ms
@@ -101,38 +102,58 @@ module _ (nodes : ℕ) (shape : ℕ → Shape) (h k : ℕ → History) (c : ℕ)
   pub same_nodes : (n : ℕ) → SameButBlocks (take (limit n) (h n)) (take (bound n) (k n))
   same_nodes n = same_end shape h k c limit bound _ _ closed n
 
--- ---- a section without commands
+-- ---- on which nodes a section acts
 
--- no command, no turn
-no_turn : (ts : List Turn) → map command_of ts ≡ [] → ts ≡ []
-no_turn [] e = refl
-no_turn (t ∷ ts) e = absurd cc
+module _ (P : ℕ → Type 0) where
+  -- such steps, and more of them
+  among_append : (ms ks : List Made) → AllByRecursion (λ (m : Made). P m.node) ms → AllByRecursion (λ (m : Made). P m.node) ks → AllByRecursion (λ (m : Made). P m.node) (ms ++ ks)
+  among_append [] ks a b = b
+  among_append (m ∷ ms) ks a b = (a.0, among_append ms ks a.1 b)
 
--- nothing passes where nothing passes
-none_kept : (ns : List ℕ) → filter (λ (n : ℕ). false) ns ≡ []
-none_kept [] = refl
-none_kept (n ∷ ns) = none_kept ns
+  -- the steps of a turn on such a node
+  turn_among : (node : ℕ) (ms : List Made) → AllByRecursion (λ (m : Made). m.node ≡ node) ms → P node → AllByRecursion (λ (m : Made). P m.node) ms
+  turn_among node [] on p = tt
+  turn_among node (m ∷ ms) on p = (subst P (sym on.0) p, turn_among node ms on.1 p)
 
--- no open batch, no put-back
-nothing_closes : (nodes : ℕ) → closing nodes no_batches ≡ []
-nothing_closes nodes = ap (map put_back_on) (none_kept (range_with_len 0 nodes))
+  -- and of turns whose commands are on such nodes
+  turns_among : (ts : List Turn) → AllByRecursion IsTurn ts → AllByRecursion (λ (command : Command). P command.node) (map command_of ts) → AllByRecursion (λ (m : Made). P m.node) (steps_of ts)
+  turns_among [] each on = tt
+  turns_among (t ∷ ts) each on = among_append t.steps (steps_of ts) (turn_among t.command.node t.steps (recursion_from_All _ t.steps each.0.on_node) on.0) (turns_among ts each.1 on.1)
 
--- no batch is opened
-none_opened : (ts : List Turn) → ts ≡ [] → batches_after no_batches (steps_of ts) ≡ no_batches
-unfolding batches_after
-none_opened ts e = ap (λ us. batches_after no_batches (steps_of us)) e
+  -- a batch that such steps leave open is on such a node
+  open_among : (bs : ℕ → Option Open) (ms : List Made) → ((n : ℕ) → is_open (bs n) ≡ true → P n) → AllByRecursion (λ (m : Made). P m.node) ms → (n : ℕ) → is_open (batches_after bs ms n) ≡ true → P n
+  unfolding batches_after
+  open_among bs [] opens on n is = opens n is
+  open_among bs (m ∷ ms) opens on n is = open_among (with_batch bs m.node m.after) ms (λ i there. go i (nat_eq i m.node) refl there) on.1 n is where
+    go : (i : ℕ) (b : Bool) → nat_eq i m.node ≡ b → is_open (cond b m.after (bs i)) ≡ true → P i
+    go i true e there = subst P (sym (eqb-true i m.node e)) on.0
+    go i false e there = opens i there
 
-module _ (nodes : ℕ) (shape : ℕ → Shape) (history : ℕ → History) (c : ℕ) (answers : List Answer) (s : IsSection nodes shape history c [] answers) where
-  no_turns : s.turns ≡ []
-  no_turns = no_turn s.turns s.done
+  -- so are the put-backs of such batches
+  back_among : (bs : ℕ → Option Open) → ((n : ℕ) → is_open (bs n) ≡ true → P n) → (ns : List ℕ) → AllByRecursion (λ (command : Command). P command.node) (map put_back_on (filter (λ n. is_open (bs n)) ns))
+  back_among bs opens [] = tt
+  back_among bs opens (n ∷ ns) = go (is_open (bs n)) refl (back_among bs opens ns) where
+    go : (b : Bool) → is_open (bs n) ≡ b → AllByRecursion (λ (command : Command). P command.node) (map put_back_on (filter (λ i. is_open (bs i)) ns)) →
+        AllByRecursion (λ (command : Command). P command.node) (map put_back_on (cond b (n ∷ filter (λ i. is_open (bs i)) ns) (filter (λ i. is_open (bs i)) ns)))
+    go true e others = (opens n e, others)
+    go false e others = others
 
-  no_put_backs : s.closed ≡ []
-  no_put_backs = no_turn s.closed (s.closes ∙ ap (closing nodes) (none_opened s.turns no_turns) ∙ nothing_closes nodes)
+  -- no batch is open before a section
+  none_open : (n : ℕ) → is_open (no_batches n) ≡ true → P n
+  none_open n is = absurd cc
 
-  -- nothing is answered
-  pub no_answers : answers ≡ []
-  no_answers = s.answered ∙ ap (answers_from 0) no_turns
+  -- a section whose commands are on such nodes makes no step on others
+  pub section_among : (nodes : ℕ) (shape : ℕ → Shape) (history : ℕ → History) (c : ℕ) (commands : List Command) (answers : List Answer) (s : IsSection nodes shape history c commands answers) →
+      AllByRecursion (λ (command : Command). P command.node) commands → AllByRecursion (λ (m : Made). P m.node) (steps_of (s.turns ++ s.closed))
+  section_among nodes shape history c commands answers s on =
+      let each : AllByRecursion IsTurn (s.turns ++ s.closed) = recursion_from_All IsTurn (s.turns ++ s.closed) s.each in
+      let first : AllByRecursion (λ (m : Made). P m.node) (steps_of s.turns) = turns_among s.turns (all_front IsTurn s.turns s.closed each) (subst (AllByRecursion (λ (command : Command). P command.node)) (sym s.done) on) in
+      let back : AllByRecursion (λ (command : Command). P command.node) (map command_of s.closed) =
+      subst (AllByRecursion (λ (command : Command). P command.node)) (sym s.closes)
+      (back_among (batches_after no_batches (steps_of s.turns)) (open_among no_batches (steps_of s.turns) none_open first) (range_with_len 0 nodes)) in
+      subst (AllByRecursion (λ (m : Made). P m.node)) (sym (steps_of-append s.turns s.closed)) (among_append (steps_of s.turns) (steps_of s.closed) first (turns_among s.closed (all_rest IsTurn s.turns s.closed each) back))
 
-  -- and nothing is done
-  pub no_events : (n : ℕ) → events_of c (history n) ≡ []
-  no_events n = s.whole n ∙ ap (λ ts. own_events n (steps_of (ts ++ s.closed))) no_turns ∙ ap (λ ts. own_events n (steps_of ts)) no_put_backs
+  -- steps on such nodes have no events on another
+  pub none_elsewhere : (n : ℕ) (ms : List Made) → AllByRecursion (λ (m : Made). P m.node) ms → (P n → ⊥) → own_events n ms ≡ []
+  none_elsewhere n [] on no_such = refl
+  none_elsewhere n (m ∷ ms) on no_such = own_else n m ms (ne_eqb m.node n (λ same. no_such (subst P same on.0))) ∙ none_elsewhere n ms on.1 no_such

@@ -56,7 +56,7 @@ own_here : (n : ℕ) (m : Made) (ms : List Made) → nat_eq m.node n ≡ true �
 own_here n m ms e = ap (λ b. flat_map (λ (x : Made). x.own) (cond b (m ∷ filter (λ (x : Made). nat_eq x.node n) ms) (filter (λ (x : Made). nat_eq x.node n) ms))) e
 
 -- and on others
-own_else : (n : ℕ) (m : Made) (ms : List Made) → nat_eq m.node n ≡ false → own_events n (m ∷ ms) ≡ own_events n ms
+pub own_else : (n : ℕ) (m : Made) (ms : List Made) → nat_eq m.node n ≡ false → own_events n (m ∷ ms) ≡ own_events n ms
 own_else n m ms e = ap (λ b. flat_map (λ (x : Made). x.own) (cond b (m ∷ filter (λ (x : Made). nat_eq x.node n) ms) (filter (λ (x : Made). nat_eq x.node n) ms))) e
 
 -- on node n: not before `bound`, and not beyond `limit`

@@ -1,5 +1,5 @@
--- Runs of a script in which one worker at most has something to do: what happens and is answered follows from the script.
-use Rattle.std.specs.Prelude.{◌≡◌, ℕ, List, [], Some, slice_get}
+-- Runs of a script whose workers keep to nodes of their own: what happens and is answered follows from the script.
+use Rattle.std.specs.Prelude.{◌≡◌, ℕ, All, List, [], Some, slice_get}
 use Rattle.std.specs.List.{AllZip}
 use Rattle.thp_model.specs.declared.shape.Shape.{Shape}
 use Rattle.thp_model.specs.BlockLaws.{SameButBlocks}
@@ -8,6 +8,10 @@ use Rattle.thp_text.specs.declared.script.Command.{Command}
 use Rattle.thp_text.specs.declared.script.Script.{Script}
 use Rattle.thp_work.specs.declared.reply.Section.{Section}
 use Rattle.thp_scripts.specs.Runs.{IsRun}
+
+-- no two workers have commands on one node
+abbrev pub AreApart : Script → Type 0
+AreApart script = (owner : ℕ → ℕ) × ((k : ℕ) (commands : List Command) → slice_get script.workers k ≡ Some commands → All (λ (command : Command). owner command.node ≡ k) commands)
 
 -- no worker but one has commands
 abbrev pub HasOneWorker : Script → Type 0
@@ -23,7 +27,13 @@ pub record IsSameRun (history other : ℕ → History) (sections others : List S
   pub histories : (n : ℕ) → SameButBlocks (history n) (other n)
   pub answers : AllZip IsSameSection sections others
 
--- two runs of a script with one worker, on as many nodes of the same shapes
+-- two runs of a script whose workers are apart, on as many nodes of the same shapes
+abbrev pub WorkersApartHaveOneRun : Type 0
+WorkersApartHaveOneRun =
+    (nodes : ℕ) (shape : ℕ → Shape) (script : Script) (history other : ℕ → History) (sections others : List Section) → AreApart script →
+    IsRun nodes shape script history sections → IsRun nodes shape script other others → IsSameRun history other sections others
+
+-- and of a script with one worker
 abbrev pub OneWorkerHasOneRun : Type 0
 OneWorkerHasOneRun =
     (nodes : ℕ) (shape : ℕ → Shape) (script : Script) (history other : ℕ → History) (sections others : List Section) → HasOneWorker script →

@@ -3,4 +3,4 @@
 
 mod laws;
 
-pub use laws::{one_worker_has_one_run, steps_have_one_answer};
+pub use laws::{one_worker_has_one_run, steps_have_one_answer, workers_apart_have_one_run};

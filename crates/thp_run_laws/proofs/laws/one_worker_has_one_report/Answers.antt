@@ -1,12 +1,6 @@
-use Rattle.thp_run_laws.proofs.SameReports.{one_report, one_writing}
-use Rattle.thp_run_laws.proofs.SpelledWorkers.{one_spelled}
+use Rattle.thp_run_laws.proofs.SameReports.{one_report}
+use Rattle.thp_run_laws.proofs.SpelledWorkers.{setting_is_apart}
 use Rattle.thp_run_laws.proofs.laws.one_worker_has_one_report.Goals as goal
 
-pub returns-clause-spelled : goal.returns-clause-spelled
-returns-clause-spelled c = one_spelled
-
-pub returns-clause-report : goal.returns-clause-report
-returns-clause-report c = one_report
-
-pub returns-clause-written : goal.returns-clause-written
-returns-clause-written c = one_writing
+pub returns : goal.returns
+returns c = λ s input text other few. one_report s input text other (setting_is_apart s input few)

@@ -1,11 +1,11 @@
--- Two runs of a script in which one worker at most has commands are the same but for blocks.
-use Rattle.std.proofs.Common.{◌≡◌, ◌<◌, ◌≤◌, ◌+◌, ◌⊎◌, inl, inr, ℕ, zero, suc, Bool, true, false, cond, nat_eq, List, [], ◌∷◌, ◌++◌, take, length, Some, refl, ap, sym, subst, ◌∙◌, arith}
-use Rattle.std.specs.Prelude.{slice_get}
+-- Two runs of a script whose workers keep to nodes of their own are the same but for blocks.
+use Rattle.std.proofs.Common.{◌≡◌, ◌<◌, ◌≤◌, ◌+◌, ◌⊎◌, inl, inr, ℕ, zero, suc, Bool, true, false, cond, nat_eq, get_or, List, [], ◌∷◌, ◌++◌, take, length, Some, refl, ap, sym, subst, ◌∙◌, arith}
+use Rattle.std.specs.Prelude.{All, slice_get}
 use Rattle.std.specs.List.{AllByRecursion, AllZip}
 use Rattle.std.proofs.Math.Seq.{take-append_seam}
 use Rattle.std.proofs.lemmas.Bool.{cases_lt, eq-eqb, eqb-true, ne_eqb}
 use Rattle.std.proofs.lemmas.List.{take_all}
-use Rattle.std.proofs.lemmas.List.Elements.{recursion_from_All}
+use Rattle.std.proofs.lemmas.List.Elements.{All-from_recursion, All-nil, recursion_from_All}
 use Rattle.thp_model.specs.declared.events.Event.{Event}
 use Rattle.thp_model.specs.declared.shape.Shape.{Shape}
 use Rattle.thp_model.specs.BlockLaws.{SameButBlocks}
@@ -14,11 +14,12 @@ use Rattle.thp_text.specs.declared.script.Command.{Command}
 use Rattle.thp_text.specs.declared.script.Script.{Script}
 use Rattle.thp_work.specs.declared.reply.Answer.{Answer}
 use Rattle.thp_work.specs.declared.reply.Section.{Section}
-use Rattle.thp_work.specs.Sections.{steps_of}
+use Rattle.thp_work.specs.Sections.{Made, steps_of}
 use Rattle.thp_scripts.specs.Runs.{IsAnswered, IsRun, IsSection, no_batches, sections_of}
-use Rattle.thp_sole.specs.OneRun.{IsSameSection, OneWorkerHasOneRun}
-use Rattle.thp_sole.proofs.SameSections.{no_answers, no_events, same_answers, same_nodes, section_walk}
+use Rattle.thp_sole.specs.OneRun.{AreApart, HasOneWorker, IsSameSection, OneWorkerHasOneRun, WorkersApartHaveOneRun}
+use Rattle.thp_sole.proofs.SameSections.{none_elsewhere, same_answers, same_nodes, section_among, section_walk}
 use Rattle.thp_sole.proofs.SideBySide.{Pair}
+use Rattle.thp_sole.proofs.Walks.{IsWithin}
 
 -- there is an element at each place
 pub some_at : {A : Type 0} (xs : List A) (k : ℕ) → k < length xs → (x : A) × (slice_get xs k ≡ Some x)
@@ -87,18 +88,24 @@ module _ (nodes : ℕ) (shape : ℕ → Shape) (script : Script) (h : ℕ → Hi
   setup_front : (n : ℕ) → take (length (events_of 0 (h n))) (h n) ≡ events_of 0 (h n)
   setup_front n = ap (take (length (events_of 0 (h n)))) (r.setup_first n).1 ∙ take-append_seam (events_of 0 (h n)) (r.setup_first n).0
 
-  -- workers without commands do nothing, nor does anybody beyond the workers
-  idle : (sole : ℕ) → ((k : ℕ) (commands : List Command) → slice_get script.workers k ≡ Some commands → (k ≡ sole → ⊥) → commands ≡ []) →
-      (k : ℕ) → 0 < k → (k ≡ suc sole → ⊥) → (n : ℕ) → events_of k (h n) ≡ []
-  idle sole none zero positive other n = absurd (omega (arith, positive))
-  idle sole none (suc k) positive other n = go (cases_lt k (length script.workers)) where
+  -- on a node nobody but its owner does anything after setup
+  idle : (owner : ℕ → ℕ) → ((k : ℕ) (commands : List Command) → slice_get script.workers k ≡ Some commands → All (λ (command : Command). owner command.node ≡ k) commands) →
+      (n k : ℕ) → 0 < k → (k ≡ suc (owner n) → ⊥) → events_of k (h n) ≡ []
+  idle owner apart n zero positive other = absurd (omega (arith, positive))
+  idle owner apart n (suc k) positive other = go (cases_lt k (length script.workers)) where
     go : (k < length script.workers) ⊎ (length script.workers ≤ k) → events_of (suc k) (h n) ≡ []
     go (inl lt) =
         let there = some_at script.workers k lt in
-        let empty : there.0 ≡ [] = none k there.0 there.1 (λ same. other (ap suc same)) in
         let section = answered (suc k) there.0 there.1 in
-        no_events nodes shape h (suc k) section.0.answers.items (subst (λ commands. IsSection nodes shape h (suc k) commands section.0.answers.items) empty section.1.done) n
+        let done : IsSection nodes shape h (suc k) there.0 section.0.answers.items = section.1.done in
+        let on = section_among (λ i. owner i ≡ k) nodes shape h (suc k) there.0 section.0.answers.items done (recursion_from_All _ there.0 (apart k there.0 there.1)) in
+        done.whole n ∙ none_elsewhere (λ i. owner i ≡ k) n (steps_of (done.turns ++ done.closed)) on (λ same. other (ap suc (sym same)))
     go (inr le) = beyond (length script.workers) (suc k) (h n) (omega (arith, le)) (recursion_from_All _ (h n) (r.nobody_else n))
+
+  -- so all events of a node are those of setup and of its owner
+  sole : (owner : ℕ → ℕ) → ((k : ℕ) (commands : List Command) → slice_get script.workers k ≡ Some commands → All (λ (command : Command). owner command.node ≡ k) commands) →
+      (w n : ℕ) → owner n ≡ w → length (events_of 0 (h n)) + length (events_of (suc w) (h n)) ≡ length (h n)
+  sole owner apart w n own = sole_events (suc w) (h n) (omega arith) (λ k positive other. idle owner apart n k positive (λ same. other (same ∙ ap suc own)))
 
 -- ---- two runs
 
@@ -124,26 +131,50 @@ module _ (nodes : ℕ) (shape : ℕ → Shape) (script : Script) (h k : ℕ → 
       (setups ours.0.answers.items theirs.0.answers.items ours.1.done theirs.1.done) n in
       subst (λ x. SameButBlocks x (events_of 0 (k n))) (setup_front nodes shape script h sections r n) (subst (SameButBlocks (take (length (events_of 0 (h n))) (h n))) (setup_front nodes shape script k others t n) same)
 
-  module _ (c : ℕ) (some : 0 < c) (ours : (i : ℕ) → 0 < i → (i ≡ c → ⊥) → (n : ℕ) → events_of i (h n) ≡ []) (theirs : (i : ℕ) → 0 < i → (i ≡ c → ⊥) → (n : ℕ) → events_of i (k n) ≡ []) where
-    -- the sections of the one worker go side by side
-    workers : (commands : List Command) (xs ys : List Answer) (s : IsSection nodes shape h c commands xs) (u : IsSection nodes shape k c commands ys) →
-        Pair shape h k c (λ n. length (h n)) (λ n. length (k n)) no_batches no_batches (steps_of (s.turns ++ s.closed)) (steps_of (u.turns ++ u.closed))
-    workers commands xs ys s u = record {
+  module _ (owner : ℕ → ℕ) (apart : (i : ℕ) (commands : List Command) → slice_get script.workers i ≡ Some commands → All (λ (command : Command). owner command.node ≡ i) commands) (w : ℕ) (commands : List Command)
+      (at : slice_get script.workers w ≡ Some commands) (xs ys : List Answer) (s : IsSection nodes shape h (suc w) commands xs) (u : IsSection nodes shape k (suc w) commands ys) where
+    -- a section ends on its nodes with the whole history, and on others with setup
+    ours_within : All (IsWithin (λ n. length (events_of 0 (h n)) + length (events_of (suc w) (h n)))) (steps_of (s.turns ++ s.closed))
+    ours_within i d lt =
+        let on = All-from_recursion (λ (m : Made). owner m.node ≡ w) (steps_of (s.turns ++ s.closed)) (section_among (λ n. owner n ≡ w) nodes shape h (suc w) commands xs s (recursion_from_All _ commands (apart w commands at))) i d lt in
+        let made = s.stand i d lt in
+        let all = sole nodes shape script h sections r owner apart w (get_or (steps_of (s.turns ++ s.closed)) i d).node on in
+        omega (arith, made.within, all)
+
+    theirs_within : All (IsWithin (λ n. length (events_of 0 (k n)) + length (events_of (suc w) (k n)))) (steps_of (u.turns ++ u.closed))
+    theirs_within i d lt =
+        let on = All-from_recursion (λ (m : Made). owner m.node ≡ w) (steps_of (u.turns ++ u.closed)) (section_among (λ n. owner n ≡ w) nodes shape k (suc w) commands ys u (recursion_from_All _ commands (apart w commands at))) i d lt in
+        let made = u.stand i d lt in
+        let all = sole nodes shape script k others t owner apart w (get_or (steps_of (u.turns ++ u.closed)) i d).node on in
+        omega (arith, made.within, all)
+
+    -- the sections of a worker go side by side
+    workers : Pair shape h k (suc w) (λ n. length (events_of 0 (h n)) + length (events_of (suc w) (h n))) (λ n. length (events_of 0 (k n)) + length (events_of (suc w) (k n)))
+        no_batches no_batches (steps_of (s.turns ++ s.closed)) (steps_of (u.turns ++ u.closed))
+    workers = record {
       front = λ n. events_of 0 (h n);
       other = λ n. events_of 0 (k n);
-      ours = section_walk nodes shape h c commands xs s (λ n. length (h n)) (λ n. events_of 0 (h n)) r.legal (s.after_setup some) (λ i d lt. (s.stand i d lt).within)
-          (λ n. sole_events c (h n) some (λ i positive other. ours i positive other n)) (setup_front nodes shape script h sections r);
-      theirs = section_walk nodes shape k c commands ys u (λ n. length (k n)) (λ n. events_of 0 (k n)) t.legal (u.after_setup some) (λ i d lt. (u.stand i d lt).within)
-          (λ n. sole_events c (k n) some (λ i positive other. theirs i positive other n)) (setup_front nodes shape script k others t);
+      ours = section_walk nodes shape h (suc w) commands xs s (λ n. length (events_of 0 (h n)) + length (events_of (suc w) (h n))) (λ n. events_of 0 (h n)) r.legal (s.after_setup (omega arith)) ours_within
+          (λ n. refl) (setup_front nodes shape script h sections r);
+      theirs = section_walk nodes shape k (suc w) commands ys u (λ n. length (events_of 0 (k n)) + length (events_of (suc w) (k n))) (λ n. events_of 0 (k n)) t.legal (u.after_setup (omega arith)) theirs_within
+          (λ n. refl) (setup_front nodes shape script k others t);
       same = setup_alike;
       opens = λ n. refl;
     }
 
-    -- and so do whole histories
-    whole_alike : (commands : List Command) (xs ys : List Answer) → IsSection nodes shape h c commands xs → IsSection nodes shape k c commands ys → (n : ℕ) → SameButBlocks (h n) (k n)
-    whole_alike commands xs ys s u n =
-        let same = same_nodes nodes shape h k c (λ n. length (h n)) (λ n. length (k n)) commands xs ys s u (workers commands xs ys s u) n in
-        subst (λ x. SameButBlocks x (k n)) (take_all (length (h n)) (h n) (omega arith)) (subst (SameButBlocks (take (length (h n)) (h n))) (take_all (length (k n)) (k n) (omega arith)) same)
+    -- have the same answers
+    worker_answers : xs ≡ ys
+    worker_answers =
+        same_answers nodes shape h k (suc w) (λ n. length (events_of 0 (h n)) + length (events_of (suc w) (h n))) (λ n. length (events_of 0 (k n)) + length (events_of (suc w) (k n))) commands xs ys s u workers
+
+    -- and do the same on the worker's nodes
+    whole_alike : (n : ℕ) → owner n ≡ w → SameButBlocks (h n) (k n)
+    whole_alike n own =
+        let ours = sole nodes shape script h sections r owner apart w n own in
+        let theirs = sole nodes shape script k others t owner apart w n own in
+        let same = same_nodes nodes shape h k (suc w) (λ n. length (events_of 0 (h n)) + length (events_of (suc w) (h n))) (λ n. length (events_of 0 (k n)) + length (events_of (suc w) (k n))) commands xs ys s u workers n in
+        subst (λ x. SameButBlocks x (k n)) (take_all (length (events_of 0 (h n)) + length (events_of (suc w) (h n))) (h n) (omega (arith, ours)))
+        (subst (SameButBlocks (take (length (events_of 0 (h n)) + length (events_of (suc w) (h n))) (h n))) (take_all (length (events_of 0 (k n)) + length (events_of (suc w) (k n))) (k n) (omega (arith, theirs))) same)
 
 -- a history of setup alone
 setup_is_all : (h : History) → take (length (events_of 0 h)) h ≡ events_of 0 h → length (events_of 0 h) ≡ length h → events_of 0 h ≡ h
@@ -161,32 +192,26 @@ same_each (s ∷ scripts) (x ∷ xs) (y ∷ ys) e f each = (
   same_each scripts xs ys (omega (arith, e)) (omega (arith, f)) (λ k commands a b at here there. each (suc k) commands a b at here there),
 )
 
--- a script in which one worker at most has commands has one run
-pub one_run : OneWorkerHasOneRun
-one_run nodes shape script h k sections others (sole, none) r t = record {
-  histories = λ n. by_place (cases_lt sole (length script.workers)) n;
+-- a script whose workers keep to nodes of their own has one run
+pub one_run : WorkersApartHaveOneRun
+one_run nodes shape script h k sections others (owner, apart) r t = record {
+  histories = λ n. by_place n (cases_lt (owner n) (length script.workers));
   answers = same_each (sections_of script) sections others r.count t.count alike;
 } where
-  ours : (i : ℕ) → 0 < i → (i ≡ suc sole → ⊥) → (n : ℕ) → events_of i (h n) ≡ []
-  ours = idle nodes shape script h sections r sole none
-
-  theirs : (i : ℕ) → 0 < i → (i ≡ suc sole → ⊥) → (n : ℕ) → events_of i (k n) ≡ []
-  theirs = idle nodes shape script k others t sole none
-
-  by_place : (sole < length script.workers) ⊎ (length script.workers ≤ sole) → (n : ℕ) → SameButBlocks (h n) (k n)
-  by_place (inl lt) n =
-      let there = some_at script.workers sole lt in
-      let one = answered nodes shape script h sections r (suc sole) there.0 there.1 in
-      let other = answered nodes shape script k others t (suc sole) there.0 there.1 in
-      whole_alike nodes shape script h k sections others r t (suc sole) (omega arith) ours theirs there.0 one.0.answers.items other.0.answers.items one.1.done other.1.done n
-  by_place (inr le) n =
-      let here = full (h n) (sole_events (suc sole) (h n) (omega arith) (λ i positive other. ours i positive other n)) (beyond (length script.workers) (suc sole) (h n) (omega (arith, le)) (recursion_from_All _ (h n) (r.nobody_else n))) in
-      let there = full (k n) (sole_events (suc sole) (k n) (omega arith) (λ i positive other. theirs i positive other n)) (beyond (length script.workers) (suc sole) (k n) (omega (arith, le)) (recursion_from_All _ (k n) (t.nobody_else n))) in
+  by_place : (n : ℕ) → (owner n < length script.workers) ⊎ (length script.workers ≤ owner n) → SameButBlocks (h n) (k n)
+  by_place n (inl lt) =
+      let there = some_at script.workers (owner n) lt in
+      let one = answered nodes shape script h sections r (suc (owner n)) there.0 there.1 in
+      let other = answered nodes shape script k others t (suc (owner n)) there.0 there.1 in
+      whole_alike nodes shape script h k sections others r t owner apart (owner n) there.0 there.1 one.0.answers.items other.0.answers.items one.1.done other.1.done n refl
+  by_place n (inr le) =
+      let here = full (h n) (sole nodes shape script h sections r owner apart (owner n) n refl) (beyond (length script.workers) (suc (owner n)) (h n) (omega (arith, le)) (recursion_from_All _ (h n) (r.nobody_else n))) in
+      let there = full (k n) (sole nodes shape script k others t owner apart (owner n) n refl) (beyond (length script.workers) (suc (owner n)) (k n) (omega (arith, le)) (recursion_from_All _ (k n) (t.nobody_else n))) in
       subst (λ x. SameButBlocks x (k n)) (setup_is_all (h n) (setup_front nodes shape script h sections r n) here)
       (subst (SameButBlocks (events_of 0 (h n))) (setup_is_all (k n) (setup_front nodes shape script k others t n) there) (setup_alike nodes shape script h k sections others r t n))
     where
-      full : (h : History) → length (events_of 0 h) + length (events_of (suc sole) h) ≡ length h → events_of (suc sole) h ≡ [] → length (events_of 0 h) ≡ length h
-      full h both nothing = let empty : length (events_of (suc sole) h) ≡ 0 = ap length nothing in omega (arith, both, empty)
+      full : (h : History) → length (events_of 0 h) + length (events_of (suc (owner n)) h) ≡ length h → events_of (suc (owner n)) h ≡ [] → length (events_of 0 h) ≡ length h
+      full h both nothing = let empty : length (events_of (suc (owner n)) h) ≡ 0 = ap length nothing in omega (arith, both, empty)
 
   alike : (i : ℕ) (commands : List Command) (x y : Section) → slice_get (sections_of script) i ≡ Some commands → slice_get sections i ≡ Some x → slice_get others i ≡ Some y → IsSameSection x y
   alike i commands x y at here there =
@@ -201,14 +226,17 @@ one_run nodes shape script h k sections others (sole, none) r t = record {
           let other : IsSection nodes shape k 0 script.setup y.answers.items = subst (λ cs. IsSection nodes shape k 0 cs y.answers.items) same u in
           same_answers nodes shape h k 0 (λ n. length (events_of 0 (h n))) (λ n. length (events_of 0 (k n))) script.setup x.answers.items y.answers.items one other
           (setups nodes shape script h k sections others r t x.answers.items y.answers.items one other)
-      by_section (suc i) commands x y at s u = go (nat_eq i sole) refl where
-        go : (b : Bool) → nat_eq i sole ≡ b → x.answers.items ≡ y.answers.items
-        go true e =
-            let here : suc sole ≡ suc i = ap suc (sym (eqb-true i sole e)) in
-            same_answers nodes shape h k (suc i) (λ n. length (h n)) (λ n. length (k n)) commands x.answers.items y.answers.items s u
-            (workers nodes shape script h k sections others r t (suc i) (omega arith) (λ j positive other. ours j positive (λ same. other (same ∙ here))) (λ j positive other. theirs j positive (λ same. other (same ∙ here)))
-            commands x.answers.items y.answers.items s u)
-        go false e =
-            let empty : commands ≡ [] = none i commands at (λ same. let yes = eq-eqb i sole same in absurd cc) in
-            no_answers nodes shape h (suc i) x.answers.items (subst (λ cs. IsSection nodes shape h (suc i) cs x.answers.items) empty s)
-            ∙ sym (no_answers nodes shape k (suc i) y.answers.items (subst (λ cs. IsSection nodes shape k (suc i) cs y.answers.items) empty u))
+      by_section (suc i) commands x y at s u = worker_answers nodes shape script h k sections others r t owner apart i commands at x.answers.items y.answers.items s u
+
+-- one worker keeps to nodes of its own
+pub one_is_apart : (script : Script) → HasOneWorker script → AreApart script
+one_is_apart script (sole, none) = (λ n. sole, λ k commands at. go k commands at (nat_eq k sole) refl) where
+  go : (k : ℕ) (commands : List Command) → slice_get script.workers k ≡ Some commands → (b : Bool) → nat_eq k sole ≡ b → All (λ (command : Command). sole ≡ k) commands
+  go k commands at true e = λ i d lt. sym (eqb-true k sole e)
+  go k commands at false e =
+      let empty : commands ≡ [] = none k commands at (λ same. let yes = eq-eqb k sole same in absurd cc) in
+      subst (All (λ (command : Command). sole ≡ k)) (sym empty) (All-nil (λ (command : Command). sole ≡ k))
+
+-- so a script in which one worker at most has commands has one run
+pub one_worker : OneWorkerHasOneRun
+one_worker nodes shape script h k sections others sole = one_run nodes shape script h k sections others (one_is_apart script sole)
