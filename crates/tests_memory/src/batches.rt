@@ -1,5 +1,4 @@
 //! Takes, tries and put-backs of a batch, where the journal has so many events.
-ghost use Rattle.std.specs.Prelude.{◌<◌};
 ghost use Rattle.thp_node.specs.Batches.{IsInFront};
 
 use crate::nodes::{MOST, expect_unchanged, node_after, view_of};

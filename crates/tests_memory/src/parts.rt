@@ -1,6 +1,4 @@
 //! The calls that runs and checks are made of, each at the second try at the latest.
-ghost use Rattle.std.specs.Prelude.{◌≡◌};
-
 use crate::devices::tell;
 use crate::runs::{JOURNAL, SCRIPT};
 use std::alloc::Global;
