@@ -1,14 +1,13 @@
 #!/usr/bin/env python3
 """Writes a large script for thpsplit to standard output.
 
-usage: generate.py KIND BLOCKS BYTES [WORKERS NODES]
+usage: generate.py KIND BLOCKS BYTES
 
 KIND   churn   pages are allocated, partly unmapped (so queued), scanned eight at a time and freed, oldest first
        middle  the queue is kept as long as the node has blocks, and pages are freed from its middle
        maps    ranges of subpages and whole pages are mapped and unmapped on four pages, beside as many pages as the
                node has blocks
        counts  short commands: pins come and go on four pages, and the length of the queue is asked for
-       shared  so many workers map, unmap and pin pages of their own on each of so many nodes, count its queue and scan it
 BLOCKS how many blocks the node has, so how long the queue grows
 BYTES  about how long the script is; below 16,777,216
 """
@@ -65,49 +64,14 @@ def counts(blocks):
         yield f"pin 0 {page}\nunpin 0 {page}\ncount 0\n"
 
 
-def pages(workers, nodes):
-    """Two pages of each worker on each node; the second one is queued, and pinned so that it stays whole."""
-    for node in range(nodes):
-        for worker in range(workers):
-            page = 2 * worker + 1
-            yield f"alloc {node}\nalloc {node}\n"
-            yield f"splitpmd {node} {page}\nunmap {node} {page} 0 1\npin {node} {page}\n"
-
-
-def shared(worker, nodes):
-    """A worker's calls on its pages of each node in turn."""
-    page = 2 * worker
-    while True:
-        for node in range(nodes):
-            for first in range(0, 512, 32):
-                span = f"{node} {page} {first} {1 + first // 32 % 8}\n"
-                yield f"map {span}"
-                yield f"unmap {span}"
-                yield f"pin {node} {page}\n"
-                yield f"unpin {node} {page}\n"
-            yield f"count {node}\n"
-            yield f"scan {node} 2\n"
-
-
-def section(heading, lines, limit):
-    """Writes a section of about so many bytes, and tells how many they are."""
-    written = sys.stdout.write(heading)
+def main():
+    kind, blocks, limit = sys.argv[1], int(sys.argv[2]), int(sys.argv[3])
+    lines = {"churn": churn, "middle": middle, "maps": maps, "counts": counts}[kind](blocks)
+    written = sys.stdout.write("setup\n")
     for line in lines:
         if written + len(line) > limit:
             break
         written += sys.stdout.write(line)
-    return written
-
-
-def main():
-    kind, blocks, limit = sys.argv[1], int(sys.argv[2]), int(sys.argv[3])
-    if kind != "shared":
-        section("setup\n", {"churn": churn, "middle": middle, "maps": maps, "counts": counts}[kind](blocks), limit)
-        return
-    workers, nodes = int(sys.argv[4]), int(sys.argv[5])
-    rest = limit - section("setup\n", pages(workers, nodes), limit)
-    for worker in range(workers):
-        section(f"worker {worker + 1}\n", shared(worker, nodes), rest // workers)
 
 
 if __name__ == "__main__":

@@ -22,7 +22,7 @@ use std::time::{Clock, CpuClock};
 // How often each is run.
 const RUNS: u32 = 5;
 
-// The events of more rounds would not fit into memory.
+// Each call leaves its event and its answer, so more rounds would want gigabytes.
 const MOST_ROUNDS: u32 = 4_000_000;
 
 // What makes the calls.
