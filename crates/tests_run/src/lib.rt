@@ -1,5 +1,5 @@
-//! Whole runs of scripts, with reports known beforehand, checks of journals, devices that fail, and words of a command line.
-//! Tests alone: they stand above the crate that they call, so that its checks stay short.
+//! Whole runs of scripts, with reports known beforehand, checks of journals, devices that fail, and the program from its words
+//! on. Tests alone: they stand above the crate that they call, so that its checks stay short.
 #![tactic(auto)]
 
 #[cfg(test)]
@@ -7,12 +7,8 @@ mod checks;
 #[cfg(test)]
 mod faults;
 #[cfg(test)]
-mod lines;
-#[cfg(test)]
 mod programs;
 #[cfg(test)]
 mod running;
-#[cfg(test)]
-mod scripts;
 #[cfg(test)]
 mod whole_runs;

@@ -1,6 +1,25 @@
 //! Rows of workers on one node and on a node each.
-use crate::runs::{Said, are_answers, events_on, ran, settings_of};
+use crate::runs::{Said, are_answers, ran, settings_of};
+use thp_scripts::Ran;
 use thp_work::NoGate;
+
+// So many nodes and sections came out of the run.
+fn has(ran: &Ran, nodes: usize, sections: usize) -> bool {
+    ran.nodes.len() == nodes && ran.sections.len() == sections
+}
+
+// Each node has so many events and holds so many frames, and gave none back.
+fn each_node_holds(ran: &Ran, events: usize, frames: u128) -> bool {
+    ran.nodes.iter().all(|node| {
+        node.journal().len() == events && node.frames_held() == frames && node.frames_given() == 0
+    })
+}
+
+// Each section is numbered by its place and has no answers.
+fn are_without_answers(ran: &Ran) -> bool {
+    ran.sections.iter().enumerate().all(|(number, section)| section.worker as usize == number
+        && section.answers.len() == 0)
+}
 
 #[test]
 fn two_workers_totals(rt: HostRuntime) {
@@ -10,11 +29,7 @@ fn two_workers_totals(rt: HostRuntime) {
     let first = are_answers(&run, 1, &[Said::Page(0)]) && are_answers(&run, 2, &[Said::Page(1)]);
     let second = are_answers(&run, 1, &[Said::Page(1)]) && are_answers(&run, 2, &[Said::Page(0)]);
     assert!(&rt; first || second);
-    for node in run.nodes.iter() {
-        assert_eq!(&rt; node.journal().len(), 2);
-        assert_eq!(&rt; node.frames_held(), 1024);
-        assert_eq!(&rt; node.frames_given(), 0);
-    }
+    assert!(&rt; each_node_holds(&run, 2, 1024));
 }
 
 #[test]
@@ -22,12 +37,10 @@ fn workers_on_a_node_each(rt: HostRuntime) {
     let settings = settings_of(&rt, 2, 16, 2);
     let script = b"worker 1\nalloc 0\nworker 2\nalloc 1\n";
     let run = ran(&rt, rt.alloc(), &settings, script.as_slice(), &NoGate);
-    assert_eq!(&rt; run.nodes.len(), 2);
-    assert_eq!(&rt; run.sections.len(), 3);
+    assert!(&rt; has(&run, 2, 3));
     assert!(&rt; are_answers(&run, 1, &[Said::Page(0)]));
     assert!(&rt; are_answers(&run, 2, &[Said::Page(0)]));
-    assert_eq!(&rt; events_on(&run, 0), 1);
-    assert_eq!(&rt; events_on(&run, 1), 1);
+    assert!(&rt; each_node_holds(&run, 1, 512));
 }
 
 // Without commands there are sections without answers, one for setup and one for each worker.
@@ -35,10 +48,6 @@ fn workers_on_a_node_each(rt: HostRuntime) {
 fn empty_input(rt: HostRuntime) {
     let settings = settings_of(&rt, 8, 1, 63);
     let run = ran(&rt, rt.alloc(), &settings, b"".as_slice(), &NoGate);
-    assert_eq!(&rt; run.nodes.len(), 8);
-    assert_eq!(&rt; run.sections.len(), 64);
-    for (number, section) in run.sections.iter().enumerate() {
-        assert_eq!(&rt; section.worker as usize, number);
-        assert_eq!(&rt; section.answers.len(), 0);
-    }
+    assert!(&rt; has(&run, 8, 64));
+    assert!(&rt; are_without_answers(&run));
 }

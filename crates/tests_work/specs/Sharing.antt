@@ -18,10 +18,3 @@ pub record OfTwo (f : Fronts) : Type 0 where
 -- the section of a caller was begun and led up to here
 abbrev pub WasWorked : ℕ → Fronts → List Command → Worked → Type 0
 WasWorked c f commands w = (old : Fronts) × Works c old f commands w
-
--- one node, and callers 0 to 2, which are all
-pub record OfThree (f : Fronts) : Type 0 where
-  pub nodes : f.nodes ≡ 1
-  pub callers : f.callers ≡ 3
-  pub first : f.first ≡ 0
-  pub end : f.end ≡ 3

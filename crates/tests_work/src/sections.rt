@@ -5,14 +5,14 @@ ghost use Rattle.thp_work.specs.Passes.{fronts_in};
 ghost use Rattle.thp_work.specs.Sections.{IsCommandFor};
 ghost use Rattle.tests_work.specs.Sharing.{OfTwo, WasWorked};
 
-use crate::Stutter;
+use crate::stutter::Stutter;
 use std::alloc::Global;
 use std::process::Abort;
 use thp_cell::{CellFault, NodeCell, Pass};
 use thp_model::Shape;
 use thp_node::Node;
 use thp_work::{
-    Command, NoGate, NodePass, NodePasses, Reply, Step, Steps, Worked, work, work_rest,
+    Answer, Command, NoGate, NodePass, NodePasses, Op, Reply, Step, Steps, Worked, work, work_rest,
 };
 
 // A node of 16 blocks of order 9, for two callers.
@@ -113,4 +113,111 @@ pub fn go_on(
     ensures two { OfTwo (fronts_in passes.new) }
 {
     work_rest(commands, 1, worked, passes).expect(rt, "memory")
+}
+
+// Allocates the next page and unmaps its first subpage, so that it is queued.
+fn queue(rt: &impl Abort, passes: &mut NodePasses<'_>, page: u64)
+    requires two { OfTwo (fronts_in passes.old) }
+    ensures two { OfTwo (fronts_in passes.new) }
+{
+    assert!(rt; matches!(step(passes, 0, Step::One(Op::Alloc)), Ok(Reply::Page(_))));
+    let split = Step::One(Op::SplitPmd { page });
+    assert!(rt; matches!(step(passes, 0, split), Ok(Reply::Unit)));
+    let unmap = Step::One(Op::Unmap {
+        first: 0,
+        count: 1,
+        page,
+    });
+    assert!(rt; matches!(step(passes, 0, unmap), Ok(Reply::Done(_))));
+}
+
+// Pages 0 and 1 are queued, and page 1 is pinned.
+fn queue_two(rt: &impl Abort, passes: &mut NodePasses<'_>)
+    requires two { OfTwo (fronts_in passes.old) }
+    ensures two { OfTwo (fronts_in passes.new) }
+{
+    queue(rt, passes, 0);
+    queue(rt, passes, 1);
+    let pin = Step::One(Op::Pin { page: 1 });
+    assert!(rt; matches!(step(passes, 0, pin), Ok(Reply::Unit)));
+}
+
+// What became of a section that was gone on with where it stopped.
+#[derive(Drop)]
+pub struct Told {
+    // the command where it stopped, and how many of its steps were answered by then
+    pub stopped: Option<(u32, u32)>,
+    pub answered_then: Vec<Answer>,
+    pub worked: Worked,
+    // the answer to a step behind the section
+    pub behind: Result<Reply, CellFault>,
+}
+
+// A section of caller 1 on a new node that is busy at chosen calls, what is left of it once the node is busy no more, and a
+// step of a caller behind it.
+pub fn section_on_new(
+    rt: &impl Abort,
+    alloc: Global,
+    busy: BusyCalls,
+    commands: &[Command],
+    behind: (u32, Step),
+) -> Told
+    requires few { length commands.now < 2 ^ 32 }
+    requires commands { All (IsCommandFor 1) commands.now }
+    requires caller { behind.0 < 2 }
+    requires step { IsStep behind.1 }
+{
+    let (cell, pass) = cell_of(rt, alloc);
+    let passes = passes_of(rt, alloc, &cell, pass);
+    go_through(rt, alloc, passes, busy, commands, behind)
+}
+
+// The same on a node whose queue has the pages 0 and 1, and page 1 is pinned.
+pub fn section_on_queued(
+    rt: &impl Abort,
+    alloc: Global,
+    busy: BusyCalls,
+    commands: &[Command],
+    behind: (u32, Step),
+) -> Told
+    requires few { length commands.now < 2 ^ 32 }
+    requires commands { All (IsCommandFor 1) commands.now }
+    requires caller { behind.0 < 2 }
+    requires step { IsStep behind.1 }
+{
+    let (cell, pass) = cell_of(rt, alloc);
+    let mut passes = passes_of(rt, alloc, &cell, pass);
+    queue_two(rt, &mut passes);
+    go_through(rt, alloc, passes, busy, commands, behind)
+}
+
+fn go_through(
+    rt: &impl Abort,
+    alloc: Global,
+    passes: NodePasses<'_>,
+    busy: BusyCalls,
+    commands: &[Command],
+    behind: (u32, Step),
+) -> Told
+    requires two { OfTwo (fronts_in passes) }
+    requires few { length commands.now < 2 ^ 32 }
+    requires commands { All (IsCommandFor 1) commands.now }
+    requires caller { behind.0 < 2 }
+    requires step { IsStep behind.1 }
+{
+    let (mut passes, worked) = begin(rt, alloc, passes, busy, commands);
+    let stopped = match &worked.rest {
+        Some(rest) => Some((rest.command, rest.steps)),
+        None => None,
+    };
+    let answers = worked.answers.kept().expect(rt, "answers");
+    let answered_then = Vec::from_slice(alloc, answers).expect(rt, "room");
+    let worked = go_on(rt, &mut passes, commands, worked);
+    let behind = step(&mut passes, behind.0, behind.1);
+    Told {
+        stopped,
+        answered_then,
+        worked,
+        behind,
+    }
 }

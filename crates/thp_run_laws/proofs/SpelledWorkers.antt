@@ -19,9 +19,9 @@ unfolding script_with
 workers_with workers placed = length-map (range_with_len 1 workers) (λ k. commands_in k placed) ∙ length-range_with_len 1 workers
 
 -- as many workers as the settings say
-as_many : (v : Vocabulary) (s : Settings) (input : List ℕ) (script : Script) → script_of v s input ≡ Ok script → length script.workers ≡ s.workers
+as_many : (s : Settings) (input : List ℕ) (script : Script) → script_of s input ≡ Ok script → length script.workers ≡ s.workers
 unfolding script_of
-as_many v s input script e = go (nat_lt 16777216 (length input)) (commands_from v s 1 None (lines_of input)) e where
+as_many s input script e = go (nat_lt 16777216 (length input)) (commands_from s 1 None (lines_of input)) e where
   go : (long : Bool) (read : Result (List Placed) Fault) → cond long (Err (0, TooLong)) (read >>= λ placed. Ok (script_with s.workers placed)) ≡ Ok script → length script.workers ≡ s.workers
   go true read e = absurd cc
   go false (Err fault) e = absurd cc
@@ -38,7 +38,7 @@ pub setting_is_apart : OneSettingIsApart
 setting_is_apart s input few = one_is_spelled s input (λ script spelled. (
   0,
   λ k commands at other.
-      let many = as_many Whole s input script spelled in
+      let many = as_many s input script spelled in
       let place = place_of script.workers k commands at in
       absurd (other (omega (arith, many, place, few))),
 ))

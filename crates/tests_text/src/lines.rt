@@ -1,44 +1,73 @@
 //! Settings, words of a command line, and lists.
-use thp_run::{Command, Line, Op, Report, Sequence, Settings, read_line};
-use thp_text::{read_orders, read_underused};
+use std::alloc::Global;
+use thp_line::{Line, read_line};
+use thp_text::{Command, Op, Report, Sequence, Settings, read_orders, read_underused};
+
+// Whether there are settings of so many nodes, blocks and workers.
+fn are_settings(nodes: u32, blocks: u32, workers: u32) -> bool {
+    Settings::new(nodes, blocks, workers, Report::Totals).is_some()
+}
+
+// Whether these words leave all as it is by default.
+fn is_default(alloc: Global, words: &[&str]) -> bool {
+    matches!(
+        read_line(alloc, words),
+        Ok(Line {
+            nodes: 1,
+            blocks: 16,
+            workers: 1,
+            report: Report::Totals,
+            orders: None,
+            underused: None,
+            check: false,
+        })
+    )
+}
 
 #[test]
 fn limits_and_constructors(rt: HostRuntime) {
-    assert!(rt; Settings::new(9, 16, 1, Report::Totals).is_none());
-    assert!(rt; Settings::new(1, 0, 1, Report::Totals).is_none());
-    assert!(rt; Settings::new(1, 4097, 1, Report::Totals).is_none());
-    assert!(rt; Settings::new(1, 16, 64, Report::Totals).is_none());
-    assert!(rt; Settings::new(1, 16, 0, Report::Totals).is_none());
-    assert!(rt; Settings::new(0, 16, 1, Report::Totals).is_none());
-    assert!(rt; Settings::new(1, 4096, 1, Report::Totals).is_some());
+    for (nodes, blocks, workers, are) in [
+        (9, 16, 1, false),
+        (1, 0, 1, false),
+        (1, 4097, 1, false),
+        (1, 16, 64, false),
+        (1, 16, 0, false),
+        (0, 16, 1, false),
+        (1, 4096, 1, true),
+    ] {
+        assert!(rt;
+            are_settings(nodes, blocks, workers) == are,
+            "{nodes} {blocks} {workers}"
+        );
+    }
+    assert!(rt; is_default(rt.alloc(), ["thpsplit"].as_slice()));
+}
+
+#[test]
+fn orders_and_thresholds_of_two_nodes(rt: HostRuntime) {
     let two = Settings::new(2, 16, 63, Report::Totals).expect(&rt, "within the limits");
-    assert!(rt; two.with_orders([2, 9].as_slice()).is_some());
-    assert!(rt; two.with_orders([2].as_slice()).is_none());
-    assert!(rt; two.with_orders([2, 10].as_slice()).is_none());
-    assert!(rt; two.with_orders([1, 9].as_slice()).is_none());
-    assert!(rt; two.with_underused([Some(511), None].as_slice()).is_some());
-    assert!(rt; two.with_underused([Some(512), None].as_slice()).is_none());
-    assert!(rt; two.with_underused([None].as_slice()).is_none());
+    let orders: [(&[u32], bool); 4] = [
+        (&[2, 9], true),
+        (&[2], false),
+        (&[2, 10], false),
+        (&[1, 9], false),
+    ];
+    for (list, fits) in orders {
+        assert!(rt; two.with_orders(list).is_some() == fits);
+    }
+    let thresholds: [(&[Option<u32>], bool); 3] = [
+        (&[Some(511), None], true),
+        (&[Some(512), None], false),
+        (&[None], false),
+    ];
+    for (list, fits) in thresholds {
+        assert!(rt; two.with_underused(list).is_some() == fits);
+    }
     let low = two
         .with_underused([None, Some(4)].as_slice())
         .expect(&rt, "low thresholds");
     assert!(rt; low.with_orders([2, 3].as_slice()).is_some());
     assert!(rt; low.with_orders([2, 2].as_slice()).is_none());
-    let line = read_line(rt.alloc(), ["thpsplit"].as_slice());
-    assert!(rt;
-        matches!(
-            line,
-            Ok(Line {
-                nodes: 1,
-                blocks: 16,
-                workers: 1,
-                report: Report::Totals,
-                orders: None,
-                underused: None,
-                check: false,
-            })
-        )
-    );
 }
 
 #[test]
@@ -56,11 +85,16 @@ fn words_of_a_line(rt: HostRuntime) {
             })
         )
     );
-    assert!(rt; read_line(alloc, ["thpsplit", "--blocks", "4097"].as_slice()).is_err());
-    assert!(rt; read_line(alloc, ["thpsplit", "--nodes", "9"].as_slice()).is_err());
-    assert!(rt; read_line(alloc, ["thpsplit", "--workers", "64"].as_slice()).is_err());
-    assert!(rt; read_line(alloc, ["thpsplit", "--report", "none"].as_slice()).is_err());
-    assert!(rt; read_line(alloc, ["thpsplit", "--check", "x"].as_slice()).is_err());
+    let refused: [&[&str]; 5] = [
+        &["thpsplit", "--blocks", "4097"],
+        &["thpsplit", "--nodes", "9"],
+        &["thpsplit", "--workers", "64"],
+        &["thpsplit", "--report", "none"],
+        &["thpsplit", "--check", "x"],
+    ];
+    for words in refused {
+        assert!(rt; read_line(alloc, words).is_err());
+    }
     let words = [
         "thpsplit",
         "--nodes",
