@@ -43,22 +43,14 @@ fn worker_of(settings: &Settings, mut words: Words) -> Result<Statement, TextKin
     }
 }
 
-fn call_of(
-    settings: &Settings,
-    name: &[u8],
-    words: Words,
-) -> Result<Statement, TextKind>
+fn call_of(settings: &Settings, name: &[u8], words: Words) -> Result<Statement, TextKind>
     ensures { result ≡ call_of settings.now name.now words.entry }
 {
     let command = command_of(settings, name, words)?;
     Ok(Statement::Call(command))
 }
 
-fn worker_or_call(
-    settings: &Settings,
-    name: &[u8],
-    words: Words,
-) -> Result<Statement, TextKind>
+fn worker_or_call(settings: &Settings, name: &[u8], words: Words) -> Result<Statement, TextKind>
     ensures { result ≡ worker_or_call settings.now name.now words.entry }
 {
     if name == b"worker".as_slice() {
@@ -68,11 +60,7 @@ fn worker_or_call(
 }
 
 #[tactic(auto, unfolding(crate::specs::Statements::section_or_call))]
-fn section_or_call(
-    settings: &Settings,
-    name: &[u8],
-    words: Words,
-) -> Result<Statement, TextKind>
+fn section_or_call(settings: &Settings, name: &[u8], words: Words) -> Result<Statement, TextKind>
     ensures { result ≡ section_or_call settings.now name.now words.entry }
 {
     if name == b"setup".as_slice() {
@@ -81,10 +69,7 @@ fn section_or_call(
     worker_or_call(settings, name, words)
 }
 
-fn by_words(
-    settings: &Settings,
-    mut words: Words,
-) -> Result<Statement, TextKind>
+fn by_words(settings: &Settings, mut words: Words) -> Result<Statement, TextKind>
     ensures { result ≡ by_words settings.now words.entry }
 {
     match words.next() {
@@ -105,10 +90,7 @@ fn says_nothing(line: &[u8]) -> bool
 /// What a whole line says. Where it reads as a statement it has neither bad bytes nor empty words, so its bytes are looked
 /// at again only where it doesn't.
 #[tactic(auto, unfolding(crate::specs::Statements::statement_of))]
-fn statement_of(
-    settings: &Settings,
-    line: &[u8],
-) -> Result<Statement, TextKind>
+fn statement_of(settings: &Settings, line: &[u8]) -> Result<Statement, TextKind>
     ensures { result ≡ statement_of settings.now line.now }
 {
     if says_nothing(line) {
