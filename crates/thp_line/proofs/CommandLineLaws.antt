@@ -1,5 +1,5 @@
 -- The command `thpsplit`: what `clap` makes of its options.
-use Rattle.std.proofs.Common.{◌≡◌, ◌∙◌, ap, arith, codes, inl, map, refl, subst, sym, true, false, List, [], ◌∷◌, ℕ, Some}
+use Rattle.std.proofs.Common.{◌≡◌, ◌∙◌, ap, arith, codes, inl, map, refl, subst, sym, true, false, List, [], ℕ, Some}
 use Rattle.std.specs.Prelude.{Result, Ok, Err, IsErrAnd, option_map, pos}
 use Rattle.std.specs.Borrow.{Bor}
 use Rattle.clap.specs.Built.{IsPlain}

@@ -1,5 +1,5 @@
 -- From the values of a parse to the line that they make.
-use Rattle.std.proofs.Common.{◌≡◌, ◌∙◌, ◌<◌, ◌≤◌, ◌^◌, ap, ℕ, true, false, List, [], ◌∷◌, map, Option, Some, None, Result, Ok, refl, sym}
+use Rattle.std.proofs.Common.{◌≡◌, ◌∙◌, ◌<◌, ◌≤◌, ◌^◌, ap, ℕ, true, false, List, [], ◌∷◌, map, Option, Some, None, Result, Ok, sym}
 use Rattle.std.specs.Prelude.{option_map, pos, slice_get}
 use Rattle.std.specs.Borrow.{Bor}
 use Rattle.std.specs.List.{list_any}

@@ -1,5 +1,5 @@
 -- The program's command line, as `clap` reads it.
-use Rattle.std.specs.Prelude.{◌≡◌, ◌≤◌, ℕ, Bool, true, false, pos, List, [], ◌∷◌, Option, Some, None, Result, map, option_map, codes}
+use Rattle.std.specs.Prelude.{◌≡◌, ℕ, Bool, true, false, pos, List, [], ◌∷◌, Option, Some, None, Result, map, option_map, codes}
 use Rattle.std.specs.Borrow.{Bor}
 use Rattle.std.specs.Str.Parse.{IsNumeral, digits_value, without_leading_plus}
 use Rattle.clap.specs.Words.{App, FailsBy, Row, Rule, fault_of, first_of, matches_of, new_app, new_rule, one_of, with_rule}

@@ -1,5 +1,5 @@
 -- Nodes, passes and fronts, one at each place.
-use Rattle.std.proofs.Common.{◌≡◌, ◌∙◌, ◌++◌, ◌+◌, ◌<◌, ap, ℕ, zero, suc, List, [], ◌∷◌, length, get_or, drop, map, refl, sym, subst, arith, append_assoc, Option, Some, None}
+use Rattle.std.proofs.Common.{◌≡◌, ◌∙◌, ◌++◌, ◌+◌, ◌<◌, ap, ℕ, zero, suc, List, [], ◌∷◌, length, get_or, drop, map, refl, subst, arith, append_assoc, Option, Some, None}
 use Rattle.std.specs.Prelude.{slice_get}
 use Rattle.std.proofs.lemmas.List.{append-nil}
 use Rattle.thp_scripts.specs.Sharing.{Pairs}

@@ -1,16 +1,15 @@
 -- What is left of the workers' sections, done one after another.
-use Rattle.std.proofs.Common.{◌≡◌, ◌∙◌, ◌++◌, ◌+◌, ◌<◌, ◌≤◌, ap, ℕ, Bool, zero, suc, List, [], ◌∷◌, length, get_or, map, refl, sym, subst, arith, length-append, append_assoc, Option, Some}
+use Rattle.std.proofs.Common.{◌≡◌, ◌∙◌, ◌++◌, ◌+◌, ◌<◌, ◌≤◌, ap, ℕ, Bool, zero, suc, List, [], ◌∷◌, length, get_or, refl, sym, subst, arith, length-append, append_assoc, Some}
 use Rattle.std.specs.Prelude.{All, Vec, slice_get}
 use Rattle.std.specs.declared.alloc.Global.{Global}
 use Rattle.std.proofs.lemmas.List.{append-nil, length-map}
 use Rattle.std.proofs.lemmas.Option.{slice_get_read}
 use Rattle.std.proofs.lemmas.List.Elements.{All-cons, All-head, All-nil, All-push, All-tail}
-use Rattle.thp_model.specs.Legal.{IsLegal}
 use Rattle.thp_text.specs.declared.script.Command.{Command}
 use Rattle.thp_text.specs.declared.script.Script.{Script}
 use Rattle.thp_work.specs.declared.reply.Section.{Section}
 use Rattle.thp_work.specs.declared.reply.Worked.{Worked}
-use Rattle.thp_work.specs.Fronts.{Fronts, Goes, HasAll, HasCaller, SameHolding}
+use Rattle.thp_work.specs.Fronts.{Fronts, Goes, HasAll, HasCaller}
 use Rattle.thp_work.specs.Halves.{AllWork, CanRun, KnowsOf, Ran}
 use Rattle.thp_work.specs.Halves as halves
 use Rattle.thp_work.specs.Sections.{IsDoneFor, IsKept, Works}

@@ -1,6 +1,6 @@
 -- From the sections that a holder of all callers did to a run of the script.
-use Rattle.std.proofs.Common.{◌≡◌, ◌∙◌, ◌⊎◌, ◌++◌, ◌+◌, ◌<◌, ◌≤◌, ap, ℕ, zero, suc, true, false, List, [], ◌∷◌, length, get_or, map, refl, sym, subst, inl, inr, arith, length-append, Option, Some, None}
-use Rattle.std.specs.Prelude.{All, AllPairs, Vec, nat_eq, slice_get}
+use Rattle.std.proofs.Common.{◌≡◌, ◌∙◌, ◌⊎◌, ◌++◌, ◌+◌, ◌<◌, ◌≤◌, ap, ℕ, zero, suc, true, false, List, [], ◌∷◌, length, get_or, map, refl, sym, subst, inl, inr, arith, Some, None}
+use Rattle.std.specs.Prelude.{All, Vec, nat_eq, slice_get}
 use Rattle.std.specs.List.{filter}
 use Rattle.std.specs.declared.alloc.Global.{Global}
 use Rattle.std.proofs.lemmas.Bool.{cases_lt, eq-eqb, ne_eqb}
@@ -10,7 +10,6 @@ use Rattle.std.proofs.lemmas.List.Elements.{All-append, All-head, All-tail}
 use Rattle.thp_model.specs.declared.events.Event.{Event}
 use Rattle.thp_model.specs.declared.shape.Shape.{Shape}
 use Rattle.thp_model.specs.History.{History, events_of}
-use Rattle.thp_model.specs.Legal.{IsLegal}
 use Rattle.thp_model.proofs.LegalSteps.{legal_none}
 use Rattle.thp_cell.proofs.Fronts.{all_front}
 use Rattle.thp_text.specs.declared.script.Command.{Command}
@@ -18,13 +17,12 @@ use Rattle.thp_text.specs.declared.script.Script.{Script}
 use Rattle.thp_work.specs.declared.reply.Answer.{Answer}
 use Rattle.thp_work.specs.declared.reply.Section.{Section}
 use Rattle.thp_work.specs.declared.reply.Worked.{Worked}
-use Rattle.thp_work.specs.Does.{Open}
-use Rattle.thp_work.specs.Fronts.{Fronts, Goes, HasCaller, SameHolding, SameNodes}
+use Rattle.thp_work.specs.Fronts.{Fronts, HasCaller, SameHolding, SameNodes}
 use Rattle.thp_work.specs.Halves.{AllWork, KnowsOf}
-use Rattle.thp_work.specs.Sections.{Made, Turn, IsTurn, Steps, IsMade, Carries, Works, WorksTo, IsDoneFor, command_of, steps_of, own_events, batches_after, closing}
+use Rattle.thp_work.specs.Sections.{Turn, IsTurn, Steps, Carries, Works, WorksTo, IsDoneFor, command_of, steps_of, own_events, batches_after, closing}
 use Rattle.thp_work.proofs.StepLaws.{is_made_stays}
-use Rattle.thp_scripts.specs.Runs.{IsAfterSetup, IsAnswered, IsRun, IsSection, no_batches, sections_of}
-use Rattle.thp_scripts.specs.Sections.{GoesFrom, IsNew, RunsTo, commands_in, numbered}
+use Rattle.thp_scripts.specs.Runs.{IsAnswered, IsRun, IsSection, no_batches, sections_of}
+use Rattle.thp_scripts.specs.Sections.{IsNew, RunsTo, commands_in, numbered}
 
 -- where callers 1 and on did nothing, all events are caller 0's
 all_by_setup : (callers : ℕ) (h : History) → All (λ (e : Event). e.caller < callers) h → ((c : ℕ) → 0 < c → c < callers → events_of c h ≡ []) → events_of 0 h ≡ h

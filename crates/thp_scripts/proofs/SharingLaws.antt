@@ -1,12 +1,10 @@
 -- From nodes in cells to passes of all nodes, and back.
-use Rattle.std.proofs.Common.{◌≡◌, ◌∙◌, ◌++◌, ◌+◌, ◌<◌, ◌≤◌, ap, ℕ, zero, suc, List, [], ◌∷◌, length, get_or, map, refl, sym, subst, arith, Option, Some, None}
+use Rattle.std.proofs.Common.{◌≡◌, ◌∙◌, ◌+◌, ◌<◌, ◌≤◌, ap, ℕ, zero, suc, List, [], ◌∷◌, length, get_or, map, refl, sym, subst, arith, Some, None}
 use Rattle.std.specs.Prelude.{All, slice_get}
 use Rattle.std.proofs.lemmas.List.{length-map}
 use Rattle.std.proofs.lemmas.List.Elements.{All-nil, All-cons, All-head, All-tail}
 use Rattle.std.proofs.lemmas.Option.{get_or_from_slice_get, slice_get-get_or, slice_get_within}
 use Rattle.thp_model.specs.declared.events.Event.{Event}
-use Rattle.thp_model.specs.declared.shape.Shape.{Shape}
-use Rattle.thp_model.specs.History.{History}
 use Rattle.thp_node.specs.NodeState.{NodeState}
 use Rattle.thp_cell.specs.Rule.{AllBelow}
 use Rattle.thp_cell.specs.Views.{PassState, HasAll}
@@ -22,12 +20,12 @@ use Rattle.thp_work.specs.declared.reply.Section.{Section}
 use Rattle.thp_work.specs.Does.{IsFit}
 use Rattle.thp_work.specs.Fronts.{Fronts}
 use Rattle.thp_work.specs.Holdings.{Held}
-use Rattle.thp_work.specs.Passes.{Agree, IsOf, Passes, batch_in, cell_in, front_in, fronts_in, fronts_of, shape_in}
+use Rattle.thp_work.specs.Passes.{Agree, Passes, batch_in, cell_in, front_in, fronts_in, fronts_of, shape_in}
 use Rattle.thp_work.specs.Sections.{IsCommandFor}
 use Rattle.thp_scripts.specs.NewNodes.{AreNodesFor, histories_of, journal_in, shape_of, shapes_of}
 use Rattle.thp_scripts.specs.NewNodes as new
 use Rattle.thp_scripts.specs.Runs.{IsRun}
-use Rattle.thp_scripts.specs.Sections.{IsFitScript, IsFitSection, IsNew, RunsTo}
+use Rattle.thp_scripts.specs.Sections.{IsFitScript, IsNew, RunsTo}
 use Rattle.thp_scripts.specs.Sharing.{AreFew, IsFresh, IsNodeOf, IsRoot, IsUnused, IsWhole, Pairs, RunsOn, cell_of, front_at, pass_of, shape_at}
 use Rattle.thp_scripts.proofs.NodeLaws.{pairs_at, pairs_length, pairs_map, pairs_same}
 use Rattle.thp_scripts.proofs.RunLaws.{run_of}

@@ -7,7 +7,7 @@ use Rattle.thp_text.specs.declared.script.Command.{Command}
 use Rattle.thp_text.specs.declared.script.Script.{Script}
 use Rattle.thp_work.specs.declared.reply.Section.{Section}
 use Rattle.thp_work.specs.declared.reply.Worked.{Worked}
-use Rattle.thp_work.specs.Fronts.{Fronts, Goes, HasAll, HasCaller, SameHolding}
+use Rattle.thp_work.specs.Fronts.{Fronts, Goes, HasCaller, SameHolding}
 use Rattle.thp_work.specs.Halves.{AllWork, KnowsOf}
 use Rattle.thp_work.specs.Sections.{IsCommandFor, IsDoneFor, Works}
 

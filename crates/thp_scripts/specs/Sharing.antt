@@ -1,11 +1,11 @@
 -- Nodes in cells, and the passes that have all callers of each.
-use Rattle.std.specs.Prelude.{◌≡◌, ℕ, ◌+◌, ◌<◌, ◌≤◌, ◌^◌, ⊤, List, [], ◌∷◌, All, Option, Some, None, length, map, slice_get}
+use Rattle.std.specs.Prelude.{◌≡◌, ℕ, ◌+◌, ◌<◌, ◌^◌, ⊤, List, [], ◌∷◌, All, Option, Some, None, length, map, slice_get}
 use Rattle.atomic_table.specs.Seated.{TableId}
 use Rattle.thp_model.specs.declared.shape.Shape.{Shape}
 use Rattle.thp_model.specs.History.{History}
 use Rattle.thp_node.specs.NodeState.{NodeState}
 use Rattle.thp_cell.specs.Rule.{AllBelow}
-use Rattle.thp_cell.specs.Views.{PassState, HasAll}
+use Rattle.thp_cell.specs.Views.{PassState}
 use Rattle.thp_text.specs.declared.script.Script.{Script}
 use Rattle.thp_work.specs.declared.reply.Section.{Section}
 use Rattle.thp_work.specs.Fronts.{Fronts}

@@ -13,7 +13,6 @@ use Rattle.thp_text.specs.declared.settings.Settings.{Settings}
 use Rattle.thp_text.specs.declared.statement.Statement.{Statement}
 use Rattle.thp_text.specs.declared.statement.Statement.TheVariants.{Nothing, Section, Call}
 use Rattle.thp_text.specs.Commands.{batch_command, call_command, command_of, further_command, is_further, node_command, node_number, number_up_to, page_command, range_command, FitsBatch, IsCommandFor}
-use Rattle.thp_text.specs.Readings.{◌>>=◌}
 use Rattle.thp_text.specs.Lines.{is_empty, is_printable}
 use Rattle.thp_text.specs.Statements.{by_words, call_of, may_stand, says_nothing, section_of, section_or_call, setup_of, statement_in, statement_of, worker_number, worker_of, worker_or_call, IsInRange, IsSectionFor}
 use Rattle.thp_text.specs.Words.{Text, words_of}

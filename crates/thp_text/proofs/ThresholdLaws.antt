@@ -1,10 +1,10 @@
 -- Orders and thresholds, place by place.
-use Rattle.std.proofs.Common.{◌≡◌, ◌⊎◌, ℕ, zero, suc, ◌+◌, ◌-◌, ◌<◌, ◌≤◌, true, None, Option, List, [], ◌∷◌, ◌++◌, length, drop, get_or, arith, inl, inr, refl}
+use Rattle.std.proofs.Common.{◌≡◌, ◌⊎◌, ℕ, zero, suc, ◌+◌, ◌-◌, ◌<◌, ◌≤◌, true, Option, List, [], ◌∷◌, ◌++◌, length, drop, get_or, arith, inl, inr, refl}
 use Rattle.std.specs.List.{list_all}
 use Rattle.std.proofs.lemmas.Bool.{and_parts, cases_lt}
 use Rattle.std.proofs.lemmas.List.{get_or-append_right, get_or-drop, length-append, length-drop}
 use Rattle.std.proofs.Math.ListN.{get_or-append}
-use Rattle.thp_text.specs.Settings.{is_low, is_order, AreLow}
+use Rattle.thp_text.specs.Settings.{is_order, AreLow}
 
 -- where each order fits, so does the one at a place
 pub order_at : (orders : List ℕ) (k : ℕ) → list_all is_order orders ≡ true → k < length orders → is_order (get_or orders k 0) ≡ true

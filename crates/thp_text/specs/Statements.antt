@@ -1,5 +1,5 @@
 -- What a line of a script says, and where it may stand (this project's script format).
-use Rattle.std.specs.Prelude.{◌≡◌, ◌==◌, ◌≤◌, not, nat_lt, ℕ, zero, suc, Bool, true, false, ⊤, List, [], ◌∷◌, Option, Some, None, Result, Ok, Err, codes, if◌then◌else◌}
+use Rattle.std.specs.Prelude.{◌==◌, ◌≤◌, not, nat_lt, ℕ, zero, suc, Bool, true, false, ⊤, List, [], ◌∷◌, Option, Some, None, Result, Ok, Err, codes, if◌then◌else◌}
 use Rattle.std.specs.List.{list_all, list_any}
 use Rattle.std.specs.Str.{bytes_eq}
 use Rattle.thp_text.specs.declared.fault.TextKind.{TextKind}

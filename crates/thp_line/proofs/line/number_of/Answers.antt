@@ -1,10 +1,9 @@
-use Rattle.std.proofs.Common.{◌≡◌, ◌∙◌, ◌≤◌, ◌<◌, ◌^◌, ℕ, Option, Some, arith, sym, refl, ap, subst}
-use Rattle.std.specs.Prelude.{pos, unwrap_or}
+use Rattle.std.proofs.Common.{◌≡◌, ◌∙◌, ℕ, arith, sym, refl, ap, subst}
+use Rattle.std.specs.Prelude.{unwrap_or}
 use Rattle.std.specs.Str.Parse.{ExplainsUnsignedError, HasUnsignedDigitsIfOk, ParsesUnsigned}
 use Rattle.clap.specs.Lexer.{without_minus}
 use Rattle.clap.specs.Words.{found_of, one_text}
 use Rattle.thp_line.specs.CommandLine.{WritesNumber}
-use Rattle.thp_line.specs.Options.{HasValue}
 use Rattle.thp_line.proofs.LineLaws.{one_text-value, number_read}
 use Rattle.thp_line.proofs.line.number_of.Goals as goal
 

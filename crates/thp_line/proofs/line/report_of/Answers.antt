@@ -1,4 +1,4 @@
-use Rattle.std.proofs.Common.{◌≡◌, ◌≢◌, ◌∙◌, ◌||◌, Bool, true, false, [], ◌∷◌, List, ℕ, Option, Some, None, ap, codes, refl, subst, sym}
+use Rattle.std.proofs.Common.{◌≡◌, ◌≢◌, ◌∙◌, ◌||◌, Bool, true, false, [], ◌∷◌, List, ℕ, Option, Some, None, ap, refl, sym}
 use Rattle.std.specs.Prelude.{IfNone, IfSome, IsSome, map, option_map, unwrap_or}
 use Rattle.std.specs.List.{list_any}
 use Rattle.std.specs.Str.{bytes_eq}

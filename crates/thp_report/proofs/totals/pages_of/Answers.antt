@@ -1,4 +1,4 @@
-use Rattle.std.proofs.Common.{◌≡◌, ◌+◌, ◌/◌, ℕ, length, ap, ◌∙◌, arith}
+use Rattle.std.proofs.Common.{◌≡◌, ◌+◌, ◌/◌, length, ap, ◌∙◌, arith}
 use Rattle.thp_model.specs.Frames.{frames_given, frames_held}
 use Rattle.thp_model.specs.Shapes.{subpages}
 use Rattle.thp_model.proofs.Sizes.{some_subpages}

@@ -1,4 +1,4 @@
-use Rattle.std.proofs.Common.{◌≡◌, ◌∙◌, [], length, length-append, ◌∷◌, ap, sym, subst, arith}
+use Rattle.std.proofs.Common.{◌≡◌, ◌∙◌, [], length-append, ◌∷◌, ap, sym, arith}
 use Rattle.std.proofs.lemmas.List.Elements.{All-push}
 use Rattle.thp_node.specs.NodeState.{NodeState}
 use Rattle.thp_scripts.specs.NewNodes.{shape_of}

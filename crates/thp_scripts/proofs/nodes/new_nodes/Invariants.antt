@@ -1,4 +1,4 @@
-use Rattle.std.proofs.Common.{◌≡◌, ◌≤◌, ℕ, [], length, Some}
+use Rattle.std.proofs.Common.{◌≡◌, ℕ, [], length, Some}
 use Rattle.std.specs.Prelude.{All, slice_get}
 use Rattle.thp_node.specs.NodeState.{NodeState}
 use Rattle.thp_scripts.specs.NewNodes.{shape_of}

@@ -1,4 +1,4 @@
-use Rattle.std.proofs.Common.{◌≡◌, length, subst, sym}
+use Rattle.std.proofs.Common.{length, subst, sym}
 use denote.Param.Send.{param_send, arg_send}
 use Rattle.thp_work.specs.Passes.{Passes, fronts_in}
 use Rattle.thp_work.proofs.Crosses.{node_passes_send}

@@ -1,4 +1,4 @@
-use Rattle.std.proofs.Common.{◌≡◌, ◌∙◌, ◌+◌, ◌≤◌, arith, length, rules, subst, sym}
+use Rattle.std.proofs.Common.{◌∙◌, ◌+◌, arith, length, rules, subst, sym}
 use Rattle.std.specs.Prelude.{All}
 use Rattle.thp_scripts.specs.Sections.{KeepsAnswers}
 use Rattle.thp_scripts.specs.Sharing.{AreFew, IsRoot}

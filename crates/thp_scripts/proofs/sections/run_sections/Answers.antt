@@ -1,4 +1,4 @@
-use Rattle.std.proofs.Common.{◌≡◌, ◌∙◌, ◌∷◌, subst, sym}
+use Rattle.std.proofs.Common.{◌∙◌, ◌∷◌, subst, sym}
 use Rattle.std.proofs.lemmas.List.Elements.{All-cons}
 use Rattle.thp_work.specs.Halves.{AllWork, Ran}
 use Rattle.thp_work.specs.Sections.{IsKept, Works}
