@@ -36,3 +36,4 @@ pub mod Requests
 pub mod WorkedRows
 pub mod WordLemmas
 mod WordMarks
+mod WordCounts

@@ -56,19 +56,23 @@ mask_below i = omega (arith, one_shl (i % 64) 64 (omega arith), pow_below (i % 6
 at_least : (ws : List ℕ) → AreWords ws → (k d : ℕ) → k < 8 → get_or ws k d < 2 ^ 64
 at_least ws a k d h = a.fit k d (omega (arith, a.eight))
 
--- words with one bit set are words
-pub with_bit-AreWords : (ws : List ℕ) (i : ℕ) → i < 512 → AreWords ws → AreWords (with_bit ws i)
-with_bit-AreWords ws i h a = record {
-  eight = length-set ws (i / 64) _ ∙ a.eight;
-  fit = λ k d below.
-      let in_range : k < length ws = omega (arith, length-set ws (i / 64) (bit_or (get_or ws (i / 64) 0) (1 * 2 ^ (i % 64) % 2 ^ 64))) in
-      elim (eqb_tells k (i / 64)) [
+-- words of which one is another are words
+pub AreWords-set : (ws : List ℕ) (k w : ℕ) → AreWords ws → k < 8 → w < 2 ^ 64 → AreWords (set ws k w)
+AreWords-set ws k w a h fits = record {
+  eight = length-set ws k w ∙ a.eight;
+  fit = λ j d below.
+      let in_range : j < length ws = omega (arith, length-set ws k w) in
+      elim (eqb_tells j k) [
         | inl y ↦
-            let P : ℕ → Type 0 = λ q. get_or (with_bit ws i) q d < 2 ^ 64 in
-            subst P (sym y.1) (rw (get_or-set_same ws (i / 64) _ d (omega (arith, a.eight))) (or_lt 64 _ _ (at_least ws a (i / 64) 0 (omega arith)) (mask_below i)))
-        | inr y ↦ rw (get_or-set_other ws (i / 64) k _ d y.1) (a.fit k d in_range)
+            let P : ℕ → Type 0 = λ q. get_or (set ws k w) q d < 2 ^ 64 in
+            subst P (sym y.1) (rw (get_or-set_same ws k w d (omega (arith, a.eight))) fits)
+        | inr y ↦ rw (get_or-set_other ws k j w d y.1) (a.fit j d in_range)
       ];
 }
+
+-- words with one bit set are words
+pub with_bit-AreWords : (ws : List ℕ) (i : ℕ) → i < 512 → AreWords ws → AreWords (with_bit ws i)
+with_bit-AreWords ws i h a = AreWords-set ws (i / 64) _ a (omega arith) (or_lt 64 _ _ (at_least ws a (i / 64) 0 (omega arith)) (mask_below i))
 
 -- a bit of a word with one bit set
 put_bit : (w r s : ℕ) → s < 64 → nat_eq (bit_at (bit_or w (1 * 2 ^ s % 2 ^ 64)) r) 1 ≡ (nat_eq r s || nat_eq (bit_at w r) 1)
@@ -161,7 +165,7 @@ abbrev pub ones_below : ℕ → ℕ → ℕ
 ones_below n k = 2 ^ min 64 (n - 64 * k) - 1
 
 -- a bit of them
-below_bit : (n k r : ℕ) → r < 64 → nat_eq (bit_at (ones_below n k) r) 1 ≡ nat_lt (64 * k + r) n
+pub below_bit : (n k r : ℕ) → r < 64 → nat_eq (bit_at (ones_below n k) r) 1 ≡ nat_lt (64 * k + r) n
 below_bit n k r h =
     elim (cases_lt r (min 64 (n - 64 * k))) [
       | inl y ↦ eq-eqb _ 1 (bit_at_ones (min 64 (n - 64 * k)) r y) ∙ sym (lt-ltb (64 * k + r) n (omega arith))

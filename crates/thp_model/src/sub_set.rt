@@ -1,8 +1,10 @@
 //! A set of subpages of one page.
-ghost use Rattle.std.specs.Prelude.{◌≡◌, ℕ, ◌+◌, ◌-◌, ◌*◌, ◌^◌, ◌<◌, ◌≤◌, not, ◌&&◌, ◌||◌, IsTrue, ◌↔◌, min, nat_lt, slice_set, length, true, false, if◌then◌else◌};
+ghost use Rattle.std.specs.Prelude.{◌≡◌, ℕ, ◌+◌, ◌-◌, ◌*◌, ◌^◌, ◌<◌, ◌≤◌, not, ◌&&◌, ◌||◌, IsTrue, ◌↔◌, min, nat_eq, nat_lt, slice_index, slice_set, length, true, false, if◌then◌else◌};
+ghost use Rattle.std.specs.Int.{bit_at};
 ghost use Rattle.thp_model.specs.Sets.{has, set_of, set_size, covers, same_set, same_set-equiv, same_set-partial_equiv};
 
 use std::marker::Model;
+use std::simd::prelude::*;
 
 /// A set of subpages: numbers below 512, which contracts see as a list of 512 truth values.
 #[derive(Clone, Copy, Debug)]
@@ -64,6 +66,26 @@ impl SubSet {
         ensures { result ≡ set_of (covers first count) }
     {
         SubSet::below(first + count).difference(SubSet::below(first))
+    }
+
+    /// Of the `count` subpages from `first` on, those whose map count is `n`.
+    pub fn with_count(counts: &[u16; 512], first: u32, count: u32, n: u16) -> SubSet
+        requires { first + count ≤ 512 }
+        ensures { result ≡ set_of (λ i. covers first count i && nat_eq (slice_index counts.now i) n) }
+    {
+        if count == 0 {
+            return SubSet::empty();
+        }
+        let end = first + count;
+        let (start, last) = (first / 64, (end - 1) / 64);
+        let mut words = [0; 8];
+        for k in start..last + 1 {
+            words[k as usize] = equal_bits(counts, k, n);
+        }
+        // no word between the first and the last has a subpage outside the range
+        words[start as usize] &= !word_below(first, start);
+        words[last as usize] &= word_below(end, last);
+        SubSet { words }
     }
 
     /// Whether the set has no subpage.
@@ -209,6 +231,16 @@ fn marks(word: u64, is_in: bool) -> u64
     ensures { result ≡ (if is_in then word else 18446744073709551615 - word) }
 {
     if is_in { word } else { !word }
+}
+
+// word k of the set of the numbers whose count is n, by one compare of 64 counts
+fn equal_bits(counts: &[u16; 512], k: u32, n: u16) -> u64
+    requires { k < 8 }
+    ensures { (r : ℕ) → r < 64 → (nat_eq (bit_at result r) 1) ≡ nat_eq (slice_index counts.now (64 * k + r)) n }
+{
+    u16x64::from_slice(&counts[64 * k as usize..])
+        .simd_eq(u16x64::splat(n))
+        .to_bitmask()
 }
 
 // word k of the set of the numbers below n: so many ones
