@@ -1,7 +1,6 @@
 pub mod SomeBelow
 pub mod SubSets
 pub mod RangeLemmas
-pub mod FoundSets
 pub mod RangeCounts
 pub mod PageSizes
 pub mod PageRefusals

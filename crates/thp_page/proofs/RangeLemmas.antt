@@ -1,12 +1,11 @@
 -- A range of a page's own counts, as a slice and as a test of each subpage.
-use Rattle.std.proofs.Common.{◌≡◌, ◌≢◌, set, ℕ, zero, suc, ◌+◌, ◌-◌, ◌<◌, ◌≤◌, Bool, true, false, ◌&&◌, ◌||◌, cond, nat_lt, nat_le, List, [], ◌∷◌, ◌++◌, length, take, drop, get_or, refl, ap, sym, ◌∙◌, arith, inl, inr, length-append}
+use Rattle.std.proofs.Common.{◌≡◌, ℕ, zero, suc, ◌+◌, ◌-◌, ◌<◌, ◌≤◌, Bool, true, false, ◌&&◌, ◌||◌, cond, List, [], ◌∷◌, ◌++◌, length, take, drop, get_or, refl, ap, sym, ◌∙◌, arith, inl, inr, length-append}
 use Rattle.std.specs.List.{list_any}
 use Rattle.std.proofs.lemmas.Bool.{cases_lt}
-use Rattle.std.proofs.lemmas.Bool.Decides.{nat_tests, eqb_tells}
+use Rattle.std.proofs.lemmas.Bool.Decides.{nat_tests}
 use Rattle.std.proofs.lemmas.List.{get_or-drop, get_or-take, length-take-le, length-drop, get_or_append_left, get_or-append_right}
-use Rattle.thp_model.specs.Sets.{covers, set_of}
+use Rattle.thp_model.specs.Sets.{covers}
 use Rattle.thp_page.specs.Ranges.{some_count}
-use Rattle.thp_page.proofs.SubSets.{set-set_of, set_of-ext}
 use Rattle.thp_model.proofs.Below.{some_no, some_none}
 use Rattle.thp_page.proofs.SomeBelow.{same_if_false}
 
@@ -161,38 +160,3 @@ slice_taken xs ys first count size inside same each i =
     range_taken xs ys first count (omega arith) (same ∙ long)
     (λ k below. sym (ap (λ m. get_or (take m (drop first xs)) k 0) (length_of first count)) ∙ each k (omega (arith, long))) i
     ∙ ap (λ m. get_or (with_part xs first m ys) i 0 + cond (covers first count i) 1 0) (sym (length_of first count))
-
--- the subpages of a range, up to one, whose count passes a test
-abbrev pub found_below : List ℕ → ℕ → (ℕ → Bool) → ℕ → ℕ → Bool
-found_below own first test end j = (nat_le first j && nat_lt j end) && test (get_or own j 0)
-
--- one more subpage, whose count passes
-pub found_more : (own : List ℕ) (first : ℕ) (test : ℕ → Bool) (i : ℕ) → first ≤ i → i < 512 → test (get_or own i 0) ≡ true →
-    set (set_of (found_below own first test i)) i true ≡ set_of (found_below own first test (i + 1))
-found_more own first test i least below e =
-    set-set_of (found_below own first test i) (found_below own first test (i + 1)) i below (here i (test (get_or own i 0)) least e) (λ j other. there j (test (get_or own j 0)) other) where
-      here : (i : ℕ) (b : Bool) → first ≤ i → b ≡ true → ((nat_le first i && nat_lt i (i + 1)) && b) ≡ true
-      here i b least e = grind (arith, nat_tests)
-
-      there : (j : ℕ) (b : Bool) → j ≢ i → ((nat_le first j && nat_lt j i) && b) ≡ ((nat_le first j && nat_lt j (i + 1)) && b)
-      there j b other = ap (λ a. (nat_le first j && a) && b) (step j other) where
-        step : (j : ℕ) → j ≢ i → nat_lt j i ≡ nat_lt j (i + 1)
-        step j other = grind (arith, nat_tests)
-
--- one more subpage, whose count doesn't pass
-pub found_same : (own : List ℕ) (first : ℕ) (test : ℕ → Bool) (i : ℕ) → test (get_or own i 0) ≡ false →
-    set_of (found_below own first test i) ≡ set_of (found_below own first test (i + 1))
-found_same own first test i fails =
-    set_of-ext (found_below own first test i) (found_below own first test (i + 1))
-    (λ j below. elim (eqb_tells j i) [
-      | inl e ↦ there (nat_le first j && nat_lt j i) (nat_le first j && nat_lt j (i + 1)) (test (get_or own j 0)) (ap (λ k. test (get_or own k 0)) e.1 ∙ fails)
-      | inr e ↦ ap (λ a. (nat_le first j && a) && test (get_or own j 0)) (step j e.1)
-    ]) where
-      there : (a b c : Bool) → c ≡ false → (a && c) ≡ (b && c)
-      there true true c e = refl
-      there true false c e = e
-      there false true c e = sym e
-      there false false c e = refl
-
-      step : (j : ℕ) → j ≢ i → nat_lt j i ≡ nat_lt j (i + 1)
-      step j other = grind (arith, nat_tests)

@@ -1,5 +1,5 @@
 //! The own map counts of a page: tests and changes of a range, each a loop over a slice that the compiler vectorises.
-ghost use Rattle.std.specs.Prelude.{◌≡◌, ℕ, ◌+◌, ◌<◌, ◌≤◌, ◌&&◌, cond, not, true, length, nat_eq, slice_index, count_by};
+ghost use Rattle.std.specs.Prelude.{◌≡◌, ℕ, ◌+◌, ◌<◌, ◌≤◌, ◌&&◌, cond, true, length, nat_eq, slice_index, count_by};
 ghost use Rattle.std.specs.List.{list_any};
 ghost use Rattle.thp_model.specs.Sets.{covers, set_of};
 ghost use Rattle.thp_page.specs.Ranges.{some_count, count_in_range};
@@ -9,9 +9,6 @@ use thp_model::SubSet;
 // How many subpages the largest page has.
 pub(crate) const MOST_SUBPAGES: usize = 512;
 
-// How many counts are compared before a set of subpages grows.
-const PART: usize = 64;
-
 // Whether one of the counts is `n`. It looks at all of them, since a loop that ends early isn't vectorised.
 pub(crate) fn has_count(counts: &[u16], n: u16) -> bool
     ensures { result ≡ list_any (λ x. nat_eq x n) counts.now }
@@ -19,17 +16,6 @@ pub(crate) fn has_count(counts: &[u16], n: u16) -> bool
     let mut found = false;
     for count in counts {
         found |= *count == n;
-    }
-    found
-}
-
-// Whether one of the counts isn't `n`.
-fn has_other_count(counts: &[u16], n: u16) -> bool
-    ensures { result ≡ list_any (λ x. not (nat_eq x n)) counts.now }
-{
-    let mut found = false;
-    for count in counts {
-        found |= *count != n;
     }
     found
 }
@@ -87,14 +73,6 @@ pub(crate) fn range_has_count(
     has_count(&own[first..first + count], n)
 }
 
-// Whether a count of the range isn't `n`.
-fn range_has_other(own: &[u16; MOST_SUBPAGES], first: usize, count: usize, n: u16) -> bool
-    requires { first + count ≤ 512 }
-    ensures { result ≡ some_count own.now first count (λ x. not (nat_eq x n)) }
-{
-    has_other_count(&own[first..first + count], n)
-}
-
 // Adds `n` to each count of the range.
 pub(crate) fn add_to_range(own: &mut [u16; MOST_SUBPAGES], first: usize, count: usize, n: u16)
     requires inside { first + count ≤ 512 }
@@ -124,7 +102,7 @@ pub(crate) fn unmap_range(own: &mut [u16; MOST_SUBPAGES], first: usize, count: u
     take_one_from_each(&mut own[first..first + count])
 }
 
-// The subpages of the range whose count is `n`, part by part.
+// The subpages of the range whose count is `n`.
 pub(crate) fn subpages_with_count(
     own: &[u16; MOST_SUBPAGES],
     first: usize,
@@ -134,41 +112,5 @@ pub(crate) fn subpages_with_count(
     requires { first + count ≤ 512 }
     ensures { result ≡ set_of (λ i. covers first count i && nat_eq (slice_index own.now i) n) }
 {
-    let end = first + count;
-    let mut set = SubSet::empty();
-    let mut start = first;
-    while start < end {
-        let part = PART.min(end - start);
-        set = set.union(subpages_of_part(own, start, part, n));
-        start += part;
-    }
-    set
-}
-
-// The same of a part. Most parts have subpages that are all alike, and those are told by whole vectors.
-fn subpages_of_part(own: &[u16; MOST_SUBPAGES], first: usize, count: usize, n: u16) -> SubSet
-    requires { first + count ≤ 512 }
-    ensures { result ≡ set_of (λ i. covers first count i && nat_eq (slice_index own.now i) n) }
-{
-    if !range_has_count(own, first, count, n) {
-        SubSet::empty()
-    } else if !range_has_other(own, first, count, n) {
-        SubSet::range(first as u32, count as u32)
-    } else {
-        subpages_one_by_one(own, first, count, n)
-    }
-}
-
-// The same one by one.
-fn subpages_one_by_one(own: &[u16; MOST_SUBPAGES], first: usize, count: usize, n: u16) -> SubSet
-    requires { first + count ≤ 512 }
-    ensures { result ≡ set_of (λ i. covers first count i && nat_eq (slice_index own.now i) n) }
-{
-    let mut set = SubSet::empty();
-    for i in first..first + count {
-        if own[i] == n {
-            set.insert(i as u32);
-        }
-    }
-    set
+    SubSet::with_count(own, first as u32, count as u32, n)
 }

@@ -1,5 +1,5 @@
 //! One page: its map counts, its pins, whether it is split, and which of its subpages are zero-filled.
-ghost use Rattle.std.specs.Prelude.{◌≡◌, ℕ, ◌+◌, ◌<◌, ◌≤◌, Bool, true, false, not, ◌&&◌, ◌||◌, nat_eq, nat_lt, OnOk, OnErr, IfOk, Option, None};
+ghost use Rattle.std.specs.Prelude.{◌≡◌, ℕ, ◌+◌, ◌<◌, ◌≤◌, Bool, true, false, not, ◌&&◌, ◌||◌, nat_eq, nat_lt, length, OnOk, OnErr, IfOk, Option, None};
 ghost use Rattle.std.specs.Result.{result_err};
 ghost use Rattle.thp_model.specs.Pages.{size, own_at, total_at, zero_at, holds, used_set, has_use, zero_set, zero_count, is_worth, gives_frames, some_in_range, page_refusal, IsFresh, WholeMapped, WholeUnmapped, RangeMapped, RangeUnmapped, PmdSplit, Pinned, RangeWritten, RangeZeroed, PageSplit};
 ghost use Rattle.thp_model.specs.Sets.{set_of, has};
@@ -621,13 +621,13 @@ impl Page {
 
     // The subpages of a set but those whose frames the page's split gave back as zero-filled.
     fn without_given(&self, subpages: SubSet) -> SubSet
+        requires { length subpages ≡ 512 }
         ensures { result ≡ set_of (λ i. has subpages i && not (self.now.gave_zero && zero_at self.now i)) }
     {
-        let given = if self.gave_zero {
-            self.zero
+        if self.gave_zero {
+            subpages.difference(self.zero)
         } else {
-            SubSet::empty()
-        };
-        subpages.difference(given)
+            subpages
+        }
     }
 }

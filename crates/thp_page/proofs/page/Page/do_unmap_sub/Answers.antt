@@ -1,5 +1,6 @@
-use Rattle.std.proofs.Common.{◌≡◌, ◌+◌, ◌-◌, ◌≤◌, ◌&&◌, ◌||◌, ℕ, Bool, false, List, cond, get_or, nat_eq, nat_lt, None, refl, ap, ap₂, sym, ◌∙◌, arith, subst, ne_eqb}
+use Rattle.std.proofs.Common.{◌≡◌, ◌+◌, ◌-◌, ◌≤◌, ◌&&◌, ◌||◌, ℕ, Bool, false, List, cond, get_or, length, nat_eq, nat_lt, None, refl, ap, ap₂, sym, ◌∙◌, arith, subst, ne_eqb}
 use Rattle.thp_model.specs.Sets.{covers}
+use Rattle.thp_model.specs.Words.{length-set_of}
 use Rattle.thp_model.specs.Refusals as call
 use Rattle.thp_model.specs.Pages.{PageState, size, own_at, has_use, drops_use, partly_after, page_refusal, RangeUnmapped, IsPage}
 use Rattle.thp_page.specs.declared.page.Page.TheInside.{Inside}
@@ -60,6 +61,9 @@ overflow_sub-self c =
     let s : PageState = state_of c.self.inside in
     let facts = unmap_sub_allowed s 0 c.args.first c.args.count (allowed_as s _ (call.unmap_sub 0 c.args.first c.args.count) c.self.view_is c.requires) in
     omega (arith, counted s c.unmap_range-gone.new.own c.args.first c.args.count _ _ c.self.invariant.page.most_order facts.0 c.unmap_range-gone.ensures.taken c.self.invariant.mapped c.unmap_range-gone.ensures.ones)
+
+pub without_given-released-requires : goal.without_given-released-requires
+without_given-released-requires c = ap length c.subpages_with_count.ensures ∙ length-set_of _
 
 pub subpages_with_count-requires : goal.subpages_with_count-requires
 subpages_with_count-requires c =
