@@ -41,6 +41,32 @@ fn sets_of_two(rt: HostRuntime) {
 }
 
 #[test]
+fn subpages_with_a_count(rt: HostRuntime) {
+    let mut counts = [0; 512];
+    counts[0] = 7;
+    counts[63] = 7;
+    counts[64] = 7;
+    counts[200] = 7;
+    counts[511] = 7;
+    let sevens = SubSet::with_count(&counts, 0, 512, 7);
+    let ends = SubSet::range(0, 1).union(SubSet::range(511, 1));
+    let inner = SubSet::range(63, 2).union(SubSet::range(200, 1));
+    assert_eq!(rt; sevens, ends.union(inner));
+    assert_eq!(rt;
+        SubSet::with_count(&counts, 0, 512, 0),
+        SubSet::full(9).difference(sevens)
+    );
+    assert_eq!(rt; SubSet::with_count(&counts, 1, 510, 7), inner);
+    assert_eq!(rt; SubSet::with_count(&counts, 64, 1, 7), SubSet::range(64, 1));
+    assert_eq!(rt;
+        SubSet::with_count(&counts, 70, 10, 0),
+        SubSet::range(70, 10)
+    );
+    assert!(rt; SubSet::with_count(&counts, 65, 135, 7).is_empty());
+    assert!(rt; SubSet::with_count(&counts, 512, 0, 7).is_empty());
+}
+
+#[test]
 fn shapes(rt: HostRuntime) {
     let shape = Shape {
         blocks: 4096,
