@@ -95,7 +95,9 @@ impl Journal {
         self.events.try_reserve(count)
     }
 
-    // Records what a caller did, which fits, with what the event leaves unsaid.
+    // Records what a caller did, which fits, with what the event leaves unsaid. It is inlined, so that a caller who knows the
+    // kind of its event writes and counts that kind alone.
+    #[inline(always)]
     pub(crate) fn record(&mut self, caller: u32, what: What, unsaid: Unsaid)
         requires caller { caller < 64 }
         requires room { 0 < self.old.room }
@@ -175,7 +177,8 @@ impl Journal {
 }
 
 impl Tally {
-    // Counts one more event of a caller, by what its kind of event changes.
+    // Counts one more event of a caller, by what its kind of event changes. It is inlined with `record`.
+    #[inline(always)]
     fn count(&mut self, caller: u32, what: &What, unsaid: Unsaid)
         requires room { HasCountRoom self.old }
         requires joins { IfSome (joins_of caller what.now) (CanJoin self.old.flying) }
