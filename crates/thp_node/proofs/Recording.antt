@@ -1,8 +1,7 @@
 -- What a journal keeps: with no event, and with one more.
-use Rattle.std.proofs.Common.{◌≡◌, ℕ, zero, suc, ◌+◌, ◌*◌, ◌^◌, ◌<◌, ◌≤◌, Bool, true, false, cond, not, if◌then◌else◌, ◌||◌, List, [], ◌∷◌, ◌++◌, length, replicate, Option, Some, None, IfSome, slice_index_or, refl, ap, ap₂, sym, ◌∙◌, subst, arith, inl, inr}
+use Rattle.std.proofs.Common.{◌≡◌, ℕ, zero, suc, ◌+◌, ◌^◌, ◌<◌, ◌≤◌, Bool, true, false, cond, not, if◌then◌else◌, ◌||◌, List, [], ◌∷◌, ◌++◌, length, replicate, Option, Some, None, IfSome, slice_index_or, refl, ap, sym, ◌∙◌, arith}
 use Rattle.std.specs.Int.{from_bool}
-use Rattle.std.proofs.lemmas.Bool.{cases_lt}
-use Rattle.std.proofs.lemmas.List.{get_or_past, length_push}
+use Rattle.std.proofs.lemmas.List.{length_push}
 use Rattle.thp_model.specs.declared.events.Event.{Event}
 use Rattle.thp_model.specs.declared.events.What.{What}
 use Rattle.thp_model.specs.declared.events.What.TheVariants.{UnmapWhole, UnmapSub, SplitPmd, Unpin, Taken, Split, Used, Back, Dropped}
@@ -138,14 +137,14 @@ journal_push shape h c w u old new j f said a =
     let left : leaves_by c w u ≡ leaves_of h c w = ap (leaves_by c w) said ∙ leaves_told shape h c w in
     let pmds : pmds_by w u ≡ splits_pmds h w = ap (pmds_by w) said ∙ pmds_told shape h w in
     let under : from_bool (splits_as_underused w u) ≡ splits_underused shape h w =
-        ap (λ x. from_bool (splits_as_underused w x)) said ∙ underused_told shape h w in
+    ap (λ x. from_bool (splits_as_underused w x)) said ∙ underused_told shape h w in
     let split_page = counted is_page_split h c w _ _ (ap (λ (k : Counters). k.split_page) j.counters_are) a.split_page in
     let split_page_failed = counted is_failed_try h c w _ _ (ap (λ (k : Counters). k.split_page_failed) j.counters_are) a.split_page_failed in
     let deferred_split_page = counted queues h c w _ _ (ap (λ (k : Counters). k.deferred_split_page) j.counters_are) a.deferred_split_page in
     let underused_split_page : new.counters.underused_split_page ≡ thp_underused_split_page shape (h ++ e ∷ []) =
-        omega (arith, ap (λ (k : Counters). k.underused_split_page) j.counters_are, a.underused_split_page, under, thp_underused_split_page_push shape h e) in
+    omega (arith, ap (λ (k : Counters). k.underused_split_page) j.counters_are, a.underused_split_page, under, thp_underused_split_page_push shape h e) in
     let split_pmd : new.counters.split_pmd ≡ thp_split_pmd (h ++ e ∷ []) =
-        omega (arith, ap (λ (k : Counters). k.split_pmd) j.counters_are, a.split_pmd, pmds, thp_split_pmd_push h e) in
+    omega (arith, ap (λ (k : Counters). k.split_pmd) j.counters_are, a.split_pmd, pmds, thp_split_pmd_push h e) in
     record {
       has_shape = j.has_shape;
       legal = legal_push shape h e j.legal f;

@@ -188,13 +188,19 @@ impl Tally {
         match what {
             What::Alloc { .. } => self.next += 1,
             What::UnmapWhole {
-                outcome, released, ..
+                outcome,
+                released,
+                ..
             }
             | What::UnmapSub {
-                outcome, released, ..
+                outcome,
+                released,
+                ..
             }
             | What::Unpin {
-                outcome, released, ..
+                outcome,
+                released,
+                ..
             } => self.count_loss(*outcome, released, unsaid),
             What::SplitPmd { .. } => self.counters.split_pmd += 1,
             What::Taken { .. } => join(&mut self.flying, caller),

@@ -6,7 +6,7 @@ use Rattle.thp_node.proofs.journal.Journal.new.Goals as goal
 
 pub invariant_of-result : goal.invariant_of-result
 invariant_of-result c =
-    let P : List Event → Type 0 = λ h. 
+    let P : List Event → Type 0 = λ h.
     IsJournal c.args.shape h
     (record {
       next = 0;
