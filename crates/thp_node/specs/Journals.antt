@@ -1,5 +1,6 @@
 -- What the journal of a node keeps beside its events.
-use Rattle.std.specs.Prelude.{◌≡◌, ℕ, ◌*◌, ◌^◌, ◌≤◌, Bool, false, not, cond, nat_eq, length, List, slice_index_or, Option, Some, None, IfSome, ◌<◌}
+use Rattle.std.specs.Prelude.{◌≡◌, ℕ, ◌+◌, ◌*◌, ◌^◌, ◌≤◌, Bool, false, not, ◌||◌, cond, nat_eq, length, List, slice_index_or, Option, Some, None, IfSome, ◌<◌}
+use Rattle.std.specs.Int.{from_bool}
 use Rattle.thp_model.specs.declared.events.Outcome.{Outcome}
 use Rattle.thp_model.specs.declared.events.Outcome.TheVariants.{Freed}
 use Rattle.thp_model.specs.declared.events.What.{What}
@@ -8,14 +9,15 @@ use Rattle.thp_model.specs.declared.shape.Shape.{Shape}
 use Rattle.thp_model.specs.Sets.{set_size}
 use Rattle.thp_model.specs.Shapes.{IsShape}
 use Rattle.thp_model.specs.History.{History}
-use Rattle.thp_model.specs.Counts.{is_closed, allocations, whole}
+use Rattle.thp_model.specs.Counts.{is_closed, allocations, is_alloc, closes, whole}
 use Rattle.thp_model.specs.Underused.{is_partly_mapped}
-use Rattle.thp_model.specs.Counters.{thp_split_page, thp_split_page_failed, thp_deferred_split_page, thp_split_pmd, thp_underused_split_page}
+use Rattle.thp_model.specs.Counters.{is_page_split, is_failed_try, queues, thp_split_page, thp_split_page_failed, thp_deferred_split_page, thp_split_pmd, thp_underused_split_page}
 use Rattle.thp_model.specs.Frames.{frames_given}
 use Rattle.thp_model.specs.Places.{flights, flight}
 use Rattle.thp_model.specs.Legal.{IsLegal}
 use Rattle.thp_places.specs.Homes.{flier}
 use Rattle.thp_node.specs.declared.answers.Counters.{Counters}
+use Rattle.thp_node.specs.declared.journal.Tally.{Tally}
 use Rattle.thp_node.specs.declared.journal.Unsaid.{Unsaid}
 use Rattle.thp_node.specs.declared.journal.Unsaid.TheVariants.{Nothing, FreedFrom, OfSplit}
 
@@ -36,15 +38,15 @@ counters_of s h = record {
 }
 
 -- the journal is legal, and the numbers beside it are what its events say
-pub record IsJournal (shape : Shape) (h : History) (next : ℕ) (closed : Bool) (flying : List ℕ) (given : ℕ) (counters : Counters) : Type 0 where
+pub record IsJournal (shape : Shape) (h : History) (t : Tally) : Type 0 where
   pub has_shape : IsShape shape
   pub legal : IsLegal shape h
-  pub next_is : next ≡ allocations h
-  pub closed_is : closed ≡ is_closed h
+  pub next_is : t.next ≡ allocations h
+  pub closed_is : t.closed ≡ is_closed h
   -- also past the 64 callers, who have no page in flight
-  pub flying_are : (c : ℕ) → slice_index_or flying c 0 ≡ length (flight h c)
-  pub given_is : given ≡ frames_given h
-  pub counters_are : counters ≡ counters_of shape h
+  pub flying_are : (c : ℕ) → slice_index_or t.flying c 0 ≡ length (flight h c)
+  pub given_is : t.frames_given ≡ frames_given h
+  pub counters_are : t.counters ≡ counters_of shape h
   -- each event splits fewer than 2 ^ 32
   pub few_split_pmds : thp_split_pmd h ≤ 2 ^ 32 * length h
   pub few_underused : thp_underused_split_page shape h ≤ length h
@@ -73,25 +75,41 @@ unsaid_of s h (Unpin outcome p set) = FreedFrom (left_by h p outcome)
 unsaid_of s h (Split p set) = OfSplit (whole h p) (is_partly_mapped s h p)
 unsaid_of s h _ = Nothing
 
+-- what is unsaid: out of whose flight an event freed its page, how many PMD mappings the page had that it split, and whether
+-- that page was underused
+abbrev pub freed_from : Unsaid → Option ℕ
+freed_from (FreedFrom flier) = flier
+freed_from u = None
+
+abbrev pub mappings_of : Unsaid → ℕ
+mappings_of (OfSplit n partly) = n
+mappings_of u = 0
+
+abbrev pub is_underused : Unsaid → Bool
+is_underused (OfSplit n partly) = not partly
+is_underused u = false
+
 -- the caller whose flight a page leaves by what caller c does, told of what is unsaid
 abbrev pub leaves_by : ℕ → What → Unsaid → Option ℕ
-leaves_by c w (FreedFrom flier) = flier
-leaves_by c w (OfSplit n partly) = Some c
-leaves_by c (Used p) Nothing = Some c
-leaves_by c (Back p) Nothing = Some c
-leaves_by c (Dropped p) Nothing = Some c
-leaves_by c w Nothing = None
+leaves_by c (UnmapWhole outcome p set) u = freed_from u
+leaves_by c (UnmapSub outcome p first count set) u = freed_from u
+leaves_by c (Unpin outcome p set) u = freed_from u
+leaves_by c (Split p set) u = Some c
+leaves_by c (Used p) u = Some c
+leaves_by c (Back p) u = Some c
+leaves_by c (Dropped p) u = Some c
+leaves_by c w u = None
 
 -- how many PMD mappings an event splits, told of what is unsaid
 abbrev pub pmds_by : What → Unsaid → ℕ
-pmds_by w (OfSplit n partly) = n
+pmds_by (Split p set) u = mappings_of u
 pmds_by (SplitPmd p) u = 1
 pmds_by w u = 0
 
 -- the event splits a page that isn't partly mapped, told of what is unsaid
-abbrev pub splits_as_underused : Unsaid → Bool
-splits_as_underused (OfSplit n partly) = not partly
-splits_as_underused u = false
+abbrev pub splits_as_underused : What → Unsaid → Bool
+splits_as_underused (Split p set) u = is_underused u
+splits_as_underused w u = false
 
 -- the caller whose flight a page joins by what caller c does
 abbrev pub joins_of : ℕ → What → Option ℕ
@@ -114,3 +132,38 @@ frames_of (UnmapSub outcome p first count set) = set_size set
 frames_of (Unpin outcome p set) = set_size set
 frames_of (Split p set) = set_size set
 frames_of _ = 0
+
+-- a page can join the flight of caller c, or leave it, by the counts of pages in flight
+abbrev pub CanJoin : List ℕ → ℕ → Type 0
+CanJoin flying c = (c < 64) × (slice_index_or flying c 0 + 1 < 2 ^ 8)
+
+abbrev pub CanLeave : List ℕ → ℕ → Type 0
+CanLeave flying c = 0 < slice_index_or flying c 0
+
+-- a page joined the flight of one caller, and a page left that of another, where there are such
+abbrev pub Moves : List ℕ → List ℕ → Option ℕ → Option ℕ → Type 0
+Moves old new joins leaves = (c : ℕ) → slice_index_or new c 0 + one_for leaves c ≡ slice_index_or old c 0 + one_for joins c
+
+-- the numbers have room for what an event can add to them
+pub record HasCountRoom (t : Tally) : Type 0 where
+  pub next : t.next + 1 < 2 ^ 64
+  pub frames_given : t.frames_given + 2 ^ 32 < 2 ^ 128
+  pub split_page : t.counters.split_page + 1 < 2 ^ 64
+  pub split_page_failed : t.counters.split_page_failed + 1 < 2 ^ 64
+  pub deferred_split_page : t.counters.deferred_split_page + 1 < 2 ^ 64
+  pub underused_split_page : t.counters.underused_split_page + 1 < 2 ^ 64
+  pub split_pmd : t.counters.split_pmd + 2 ^ 32 < 2 ^ 128
+
+-- what an event of caller c adds to the numbers
+pub record Counts (old new : Tally) (c : ℕ) (w : What) (u : Unsaid) : Type 0 where
+  pub next : new.next ≡ old.next + from_bool (is_alloc w)
+  pub closed : new.closed ≡ (old.closed || closes w)
+  pub flying : Moves old.flying new.flying (joins_of c w) (leaves_by c w u)
+  pub frames_given : new.frames_given ≡ old.frames_given + frames_of w
+  pub split_page : new.counters.split_page ≡ old.counters.split_page + from_bool (is_page_split w)
+  pub split_page_failed : new.counters.split_page_failed ≡ old.counters.split_page_failed + from_bool (is_failed_try w)
+  pub deferred_split_page : new.counters.deferred_split_page ≡ old.counters.deferred_split_page + from_bool (queues w)
+  pub underused_split_page : new.counters.underused_split_page ≡ old.counters.underused_split_page + from_bool (splits_as_underused w u)
+  pub split_pmd : new.counters.split_pmd ≡ old.counters.split_pmd + pmds_by w u
+  -- so few that their sum stays low
+  pub few_split_pmds : pmds_by w u < 2 ^ 32

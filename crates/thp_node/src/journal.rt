@@ -1,18 +1,19 @@
 //! The journal of a node, and the numbers that are kept beside it.
-ghost use Rattle.std.specs.Prelude.{◌≡◌, ℕ, ◌+◌, ◌<◌, ◌≤◌, [], ◌∷◌, ◌++◌, ◌^◌, length, slice_index_or, OnOk, OnErr, IfSome};
+ghost use Rattle.std.specs.Prelude.{◌≡◌, ℕ, ◌+◌, ◌<◌, ◌≤◌, [], ◌∷◌, ◌++◌, ◌^◌, length, OnOk, OnErr, IfSome, None, Some, not};
+ghost use Rattle.std.specs.Int.{from_bool};
 ghost use Rattle.thp_model.specs.History.{by};
 ghost use Rattle.thp_model.specs.Shapes.{IsShape};
-ghost use Rattle.thp_model.specs.Counts.{allocations, is_closed, is_alloc, closes};
-ghost use Rattle.thp_model.specs.Counters.{is_page_split, is_failed_try, queues};
+ghost use Rattle.thp_model.specs.Sets.{set_size};
+ghost use Rattle.thp_model.specs.Counts.{allocations, is_closed, is_queued};
 ghost use Rattle.thp_model.specs.Frames.{frames_given, frames_held};
 ghost use Rattle.thp_model.specs.Places.{flight};
 ghost use Rattle.thp_model.specs.Legal.{IsLegal, Fits};
-ghost use Rattle.thp_node.specs.Journals.{HasFlightRoom, unsaid_of, leaves_by, pmds_by, splits_as_underused, joins_of, one_for, counters_of, frames_of};
+ghost use Rattle.thp_node.specs.Journals.{HasFlightRoom, unsaid_of, leaves_by, joins_of, counters_of, HasCountRoom, CanJoin, CanLeave, Moves, Counts, freed_from, mappings_of, is_underused};
 
 use crate::answers::Counters;
 use std::alloc::{AllocError, Global};
 use std::marker::Model;
-use thp_model::{Event, Outcome, Shape, What};
+use thp_model::{Event, Outcome, Shape, SubSet, What};
 
 // What an event does that it doesn't say itself.
 #[derive(Clone, Copy)]
@@ -30,6 +31,12 @@ pub(crate) enum Unsaid {
 pub(crate) struct Journal {
     shape: Shape,
     events: Vec<Event>,
+    tally: Tally,
+}
+
+// The numbers of a journal's events.
+#[derive(Drop)]
+struct Tally {
     // how many pages were allocated: the next page's number
     next: u64,
     closed: bool,
@@ -47,7 +54,7 @@ impl Model for Journal {
 
     ghost view = { λ j. record { shape = j.shape; events = j.events.items; room = vec_capacity j.events - vec_len j.events } };
 
-    ghost invariant = { λ j. IsJournal j.shape j.events.items j.next j.closed j.flying j.frames_given j.counters };
+    ghost invariant = { λ j. IsJournal j.shape j.events.items j.tally };
 }
 
 impl Journal {
@@ -60,16 +67,18 @@ impl Journal {
         Journal {
             shape,
             events: Vec::new(alloc),
-            next: 0,
-            closed: false,
-            flying: [0; 64],
-            frames_given: 0,
-            counters: Counters {
-                split_page: 0,
-                split_page_failed: 0,
-                deferred_split_page: 0,
-                underused_split_page: 0,
-                split_pmd: 0,
+            tally: Tally {
+                next: 0,
+                closed: false,
+                flying: [0; 64],
+                frames_given: 0,
+                counters: Counters {
+                    split_page: 0,
+                    split_page_failed: 0,
+                    deferred_split_page: 0,
+                    underused_split_page: 0,
+                    split_pmd: 0,
+                },
             },
         }
     }
@@ -86,7 +95,9 @@ impl Journal {
         self.events.try_reserve(count)
     }
 
-    // Records what a caller did, which fits, with what the event leaves unsaid.
+    // Records what a caller did, which fits, with what the event leaves unsaid. It is inlined, so that a caller who knows the
+    // kind of its event writes and counts that kind alone.
+    #[inline(always)]
     pub(crate) fn record(&mut self, caller: u32, what: What, unsaid: Unsaid)
         requires caller { caller < 64 }
         requires room { 0 < self.old.room }
@@ -99,18 +110,9 @@ impl Journal {
         ensures legal { IsLegal self.new.shape self.new.events }
     {
         self.events.push_reserved(Event { caller, what });
-        // Tells the proof that the number of events, and with it each of the numbers below, is bounded.
+        // Tells the proof that the number of events, and with it each of the numbers of the tally, is bounded.
         let _events = self.events.as_slice().len();
-        self.next += u64::from(allocates(&what));
-        self.closed |= is_close(&what);
-        self.frames_given += u128::from(frames(&what));
-        self.counters.split_page += u64::from(is_split(&what));
-        self.counters.split_page_failed += u64::from(is_pinned(&what));
-        self.counters.deferred_split_page += u64::from(is_queued(&what));
-        self.counters.underused_split_page += u64::from(is_underused_split(unsaid));
-        self.counters.split_pmd += u128::from(split_pmds(&what, unsaid));
-        let left = leaves(caller, &what, unsaid);
-        count_moves(&mut self.flying, joins(caller, &what), left);
+        self.tally.count(caller, &what, unsaid);
     }
 
     // The shape of the node.
@@ -134,14 +136,14 @@ impl Journal {
     pub(crate) fn next(&self) -> u64
         ensures { result ≡ allocations self.now.events }
     {
-        self.next
+        self.tally.next
     }
 
     // Whether the node is closed.
     pub(crate) fn is_closed(&self) -> bool
         ensures { result ≡ is_closed self.now.events }
     {
-        self.closed
+        self.tally.closed
     }
 
     // How many pages a caller has in flight.
@@ -149,139 +151,147 @@ impl Journal {
         requires { caller < 64 }
         ensures { result ≡ length (flight self.now.events caller) }
     {
-        u64::from(self.flying[caller as usize])
+        u64::from(self.tally.flying[caller as usize])
     }
 
     // How many frames were given back.
     pub(crate) fn frames_given(&self) -> u128
         ensures { result ≡ frames_given self.now.events }
     {
-        self.frames_given
+        self.tally.frames_given
     }
 
     // How many frames the live pages hold: those of all pages ever allocated, but for those given back.
     pub(crate) fn frames_held(&self) -> u128
         ensures { result ≡ frames_held self.now.shape self.now.events }
     {
-        u128::from(self.shape.subpages()) * u128::from(self.next) - self.frames_given
+        u128::from(self.shape.subpages()) * u128::from(self.tally.next) - self.tally.frames_given
     }
 
     // The statistics.
     pub(crate) fn counters(&self) -> Counters
         ensures { result ≡ counters_of self.now.shape self.now.events }
     {
-        self.counters
+        self.tally.counters
     }
 }
 
-fn allocates(what: &What) -> bool
-    ensures { result ≡ is_alloc what.now }
-{
-    matches!(what, What::Alloc { .. })
-}
-
-fn is_close(what: &What) -> bool
-    ensures { result ≡ closes what.now }
-{
-    matches!(what, What::Close)
-}
-
-// How many frames the event gave back.
-fn frames(what: &What) -> u32
-    ensures { result ≡ frames_of what.now }
-{
-    match what {
-        What::UnmapWhole { released, .. }
-        | What::UnmapSub { released, .. }
-        | What::Unpin { released, .. }
-        | What::Split { released, .. } => released.count(),
-        _ => 0,
-    }
-}
-
-fn is_split(what: &What) -> bool
-    ensures { result ≡ is_page_split what.now }
-{
-    matches!(what, What::Split { .. })
-}
-
-fn is_pinned(what: &What) -> bool
-    ensures { result ≡ is_failed_try what.now }
-{
-    matches!(what, What::Pinned { .. })
-}
-
-// Whether the event's outcome is that its page was queued.
-fn is_queued(what: &What) -> bool
-    ensures { result ≡ queues what.now }
-{
-    matches!(
-        what,
-        What::UnmapWhole {
-            outcome: Outcome::Queued,
-            ..
-        } | What::UnmapSub {
-            outcome: Outcome::Queued,
-            ..
-        } | What::Unpin {
-            outcome: Outcome::Queued,
-            ..
+impl Tally {
+    // Counts one more event of a caller, by what its kind of event changes. It is inlined with `record`.
+    #[inline(always)]
+    fn count(&mut self, caller: u32, what: &What, unsaid: Unsaid)
+        requires room { HasCountRoom self.old }
+        requires joins { IfSome (joins_of caller what.now) (CanJoin self.old.flying) }
+        requires leaves { IfSome (leaves_by caller what.now unsaid) (CanLeave self.old.flying) }
+        ensures { Counts self.old self.new caller what.now unsaid }
+    {
+        match what {
+            What::Alloc { .. } => self.next += 1,
+            What::UnmapWhole {
+                outcome,
+                released,
+                ..
+            }
+            | What::UnmapSub {
+                outcome,
+                released,
+                ..
+            }
+            | What::Unpin {
+                outcome,
+                released,
+                ..
+            } => self.count_loss(*outcome, released, unsaid),
+            What::SplitPmd { .. } => self.counters.split_pmd += 1,
+            What::Taken { .. } => join(&mut self.flying, caller),
+            What::Split { released, .. } => self.count_split(caller, released, unsaid),
+            What::Pinned { .. } => self.counters.split_page_failed += 1,
+            What::Used { .. } | What::Back { .. } | What::Dropped { .. } => {
+                leave(&mut self.flying, Some(caller));
+            }
+            What::Close => self.closed = true,
+            _ => {}
         }
-    )
-}
+    }
 
-// Whether the event splits a page that isn't partly mapped.
-fn is_underused_split(unsaid: Unsaid) -> bool
-    ensures { result ≡ splits_as_underused unsaid }
-{
-    matches!(unsaid, Unsaid::OfSplit { partly: false, .. })
-}
+    // Counts an unmap or an unpin.
+    fn count_loss(&mut self, outcome: Outcome, released: &SubSet, unsaid: Unsaid)
+        requires room { HasCountRoom self.old }
+        requires leaves { IfSome (freed_from unsaid) (CanLeave self.old.flying) }
+        ensures flying { Moves self.old.flying self.new.flying None (freed_from unsaid) }
+        ensures numbers { self.new ≡ record self.old { flying = self.new.flying; frames_given = self.old.frames_given + set_size released.now; counters = record self.old.counters { deferred_split_page = self.old.counters.deferred_split_page + from_bool (is_queued outcome) } } }
+    {
+        self.frames_given += u128::from(released.count());
+        self.counters.deferred_split_page += u64::from(is_queued(outcome));
+        leave(&mut self.flying, unsaid.freed_from());
+    }
 
-// How many PMD mappings the event splits.
-fn split_pmds(what: &What, unsaid: Unsaid) -> u32
-    ensures value { result ≡ pmds_by what.now unsaid }
-    ensures small { result < 2 ^ 32 }
-{
-    match unsaid {
-        Unsaid::OfSplit { mappings, .. } => mappings,
-        _ => u32::from(matches!(what, What::SplitPmd { .. })),
+    // Counts the split of a page in a caller's flight.
+    fn count_split(&mut self, caller: u32, released: &SubSet, unsaid: Unsaid)
+        requires room { HasCountRoom self.old }
+        requires leaves { CanLeave self.old.flying caller }
+        ensures flying { Moves self.old.flying self.new.flying None (Some caller) }
+        ensures few { mappings_of unsaid < 2 ^ 32 }
+        ensures numbers { self.new ≡ record self.old { flying = self.new.flying; frames_given = self.old.frames_given + set_size released.now; counters = record self.old.counters { split_page = self.old.counters.split_page + 1; underused_split_page = self.old.counters.underused_split_page + from_bool (is_underused unsaid); split_pmd = self.old.counters.split_pmd + mappings_of unsaid } } }
+    {
+        self.frames_given += u128::from(released.count());
+        self.counters.split_page += 1;
+        self.counters.underused_split_page += u64::from(unsaid.is_underused());
+        self.counters.split_pmd += u128::from(unsaid.mappings());
+        leave(&mut self.flying, Some(caller));
     }
 }
 
-// The caller whose flight the event's page leaves.
-fn leaves(caller: u32, what: &What, unsaid: Unsaid) -> Option<u32>
-    ensures { result ≡ leaves_by caller what.now unsaid }
-{
-    match unsaid {
-        Unsaid::FreedFrom(flier) => flier,
-        Unsaid::OfSplit { .. } => Some(caller),
-        Unsaid::Nothing => match what {
-            What::Used { .. } | What::Back { .. } | What::Dropped { .. } => Some(caller),
+impl Unsaid {
+    // Out of whose flight, if any, the event freed its page.
+    fn freed_from(self) -> Option<u32>
+        ensures { result ≡ freed_from self }
+    {
+        match self {
+            Unsaid::FreedFrom(flier) => flier,
             _ => None,
-        },
+        }
+    }
+
+    // How many PMD mappings a page had that the event split.
+    fn mappings(self) -> u32
+        ensures value { result ≡ mappings_of self }
+        ensures few { result < 2 ^ 32 }
+    {
+        match self {
+            Unsaid::OfSplit { mappings, .. } => mappings,
+            _ => 0,
+        }
+    }
+
+    // Whether the event split a page that isn't partly mapped.
+    fn is_underused(self) -> bool
+        ensures { result ≡ is_underused self }
+    {
+        matches!(self, Unsaid::OfSplit { partly: false, .. })
     }
 }
 
-// The caller whose flight the event's page joins.
-fn joins(caller: u32, what: &What) -> Option<u32>
-    ensures { result ≡ joins_of caller what.now }
+// Counts a page that joins a caller's flight.
+fn join(flying: &mut [u8; 64], caller: u32)
+    requires { CanJoin flying.old caller }
+    ensures { Moves flying.old flying.new (Some caller) None }
 {
-    match what {
-        What::Taken { .. } => Some(caller),
-        _ => None,
+    flying[caller as usize] += 1;
+}
+
+// Counts a page that leaves the flight of a caller, if there is one.
+fn leave(flying: &mut [u8; 64], flier: Option<u32>)
+    requires { IfSome flier (CanLeave flying.old) }
+    ensures { Moves flying.old flying.new None flier }
+{
+    if let Some(caller) = flier {
+        flying[caller as usize] -= 1;
     }
 }
 
-// Counts a page that joins the flight of one caller, and a page that leaves that of another, where there are such.
-fn count_moves(flying: &mut [u8; 64], joins: Option<u32>, leaves: Option<u32>)
-    requires joins { IfSome joins (λ c. (c < 64) × (slice_index_or flying.old c 0 + 1 < 2 ^ 8)) }
-    requires leaves { IfSome leaves (λ c. (c < 64) × (0 < slice_index_or flying.old c 0)) }
-    ensures { (c : ℕ) → slice_index_or flying.new c 0 + one_for leaves c ≡ slice_index_or flying.old c 0 + one_for joins c }
+fn is_queued(outcome: Outcome) -> bool
+    ensures { result ≡ is_queued outcome }
 {
-    if let Some(taker) = joins {
-        flying[taker as usize] += 1;
-    }
-    if let Some(flier) = leaves {
-        flying[flier as usize] -= 1;
-    }
+    matches!(outcome, Outcome::Queued)
 }

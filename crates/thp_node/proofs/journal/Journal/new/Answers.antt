@@ -6,5 +6,13 @@ use Rattle.thp_node.proofs.journal.Journal.new.Goals as goal
 
 pub invariant_of-result : goal.invariant_of-result
 invariant_of-result c =
-    let P : List Event → Type 0 = λ h. IsJournal c.args.shape h 0 false (replicate 64 0) 0 (record { split_page = 0; split_page_failed = 0; deferred_split_page = 0; underused_split_page = 0; split_pmd = 0 }) in
+    let P : List Event → Type 0 = λ h.
+    IsJournal c.args.shape h
+    (record {
+      next = 0;
+      closed = false;
+      flying = replicate 64 0;
+      frames_given = 0;
+      counters = record { split_page = 0; split_page_failed = 0; deferred_split_page = 0; underused_split_page = 0; split_pmd = 0 };
+    }) in
     subst P (sym c.new.ensures.items) (journal_none c.args.shape c.requires)
