@@ -53,6 +53,8 @@ impl SubSet {
     }
 
     /// The set of every subpage of a page of this order.
+    // out of line: where a branch alone wants it, LLVM would work it out before the branch
+    #[inline(never)]
     pub fn full(order: u32) -> SubSet
         requires { order ≤ 9 }
         ensures { result ≡ set_of (λ i. nat_lt i (2 ^ order)) }

@@ -55,6 +55,7 @@ pub struct Done {
 
 impl PageCall {
     // Why a page would refuse the call, if it would.
+    #[inline(always)]
     pub(crate) fn refusal(self, page: &Page) -> Option<Refusal>
         ensures { (p : ℕ) → result ≡ page_refusal page.now (page_call self p) }
     {
@@ -74,6 +75,7 @@ impl PageCall {
 
 impl Gain {
     // Does it to a page that doesn't refuse it.
+    #[inline(always)]
     pub(crate) fn apply(self, page: &mut Page)
         requires { page_refusal page.old (gain_call self 0) ≡ None }
         ensures { Gains self page.old page.new }
@@ -89,6 +91,7 @@ impl Gain {
     }
 
     /// The event of a page that gained this.
+    #[inline(always)]
     pub fn what(self, page: PageId) -> What
         ensures { result ≡ gain_what self page }
     {
@@ -116,6 +119,7 @@ impl Gain {
 impl Loss {
     // Does it to a page that doesn't refuse it and that stands there, on a node that is closed or not. Answers what becomes
     // of the page, and the frames given back.
+    #[inline(always)]
     pub(crate) fn apply(self, page: &mut Page, standing: Standing, closed: bool) -> Done
         requires { page_refusal page.old (loss_call self 0) ≡ None }
         ensures page { Loses self page.old page.new }
@@ -129,6 +133,7 @@ impl Loss {
     }
 
     // Takes the mappings or the pin.
+    #[inline(always)]
     fn take(self, page: &mut Page) -> Change
         requires { page_refusal page.old (loss_call self 0) ≡ None }
         ensures page { Loses self page.old page.new }
@@ -142,6 +147,7 @@ impl Loss {
     }
 
     /// The event of a page that lost this.
+    #[inline(always)]
     pub fn what(self, page: PageId, done: &Done) -> What
         ensures { result ≡ loss_what self page done.now.outcome done.now.released }
     {

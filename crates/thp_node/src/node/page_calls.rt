@@ -144,7 +144,9 @@ impl Node {
         self.gain(caller, page, Gain::Zero { first, count })
     }
 
-    // A call that gives a page mappings or a pin, or fills subpages of it.
+    // A call that gives a page mappings or a pin, or fills subpages of it. It is inlined, as `lose` is, so that each call does
+    // its own kind alone.
+    #[inline(always)]
     fn gain(&mut self, caller: u32, page: PageId, gain: Gain) -> Result<(), Refusal>
         requires { caller < 64 }
         ensures allowed { OnOk result (refusal self.old.shape self.old.journal (gain_call gain page) ≡ None) }
@@ -160,6 +162,7 @@ impl Node {
     }
 
     // A call that takes mappings or a pin from a page.
+    #[inline(always)]
     fn lose(&mut self, caller: u32, page: PageId, loss: Loss) -> Result<Done, Refusal>
         requires { caller < 64 }
         ensures allowed { OnOk result (refusal self.old.shape self.old.journal (loss_call loss page) ≡ None) }
@@ -178,6 +181,7 @@ impl Node {
     }
 
     // The block of a page of which a call may be made, with room in the journal for its event; or why it is refused.
+    #[inline(always)]
     fn admit(&mut self, page: PageId, call: PageCall) -> Result<u32, Refusal>
         ensures block { IfOk result (λ b. block_of self.old.journal page ≡ Some b) }
         ensures allowed { OnOk result (refusal self.old.shape self.old.journal (page_call call page) ≡ None) }
