@@ -1,24 +1,26 @@
 -- Commands, one after another, and the put-backs at a section's end.
 use Rattle.std.proofs.Common.{◌≡◌, ◌∙◌, ◌⊎◌, ◌++◌, ◌+◌, ◌-◌, ◌<◌, ◌≤◌, ap, ℕ, zero, suc, Bool, true, false, List, [], ◌∷◌, length, take, map, refl, sym, subst, inl, inr, arith, append_assoc, length-append, Option, Some, None, Ok, Err}
-use Rattle.std.specs.Prelude.{slice_get, Result, IfOk}
-use Rattle.std.specs.declared.alloc.AllocError.{AllocError}
+use Rattle.std.specs.Prelude.{slice_get, Result}
 use Rattle.std.proofs.lemmas.List.{append-nil, map-append, length-map, take_all}
 use Rattle.std.proofs.lemmas.Bool.{cases_lt}
 use Rattle.std.proofs.lemmas.Option.{slice_get_past}
 use Rattle.std.proofs.lemmas.Grind.{flat_map-append}
 use Rattle.std.proofs.lemmas.List.Elements.{All-nil, All-push, All-append}
+use Rattle.thp_cell.specs.declared.fault.CellFault.{CellFault}
+use Rattle.thp_cell.specs.declared.fault.CellFault.TheVariants.{Busy, Refused}
+use Rattle.thp_model.specs.declared.refusal.Refusal.{Refusal}
+use Rattle.thp_model.specs.declared.refusal.Refusal.TheVariants as why
 use Rattle.thp_text.specs.declared.script.Command.{Command}
 use Rattle.thp_text.specs.declared.script.Op.{Op}
 use Rattle.thp_text.specs.declared.script.Op.TheVariants as op
 use Rattle.thp_work.specs.declared.reply.Answer.{Answer}
+use Rattle.thp_work.specs.declared.reply.Reply.{Reply}
 use Rattle.thp_work.specs.declared.reply.Rest.{Rest}
 use Rattle.thp_work.specs.declared.scanning.Begun.{Begun}
-use Rattle.thp_work.specs.declared.scanning.Progress.{Progress}
-use Rattle.thp_work.specs.declared.scanning.Progress.TheVariants.{On, Ended}
 use Rattle.thp_work.specs.Logs.{LogState}
 use Rattle.thp_work.specs.Does.{Open, Reaction}
 use Rattle.thp_work.specs.Fronts.{Fronts, Goes}
-use Rattle.thp_work.specs.Turns.{Told, IsBegun, TurnsOut, first_begun}
+use Rattle.thp_work.specs.Turns.{Progress, On, Ended, Comes, Told, IsBegun, TurnsOut, first_begun}
 use Rattle.thp_work.specs.Sections.{Made, Steps, Proceeds, told_by, Turn, IsTurn, command_of, steps_of, batches_after, is_open, put_back_on, closing_from, closing, answers_from, IsBegunOn, IsNext, Begins, Ends, PutsBack, Works, begun_of}
 use Rattle.thp_work.proofs.StepLaws.{steps_none, steps_then, goes_grows, grows_refl, grows_trans, batches_elsewhere, closed_by}
 
@@ -242,9 +244,22 @@ puts_back c n old new (On more) p =
     not_scan : (k : ℕ) → op.PutBack ≡ op.Scan k → ⊥
     not_scan k e = cc
 
-pub puts_back_ok : (c n : ℕ) (old new : Fronts) (r : Result Progress AllocError) → IfOk r (Proceeds c (put_back_on n) first_begun old new) → IfOk r (PutsBack c n old new)
-puts_back_ok c n old new (Ok p) h = puts_back c n old new p h
-puts_back_ok c n old new (Err e) h = h
+pub puts_back_comes : (c n : ℕ) (old new : Fronts) (begun : Begun) (r : Result Reply CellFault) → Comes begun r (Proceeds c (put_back_on n) first_begun old new) → Comes first_begun r (PutsBack c n old new)
+puts_back_comes c n old new begun (Ok reply) p = puts_back c n old new (Ended (Ok reply)) p
+puts_back_comes c n old new begun (Err Busy) p = puts_back c n old new (On begun) p
+puts_back_comes c n old new begun (Err (Refused r)) p = by_reason r p where
+  by_reason : (r : Refusal) → Comes begun (Err (Refused r)) (Proceeds c (put_back_on n) first_begun old new) → Comes first_begun (Err (Refused r)) (PutsBack c n old new)
+  by_reason why.OutOfMemory p = tt
+  by_reason why.NoPage p = puts_back c n old new (Ended (Err why.NoPage)) p
+  by_reason why.BadRange p = puts_back c n old new (Ended (Err why.BadRange)) p
+  by_reason why.IsSplit p = puts_back c n old new (Ended (Err why.IsSplit)) p
+  by_reason why.NotMapped p = puts_back c n old new (Ended (Err why.NotMapped)) p
+  by_reason why.Gone p = puts_back c n old new (Ended (Err why.Gone)) p
+  by_reason why.NotPinned p = puts_back c n old new (Ended (Err why.NotPinned)) p
+  by_reason why.TooMany p = puts_back c n old new (Ended (Err why.TooMany)) p
+  by_reason why.Closed p = puts_back c n old new (Ended (Err why.Closed)) p
+  by_reason why.NoBlock p = puts_back c n old new (Ended (Err why.NoBlock)) p
+  by_reason why.HasBatch p = puts_back c n old new (Ended (Err why.HasBatch)) p
 
 module _ (c n : ℕ) (old mid : Fronts) (commands : List Command) (answers : List Answer) (back : ℕ) (e : Ends c old mid commands answers back) (lt : n < old.nodes) (below : (k : ℕ) → k < n → mid.batches c k ≡ None) (opened : is_open (mid.batches c n) ≡ true) where
   -- there are no more put-backs than nodes

@@ -27,10 +27,8 @@ use Rattle.thp_work.specs.declared.steps.Step.{Step}
 use Rattle.thp_work.specs.declared.steps.Step.TheVariants.{Take, SplitNext, PutBack}
 use Rattle.thp_work.specs.declared.reply.Reply.TheVariants as reply
 use Rattle.thp_work.specs.declared.scanning.Begun.{Begun}
-use Rattle.thp_work.specs.declared.scanning.Progress.{Progress}
-use Rattle.thp_work.specs.declared.scanning.Progress.TheVariants.{On, Ended}
 use Rattle.thp_work.specs.Does.{Open, Reaction, Does, Unless, IsStep, IsFit}
-use Rattle.thp_work.specs.Turns.{Told, Turned, IsBegun, StepReacts, Reacts, first_step, next_step, scan_step, goes_on, scan_goes_on, first_begun, counted, took, try_told, if_done, IsPage, is_split, is_pinned, is_used, tries_of, IsReady, StaysReady}
+use Rattle.thp_work.specs.Turns.{Progress, On, Ended, Told, Turned, IsBegun, StepReacts, Reacts, first_step, next_step, scan_step, goes_on, scan_goes_on, first_begun, counted, took, try_told, if_done, IsPage, is_split, is_pinned, is_used, tries_of, IsReady, StaysReady}
 
 abbrev steps_in : Progress → ℕ
 steps_in (On begun) = begun.steps

@@ -1,6 +1,9 @@
 -- The steps of a command, one after another, and its answer.
-use Rattle.std.specs.Prelude.{◌≡◌, ◌⊎◌, ℕ, ◌+◌, ◌≤◌, nat_eq, ⊤, Bool, true, false, List, [], ◌∷◌, ◌++◌, All, Option, Some, None, Ok, Err, length, map, filter, if◌then◌else◌}
+use Rattle.std.specs.Prelude.{◌≡◌, ◌⊎◌, ℕ, ◌+◌, ◌≤◌, nat_eq, ⊤, Bool, true, false, List, [], ◌∷◌, ◌++◌, All, Option, Some, None, Result, Ok, Err, length, map, filter, if◌then◌else◌}
+use Rattle.thp_cell.specs.declared.fault.CellFault.{CellFault}
+use Rattle.thp_cell.specs.declared.fault.CellFault.TheVariants.{Busy, Refused}
 use Rattle.thp_model.specs.declared.refusal.Refusal.{Refusal}
+use Rattle.thp_model.specs.declared.refusal.Refusal.TheVariants.{OutOfMemory}
 use Rattle.thp_node.specs.declared.answers.Tried.{Tried}
 use Rattle.thp_node.specs.declared.answers.Tried.TheVariants as tried
 use Rattle.thp_node.specs.declared.answers.BackReply.{BackReply}
@@ -9,12 +12,11 @@ use Rattle.thp_text.specs.declared.script.Op.{Op}
 use Rattle.thp_text.specs.declared.script.Op.TheVariants as op
 use Rattle.thp_work.specs.declared.steps.Step.{Step}
 use Rattle.thp_work.specs.declared.steps.Step.TheVariants.{One, Take, SplitNext, PutBack}
+use Rattle.thp_work.specs.declared.reply.Reply.{Reply}
 use Rattle.thp_work.specs.declared.reply.Reply.TheVariants as reply
 use Rattle.thp_work.specs.declared.scanning.Begun.{Begun}
-use Rattle.thp_work.specs.declared.scanning.Progress.{Progress}
-use Rattle.thp_work.specs.declared.scanning.Progress.TheVariants.{On, Ended}
 use Rattle.thp_work.specs.Does.{Open, Reaction}
-use Rattle.thp_work.specs.Fronts.{Fronts, HasAll, Answered, IsBusy}
+use Rattle.thp_work.specs.Fronts.{Fronts, HasAll}
 
 -- a step and its answer
 pub record Told : Type 0 where
@@ -106,6 +108,23 @@ pub record IsBegun (o : Op) (told : List Told) (begun : Begun) : Type 0 where
 
 -- ---- how the code goes from step to step
 
+-- a command that goes on, or its answer
+pub data Progress : Type 0 where
+  On : Begun → Progress
+  Ended : Reaction → Progress
+
+-- an answer as a cell gives it
+abbrev pub by_cell : Reaction → Result Reply CellFault
+by_cell (Ok reply) = Ok reply
+by_cell (Err why) = Err (Refused why)
+
+-- a command was answered, or goes on from `begun` since its node stayed busy; without memory nothing is said of it
+abbrev pub Comes : Begun → Result Reply CellFault → (Progress → Type 0) → Type 0
+Comes begun (Ok reply) P = P (Ended (Ok reply))
+Comes begun (Err Busy) P = P (On begun)
+Comes begun (Err (Refused OutOfMemory)) P = ⊤
+Comes begun (Err (Refused why)) P = P (Ended (Err why))
+
 -- how many pages a scan has tried
 abbrev pub tries_of : ScanReply → ℕ
 tries_of r = r.split + r.pinned + r.used
@@ -141,6 +160,11 @@ scan_goes_on begun (Ok (reply.Tried tried.Done)) = one_more begun begun.so_far
 scan_goes_on begun (Ok (reply.Back back)) = Ended (Ok (reply.Scan (record begun.so_far { back = back.back; dropped = back.dropped })))
 scan_goes_on begun answer = Ended answer
 
+-- a command of many steps
+abbrev pub is_scan : Op → Bool
+is_scan (op.Scan n) = true
+is_scan o = false
+
 -- how a command goes on by the answer of its next step
 abbrev pub goes_on : Op → Begun → Reaction → Progress
 goes_on (op.Scan n) begun answer = scan_goes_on begun answer
@@ -171,8 +195,3 @@ StaysReady batch (Ended answer) = ⊤
 abbrev pub IsShared : Fronts → Progress → Type 0
 IsShared f (On begun) = HasAll f → ⊥
 IsShared f (Ended answer) = ⊤
-
--- a step that was tried up to 64 times
-abbrev pub Tries : ℕ → ℕ → Step → Fronts → Fronts → Option Reaction → Type 0
-Tries c n step old new (Some answer) = Answered c n step old new answer
-Tries c n step old new None = IsBusy old new

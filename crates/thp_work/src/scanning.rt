@@ -1,11 +1,10 @@
 //! How far the steps of a command are.
-ghost use Rattle.std.specs.Prelude.{◌≡◌, ◌+◌, ◌≤◌};
-ghost use Rattle.thp_work.specs.Turns.{first_begun, goes_on, next_step, scan_goes_on, tries_of};
+ghost use Rattle.std.specs.Prelude.{◌≡◌, ◌+◌, ◌≤◌, Ok, MatchOption};
+ghost use Rattle.thp_work.specs.Turns.{On, Ended, first_begun, is_scan, next_step, scan_goes_on, tries_of};
 
 use crate::reply::Reply;
 use crate::steps::Step;
-use thp_model::Refusal;
-use thp_node::{ScanReply, Tried};
+use thp_node::{BackReply, ScanReply, Tried};
 use thp_text::Op;
 
 /// How many steps of a command are answered, and what a scan has counted so far.
@@ -13,13 +12,6 @@ use thp_text::Op;
 pub struct Begun {
     pub steps: u32,
     pub so_far: ScanReply,
-}
-
-/// A command that goes on, or its answer.
-#[derive(Clone, Copy, Debug)]
-pub enum Progress {
-    On(Begun),
-    Ended(Result<Reply, Refusal>),
 }
 
 /// A command without steps yet.
@@ -69,50 +61,34 @@ fn tries(so_far: &ScanReply) -> u32
     so_far.split + so_far.pinned + so_far.used
 }
 
-/// How a command goes on by the answer of its next step.
-pub(crate) fn go_on(op: Op, begun: Begun, answer: Result<Reply, Refusal>) -> Progress
-    requires few { tries_of begun.so_far ≤ 128 }
-    requires short { begun.steps ≤ 130 }
-    ensures { result ≡ goes_on op begun answer }
+/// Whether a command has many steps.
+pub(crate) fn is_scan(op: Op) -> bool
+    ensures { result ≡ is_scan op }
 {
-    match op {
-        Op::Scan { .. } => scan_goes_on(begun, answer),
-        _ => Progress::Ended(answer),
-    }
+    matches!(op, Op::Scan { .. })
 }
 
-fn scan_goes_on(begun: Begun, answer: Result<Reply, Refusal>) -> Progress
-    requires few { tries_of begun.so_far ≤ 128 }
-    requires short { begun.steps ≤ 130 }
-    ensures { result ≡ scan_goes_on begun answer }
+/// Counts what a step of a scan was replied. Answers the scan where that was its last step.
+pub(crate) fn count_reply(begun: &mut Begun, reply: &Reply) -> Option<Reply>
+    requires few { tries_of begun.old.so_far ≤ 128 }
+    requires short { begun.old.steps ≤ 130 }
+    ensures { MatchOption result (scan_goes_on begun.old (Ok reply.now) ≡ On begun.new) (λ answer. scan_goes_on begun.old (Ok reply.now) ≡ Ended (Ok answer)) }
 {
-    let so_far = begun.so_far;
-    let counted = match answer {
-        Ok(Reply::Taken(taken)) => ScanReply { taken, ..so_far },
-        Ok(Reply::Tried(Tried::Split(_))) => ScanReply {
-            split: so_far.split + 1,
-            ..so_far
-        },
-        Ok(Reply::Tried(Tried::Pinned(_))) => ScanReply {
-            pinned: so_far.pinned + 1,
-            ..so_far
-        },
-        Ok(Reply::Tried(Tried::Used(_))) => ScanReply {
-            used: so_far.used + 1,
-            ..so_far
-        },
-        Ok(Reply::Tried(Tried::Done)) => so_far,
-        Ok(Reply::Back(reply)) => {
-            return Progress::Ended(Ok(Reply::Scan(ScanReply {
-                back: reply.back,
-                dropped: reply.dropped,
-                ..so_far
-            })));
+    match *reply {
+        Reply::Taken(taken) => begun.so_far.taken = taken,
+        Reply::Tried(Tried::Split(_)) => begun.so_far.split += 1,
+        Reply::Tried(Tried::Pinned(_)) => begun.so_far.pinned += 1,
+        Reply::Tried(Tried::Used(_)) => begun.so_far.used += 1,
+        Reply::Tried(Tried::Done) => {}
+        Reply::Back(BackReply { back, dropped }) => {
+            return Some(Reply::Scan(ScanReply {
+                back,
+                dropped,
+                ..begun.so_far
+            }));
         }
-        other => return Progress::Ended(other),
-    };
-    Progress::On(Begun {
-        steps: begun.steps + 1,
-        so_far: counted,
-    })
+        other => return Some(other),
+    }
+    begun.steps += 1;
+    None
 }
