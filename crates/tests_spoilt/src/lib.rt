@@ -1,6 +1,6 @@
 //! Hostile texts and failing devices: every front of the rows' scripts and journals, and each of their bytes set to others,
-//! inputs at their limit, and devices that fail at each of their calls or move a few bytes a call. Tests alone: they stand
-//! above the runs that they call. An assertion stands on one answer of a function, which costs the prover least.
+//! inputs at their limit, devices that fail at each of their calls or move a few bytes a call, and want of memory. Tests
+//! alone, in one crate since the prover spends most on the libraries: they stand above all that they call.
 #![tactic(auto)]
 
 #[cfg(test)]
@@ -13,6 +13,8 @@ mod failures;
 mod journals;
 #[cfg(test)]
 mod limits;
+#[cfg(test)]
+mod memory;
 #[cfg(test)]
 mod passages;
 #[cfg(test)]

@@ -1,7 +1,7 @@
 //! Takes, tries and put-backs of a batch, where the journal has so many events.
 ghost use Rattle.thp_node.specs.Batches.{IsInFront};
 
-use crate::nodes::{MOST, expect_unchanged, node_after, view_of};
+use crate::memory::nodes::{MOST, expect_unchanged, node_after, view_of};
 use std::alloc::Global;
 use std::process::Abort;
 use thp_model::PageId;

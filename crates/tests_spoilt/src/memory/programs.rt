@@ -1,6 +1,6 @@
 //! The program without memory: its exit status, and what it tells on standard error.
-use crate::devices::{Compares, tell};
-use crate::runs::JOURNAL;
+use crate::memory::devices::{Compares, tell};
+use crate::memory::runs::JOURNAL;
 use std::alloc::{AllocError, Global};
 use std::process::Abort;
 use std::thread::Threads;

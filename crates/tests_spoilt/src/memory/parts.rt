@@ -1,6 +1,6 @@
 //! The calls that runs and checks are made of, each at the second try at the latest.
-use crate::devices::tell;
-use crate::runs::{JOURNAL, SCRIPT};
+use crate::memory::devices::tell;
+use crate::memory::runs::{JOURNAL, SCRIPT};
 use std::alloc::Global;
 use std::process::Abort;
 use thp_blocks::LeastBlocks;

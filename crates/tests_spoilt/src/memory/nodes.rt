@@ -1,5 +1,5 @@
 //! Each call of a node that records, made where the journal has so many events, so that some of them make it grow.
-use crate::devices::tell;
+use crate::memory::devices::tell;
 use std::alloc::Global;
 use std::process::Abort;
 use thp_model::{PageId, Refusal, Shape};
