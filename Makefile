@@ -31,9 +31,9 @@ fuzz: run
 	@python3 tests/fuzz.py $(PROGRAM) --cases $(CASES) --seed $(SEED)
 
 memory: run
-	@cd crates/tests_memory && rt test
+	@cd crates/tests_spoilt && rt test
 	@cd crates/tests_growth && rt test
-	@python3 tests/memory.py $(PROGRAM) crates/tests_memory/out/tests_memory_tests crates/tests_growth/out/tests_growth_tests
+	@python3 tests/memory.py $(PROGRAM) crates/tests_spoilt/out/tests_spoilt_tests:memory:: crates/tests_growth/out/tests_growth_tests
 
 bench:
 	@bash bench/run

@@ -1,12 +1,13 @@
 #!/usr/bin/env python3
 """Refuses each growth of memory in turn, and each start of a thread, and looks at what comes of that (`make memory`).
 
-    tests/memory.py PROGRAM [TESTS ..]
+    tests/memory.py PROGRAM [TESTS[:FRONT] ..]
 
 PROGRAM is the built `thpsplit`. Where memory is refused to it, it ends with status 3, tells `thpsplit: out of memory` and
-writes nothing; or it got by with less, or without the thread, and all is as ever. TESTS are built tests, each of which passes
-whatever growth is refused; it may tell by a line `refused: CALL` which call met that. Wants a C compiler, `cc` or what CC
-names. A line for each case tells how many growths were refused; the exit status is 1 where a run ended wrong.
+writes nothing; or it got by with less, or without the thread, and all is as ever. TESTS are built tests; each whose name
+begins with FRONT (each at all, where there is none) passes whatever growth is refused; it may tell by a line `refused: CALL`
+which call met that. Wants a C compiler, `cc` or what CC names. A line for each case tells how many growths were refused; the
+exit status is 1 where a run ended wrong.
 """
 
 import os
@@ -41,7 +42,7 @@ def main():
     with tempfile.TemporaryDirectory() as folder:
         refuser = Refuser(pathlib.Path(folder))
         wrong = sum(try_case(refuser, program, *case) for case in cases())
-        wrong += sum(try_tests(refuser, path) for path in tests)
+        wrong += sum(try_tests(refuser, it) for it in tests)
     print(f"{wrong} wrong")
     sys.exit(wrong != 0)
 
@@ -109,11 +110,15 @@ def try_case(refuser, program, name, options, text, wanted):
     return growths["wrong"] + starts["wrong"]
 
 
-def try_tests(refuser, path):
+def try_tests(refuser, tests):
     """Runs each test with each growth and each thread refused; how many of these runs failed."""
+    path, _, front = tests.partition(":")
     listed = subprocess.run([path, "--list"], capture_output=True, text=True, check=True).stdout
     failed, calls = 0, Counter()
-    for name in re.findall(r"^(.*): test$", listed, re.MULTILINE):
+    names = [name for name in re.findall(r"^(.*): test$", listed, re.MULTILINE) if name.startswith(front)]
+    if not names:
+        sys.exit(f"{path} has no test {front}")
+    for name in names:
         growths, starts = refuser.each([path, name], "")
         bad = [number for number, ran in enumerate(growths + starts, 1) if ran.returncode]
         for ran in growths:

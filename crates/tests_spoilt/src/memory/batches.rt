@@ -1,7 +1,7 @@
 //! Takes, tries and put-backs of a batch, where the journal has so many events.
 ghost use Rattle.thp_node.specs.Batches.{IsInFront};
 
-use crate::nodes::{MOST, expect_unchanged, node_after, view_of};
+use crate::memory::nodes::{MOST, expect_unchanged, node_after, view_of};
 use std::alloc::Global;
 use std::process::Abort;
 use thp_model::PageId;
@@ -53,23 +53,26 @@ fn return_at_last(rt: &(impl Abort + Print), node: &mut Node, batch: Batch) -> B
     }
 }
 
+/// Whether one page went back, and none was dropped.
+fn is_back(reply: BackReply) -> bool {
+    reply.back == 1 && reply.dropped == 0
+}
+
+/// Whether the queue holds the page, and the journal so many events.
+fn is_as_before(node: &Node, events: usize) -> bool {
+    node.queue_len() == 1 && node.journal().len() == events
+}
+
 /// Takes the pinned page, tries it and puts it back.
 fn pass_batch(rt: &(impl Abort + Print), alloc: Global, writes: usize) {
     let mut node = node_after(rt, alloc, writes);
     let mut batch = take_at_last(rt, &mut node);
-    assert_eq!(rt; batch.pages().len(), 1);
+    assert!(rt; batch.pages().len() == 1);
     let tried = try_at_last(rt, &mut node, &mut batch);
-    assert_eq!(rt; tried, Tried::Pinned(PageId(0)));
+    assert!(rt; matches!(tried, Tried::Pinned(PageId(0))));
     let reply = return_at_last(rt, &mut node, batch);
-    assert_eq!(rt;
-        reply,
-        BackReply {
-            back: 1,
-            dropped: 0
-        }
-    );
-    assert_eq!(rt; node.journal().len(), writes.saturating_add(8));
-    assert_eq!(rt; node.queue_len(), 1);
+    assert!(rt; is_back(reply));
+    assert!(rt; is_as_before(&node, writes.saturating_add(8)));
 }
 
 #[test]

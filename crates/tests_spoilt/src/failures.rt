@@ -1,9 +1,10 @@
-//! One read or one write that fails, at each place.
-use crate::devices::{Manner, Mishap};
-use crate::passages::{Ending, Passed, WORKS, Work, pass, whole};
+//! One read or one write that fails, at each place: how many were tried.
+use crate::devices::{LARGE, Manner, Mishap};
+use crate::passages::{Passed, WORKS, Work, done, whole};
 use std::alloc::Global;
 use std::io::ErrorKind;
 use std::thread::Threads;
+use thp_run::RunFault;
 
 /// Reads that are interrupted are told as failed ones, too.
 const FAILURES: [Mishap; 3] = [
@@ -20,7 +21,7 @@ const WRITE_MISHAPS: [Mishap; 3] = [
 
 /// Whether the read of this number failed, nothing was read after it, and nothing was written.
 fn has_failed_read(passed: &Passed, call: u32) -> bool {
-    passed.ending == Ending::ReadFailed
+    matches!(passed.ended, Err(RunFault::Read))
         && passed.failed == (true, false)
         && passed.reads == call.saturating_add(1)
         && passed.writes == 0
@@ -29,7 +30,7 @@ fn has_failed_read(passed: &Passed, call: u32) -> bool {
 
 /// Whether the write of this number failed, nothing was written after it, and what was before is a front of the whole.
 fn has_failed_write(passed: &Passed, call: u32, front: &[u8]) -> bool {
-    passed.ending == Ending::WriteFailed
+    matches!(passed.ended, Err(RunFault::Write))
         && passed.failed == (false, true)
         && passed.writes == call.saturating_add(1)
         && passed.held.as_slice() == front
@@ -43,10 +44,9 @@ fn fail_reads<T: Threads + Sync>(
     step: usize,
     mishap: Mishap,
 ) -> Option<u32> {
-    let all = pass(rt, alloc, work, Manner::by(step), Manner::by(step))?.reads;
+    let all = done(rt, alloc, work, Manner::by(step), Manner::by(step)).reads;
     for call in 0..all {
-        let reads = Manner::with(step, call, mishap);
-        let passed = pass(rt, alloc, work, reads, Manner::by(8192))?;
+        let passed = done(rt, alloc, work, Manner::with(step, call, mishap), LARGE);
         if !has_failed_read(&passed, call) {
             return None;
         }
@@ -62,16 +62,15 @@ fn fail_writes<T: Threads + Sync>(
     step: usize,
     mishap: Mishap,
 ) -> Option<u32> {
-    let text = whole(rt, alloc, work)?.held;
-    let all = pass(rt, alloc, work, Manner::by(8192), Manner::by(step))?.writes;
+    let text = whole(rt, alloc, work)?;
+    let all = done(rt, alloc, work, LARGE, Manner::by(step)).writes;
     // the last call is the flush, which takes no byte anyway
     let places = match mishap {
         Mishap::Fails(_) => all,
         Mishap::TakesNone => all.saturating_sub(1),
     };
     for call in 0..places {
-        let writes = Manner::with(step, call, mishap);
-        let passed = pass(rt, alloc, work, Manner::by(8192), writes)?;
+        let passed = done(rt, alloc, work, LARGE, Manner::with(step, call, mishap));
         let taken = (call as usize).saturating_mul(step).min(text.len());
         if !has_failed_write(&passed, call, &text.as_slice()[..taken]) {
             return None;
@@ -80,32 +79,44 @@ fn fail_writes<T: Threads + Sync>(
     Some(places)
 }
 
-#[test]
-fn each_read_fails(rt: HostRuntime) {
+/// What fails.
+#[derive(Clone, Copy)]
+enum Failing {
+    Reads,
+    Writes,
+}
+
+/// Has each call fail in turn in each way, in all works, by steps of 1, 5 and 8,192 bytes; how many did. `None` where one ends
+/// wrong.
+fn fail_each<T: Threads + Sync>(
+    rt: &T,
+    alloc: Global,
+    failing: Failing,
+    mishaps: [Mishap; 3],
+) -> Option<u32> {
     let mut tried = 0u32;
-    for (number, work) in WORKS.iter().enumerate() {
-        for mishap in FAILURES {
+    for work in &WORKS {
+        for mishap in mishaps {
             for step in [1, 5, 8192] {
-                let failed = fail_reads(&rt, rt.alloc(), work, step, mishap);
-                assert!(rt; failed.is_some(), "work {number}, step {step}");
-                tried = tried.saturating_add(failed.unwrap_or(0));
+                let failed = match failing {
+                    Failing::Reads => fail_reads(rt, alloc, work, step, mishap)?,
+                    Failing::Writes => fail_writes(rt, alloc, work, step, mishap)?,
+                };
+                tried = tried.saturating_add(failed);
             }
         }
     }
-    assert_eq!(rt; tried, 1_362);
+    Some(tried)
+}
+
+#[test]
+fn each_read_fails(rt: HostRuntime) {
+    let tried = fail_each(&rt, rt.alloc(), Failing::Reads, FAILURES);
+    assert!(rt; tried == Some(1_362));
 }
 
 #[test]
 fn each_write_fails(rt: HostRuntime) {
-    let mut tried = 0u32;
-    for (number, work) in WORKS.iter().enumerate() {
-        for mishap in WRITE_MISHAPS {
-            for step in [1, 5, 8192] {
-                let failed = fail_writes(&rt, rt.alloc(), work, step, mishap);
-                assert!(rt; failed.is_some(), "work {number}, step {step}");
-                tried = tried.saturating_add(failed.unwrap_or(0));
-            }
-        }
-    }
-    assert_eq!(rt; tried, 2_820);
+    let tried = fail_each(&rt, rt.alloc(), Failing::Writes, WRITE_MISHAPS);
+    assert!(rt; tried == Some(2_820));
 }

@@ -1,6 +1,6 @@
 //! The program without memory: its exit status, and what it tells on standard error.
-use crate::devices::{Compares, tell};
-use crate::runs::JOURNAL;
+use crate::memory::devices::{Compares, tell};
+use crate::memory::runs::JOURNAL;
 use std::alloc::{AllocError, Global};
 use std::process::Abort;
 use std::thread::Threads;
@@ -63,6 +63,16 @@ fn words_at_last(rt: &impl Abort, alloc: Global, words: &[&str]) -> Vec<String> 
     }
 }
 
+/// Whether memory was refused: nothing was written, and the status is 3. `None` where the program ended wrong otherwise.
+fn is_refused(task: &Task, status: u8, output: &Compares, told: &Compares) -> Option<bool> {
+    let is_right = if status == 3 {
+        output.has_nothing()
+    } else {
+        status == task.status && output.has_all() && told.has_all()
+    };
+    if is_right { Some(status == 3) } else { None }
+}
+
 /// Runs the program, and tells whether memory was refused: then it writes nothing, tells that, and ends with status 3.
 fn end_once<T: Threads + Sync + Abort>(rt: &T, alloc: Global, task: &Task) -> bool {
     let words = words_at_last(rt, alloc, task.words.as_slice());
@@ -70,14 +80,9 @@ fn end_once<T: Threads + Sync + Abort>(rt: &T, alloc: Global, task: &Task) -> bo
     let mut output = Watched::new(Compares::new(task.output));
     let mut told = Watched::new(Compares::new(task.errors));
     let status = run_program(rt, alloc, Ok(words), &mut reader, &mut output, &mut told);
-    if status != 3 {
-        assert_eq!(rt; status, task.status);
-        assert!(rt; output.into_inner().has_all());
-        assert!(rt; told.into_inner().has_all());
-        return false;
-    }
-    assert!(rt; output.into_inner().has_nothing());
-    true
+    let output = output.into_inner();
+    let told = told.into_inner();
+    is_refused(task, status, &output, &told).expect(rt, "the end that is wanted")
 }
 
 #[test]

@@ -1,5 +1,5 @@
 //! Runs of scripts by workers, and checks of journals: without memory nothing is written, and the next run is whole.
-use crate::devices::{Compares, tell};
+use crate::memory::devices::{Compares, tell};
 use std::alloc::Global;
 use std::process::Abort;
 use std::thread::Threads;

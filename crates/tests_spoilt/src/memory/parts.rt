@@ -1,6 +1,6 @@
 //! The calls that runs and checks are made of, each at the second try at the latest.
-use crate::devices::tell;
-use crate::runs::{JOURNAL, SCRIPT};
+use crate::memory::devices::tell;
+use crate::memory::runs::{JOURNAL, SCRIPT};
 use std::alloc::Global;
 use std::process::Abort;
 use thp_blocks::LeastBlocks;
@@ -19,15 +19,23 @@ const SHAPE: Shape = Shape {
     underused: None,
 };
 
+fn is_table_refused(alloc: Global) -> bool {
+    PageTable::new(alloc, 64, 2).is_err()
+}
+
+fn are_places_refused(alloc: Global) -> bool {
+    Places::new(alloc, SHAPE).is_err()
+}
+
 #[test]
 fn tables_and_places(rt: HostRuntime) {
-    if PageTable::new(rt.alloc(), 64, 2).is_err() {
+    if is_table_refused(rt.alloc()) {
         tell(&rt, "PageTable::new");
-        assert!(rt; PageTable::new(rt.alloc(), 64, 2).is_ok());
+        assert!(rt; !is_table_refused(rt.alloc()));
     }
-    if Places::new(rt.alloc(), SHAPE).is_err() {
+    if are_places_refused(rt.alloc()) {
         tell(&rt, "Places::new");
-        assert!(rt; Places::new(rt.alloc(), SHAPE).is_ok());
+        assert!(rt; !are_places_refused(rt.alloc()));
     }
 }
 
@@ -42,6 +50,14 @@ fn allocation(page: u64) -> Event {
     }
 }
 
+/// The block of a page that was allocated by this event.
+fn block_of(placed: Option<Event>) -> Option<u64> {
+    match placed?.what {
+        What::Alloc { block, .. } => Some(u64::from(block)),
+        _ => None,
+    }
+}
+
 /// Gives the next page its block, which has its number, at the second try at the latest.
 fn place_at_last(rt: &(impl Abort + Print), blocks: &mut LeastBlocks, page: u64) {
     let mut placed = blocks.place(allocation(page));
@@ -49,16 +65,7 @@ fn place_at_last(rt: &(impl Abort + Print), blocks: &mut LeastBlocks, page: u64)
         tell(rt, "LeastBlocks::place");
         placed = blocks.place(allocation(page));
     }
-    let is_there = match placed {
-        Ok(
-            Event {
-                what: What::Alloc { block, .. },
-                ..
-            },
-        ) => u64::from(block) == page,
-        _ => false,
-    };
-    assert!(rt; is_there, "page {page}");
+    assert!(rt; block_of(placed.ok()) == Some(page));
 }
 
 #[test]
@@ -98,23 +105,36 @@ fn texts(rt: HostRuntime) {
     }
 }
 
+/// Whether the memory for a check of these events was refused; else they must be legal.
+fn is_check_refused(rt: &impl Abort, alloc: Global, events: &[Event]) -> bool {
+    match check(alloc, SHAPE, events) {
+        Ok(()) => false,
+        Err(fault) => {
+            assert!(rt; matches!(fault, CheckFault::OutOfMemory));
+            true
+        }
+    }
+}
+
+/// Whether the memory for the journal of these events was refused.
+fn is_text_refused(alloc: Global, events: &[Event]) -> bool {
+    let nodes = [NodeHistory {
+        shape: SHAPE,
+        events,
+    }];
+    journal_text(alloc, nodes.as_slice()).is_err()
+}
+
 #[test]
 fn histories(rt: HostRuntime) {
     let events = [allocation(0)];
-    let checked = check(rt.alloc(), SHAPE, events.as_slice());
-    if checked == Err(CheckFault::OutOfMemory) {
+    if is_check_refused(&rt, rt.alloc(), events.as_slice()) {
         tell(&rt, "check");
-        assert_eq!(rt; check(rt.alloc(), SHAPE, events.as_slice()), Ok(()));
-    } else {
-        assert_eq!(rt; checked, Ok(()));
+        assert!(rt; !is_check_refused(&rt, rt.alloc(), events.as_slice()));
     }
-    let nodes = [NodeHistory {
-        shape: SHAPE,
-        events: events.as_slice(),
-    }];
-    if journal_text(rt.alloc(), nodes.as_slice()).is_err() {
+    if is_text_refused(rt.alloc(), events.as_slice()) {
         tell(&rt, "journal_text");
-        assert!(rt; journal_text(rt.alloc(), nodes.as_slice()).is_ok());
+        assert!(rt; !is_text_refused(rt.alloc(), events.as_slice()));
     }
 }
 

@@ -1,5 +1,5 @@
 //! Texts passed through runs and checks on devices of all manners.
-use crate::devices::{Manner, Sink, Source};
+use crate::devices::{LARGE, Manner, Sink, Source};
 use std::alloc::Global;
 use std::thread::Threads;
 use thp_run::{NoGate, Report, RunFault, Settings, Watched, check_run, run};
@@ -9,6 +9,13 @@ use thp_run::{NoGate, Report, RunFault, Settings, Watched, check_run, run};
 pub(crate) struct Work {
     pub(crate) text: &'static [u8],
     pub(crate) report: Option<Report>,
+}
+
+impl Work {
+    /// The settings of the run, where the text is a script.
+    pub(crate) fn settings(self) -> Option<Settings> {
+        Settings::new(2, 16, 2, self.report?)
+    }
 }
 
 /// Scripts with each report, and a legal and an illegal journal.
@@ -47,70 +54,65 @@ const TWO_WORKERS: &[u8] =
 pub(crate) const JOURNAL: &[u8] =
     b"thp-journal 1\nnode 0 blocks 16\n0 alloc 0\n0 splitpmd 0\n0 unmapsub 0 0 256 queued -\n0 taken 0\n0 split 0 0-255\nend\n";
 
-/// How a run or a check ended.
-#[derive(Clone, Copy, PartialEq, Eq)]
-pub(crate) enum Ending {
-    Done,
-    ReadFailed,
-    WriteFailed,
-    Other,
-}
-
-/// How a run or a check ended, the calls that it made of its devices, which of them it knows to have failed, and what was
-/// written.
+/// How a run or a check ended, the calls that it made of its devices, how many bytes it was given, which of its devices it
+/// knows to have failed, and what was written.
 #[derive(Drop)]
 pub(crate) struct Passed {
-    pub(crate) ending: Ending,
+    pub(crate) ended: Result<(), RunFault>,
     pub(crate) reads: u32,
+    pub(crate) given: usize,
     pub(crate) writes: u32,
     pub(crate) failed: (bool, bool),
     pub(crate) held: Vec<u8>,
 }
 
-fn ending_of<T: Drop>(done: Result<T, RunFault>) -> Ending {
-    match done {
-        Ok(_) => Ending::Done,
-        Err(RunFault::Read) => Ending::ReadFailed,
-        Err(RunFault::Write) => Ending::WriteFailed,
-        Err(_) => Ending::Other,
+/// Runs a script by the settings, or checks a journal where there are none.
+pub(crate) fn pass<T: Threads + Sync>(
+    rt: &T,
+    alloc: Global,
+    settings: Option<Settings>,
+    source: Source,
+    writes: Manner,
+) -> Passed {
+    let mut reader = Watched::new(source);
+    let mut writer = Watched::new(Sink::new(alloc, writes));
+    let ended = match settings {
+        Some(settings) => run(rt, alloc, &settings, &mut reader, &mut writer, &NoGate),
+        None => match check_run(alloc, &mut reader, &mut writer) {
+            Ok(_) => Ok(()),
+            Err(fault) => Err(fault),
+        },
+    };
+    let failed = (reader.failed(), writer.failed());
+    let source = reader.into_inner();
+    let sink = writer.into_inner();
+    Passed {
+        ended,
+        reads: source.calls,
+        given: source.given,
+        writes: sink.calls,
+        failed,
+        held: sink.held,
     }
 }
 
-/// Does what is asked for on devices of these manners.
-pub(crate) fn pass<T: Threads + Sync>(
+/// The work done on devices of these manners.
+pub(crate) fn done<T: Threads + Sync>(
     rt: &T,
     alloc: Global,
     work: &Work,
     reads: Manner,
     writes: Manner,
-) -> Option<Passed> {
-    let mut reader = Watched::new(Source::new(work.text, reads));
-    let mut writer = Watched::new(Sink::new(alloc, writes));
-    let ending = match work.report {
-        Some(report) => {
-            let settings = Settings::new(2, 16, 2, report)?;
-            let done = run(rt, alloc, &settings, &mut reader, &mut writer, &NoGate);
-            ending_of(done)
-        }
-        None => ending_of(check_run(alloc, &mut reader, &mut writer)),
-    };
-    let failed = (reader.failed(), writer.failed());
-    let source = reader.into_inner();
-    let sink = writer.into_inner();
-    Some(Passed {
-        ending,
-        reads: source.calls,
-        writes: sink.calls,
-        failed,
-        held: sink.held,
-    })
+) -> Passed {
+    let source = Source::new(work.text, 0, reads);
+    pass(rt, alloc, work.settings(), source, writes)
 }
 
 /// What is written where no device has a mishap.
-pub(crate) fn whole<T: Threads + Sync>(rt: &T, alloc: Global, work: &Work) -> Option<Passed> {
-    let passed = pass(rt, alloc, work, Manner::by(8192), Manner::by(8192))?;
-    if passed.ending == Ending::Done && passed.failed == (false, false) {
-        Some(passed)
+pub(crate) fn whole<T: Threads + Sync>(rt: &T, alloc: Global, work: &Work) -> Option<Vec<u8>> {
+    let passed = done(rt, alloc, work, LARGE, LARGE);
+    if passed.ended.is_ok() && passed.failed == (false, false) {
+        Some(passed.held)
     } else {
         None
     }

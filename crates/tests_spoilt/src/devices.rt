@@ -12,6 +12,12 @@ pub(crate) enum Mishap {
     TakesNone,
 }
 
+/// A manner without a mishap, which moves as much as there is room for in a buffer of the runs.
+pub(crate) const LARGE: Manner = Manner {
+    step: 8192,
+    mishap: None,
+};
+
 /// How a device behaves: how many bytes it moves a call at most, and its mishap at the call of a number, from 0.
 #[derive(Clone, Copy)]
 pub(crate) struct Manner {
@@ -42,20 +48,25 @@ impl Manner {
     }
 }
 
-/// A reader of a text.
+/// A reader of a text, and of so many line feeds behind it.
 #[derive(Drop)]
 pub(crate) struct Source<'a> {
     rest: &'a [u8],
+    feeds: usize,
     manner: Manner,
     pub(crate) calls: u32,
+    // how many bytes it gave
+    pub(crate) given: usize,
 }
 
 impl<'a> Source<'a> {
-    pub(crate) fn new(text: &'a [u8], manner: Manner) -> Source<'a> {
+    pub(crate) fn new(text: &'a [u8], feeds: usize, manner: Manner) -> Source<'a> {
         Source {
             rest: text,
+            feeds,
             manner,
             calls: 0,
+            given: 0,
         }
     }
 }
@@ -67,10 +78,14 @@ impl<'a> Read for Source<'a> {
         if let Some(Mishap::Fails(kind)) = self.manner.at(call) {
             return Err(Error::from(kind));
         }
-        let count = self.rest.len().min(buf.len()).min(self.manner.step);
-        let (front, rest) = self.rest.split_at(count);
-        buf[..count].copy_from_slice(front);
+        let all = self.rest.len().saturating_add(self.feeds);
+        let count = all.min(buf.len()).min(self.manner.step);
+        let (front, rest) = self.rest.split_at(self.rest.len().min(count));
+        buf[..count].fill(b'\n');
+        buf[..front.len()].copy_from_slice(front);
         self.rest = rest;
+        self.feeds = self.feeds.saturating_sub(count.saturating_sub(front.len()));
+        self.given = self.given.saturating_add(count);
         Ok(count)
     }
 }

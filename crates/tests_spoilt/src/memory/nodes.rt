@@ -1,5 +1,5 @@
 //! Each call of a node that records, made where the journal has so many events, so that some of them make it grow.
-use crate::devices::tell;
+use crate::memory::devices::tell;
 use std::alloc::Global;
 use std::process::Abort;
 use thp_model::{PageId, Refusal, Shape};
@@ -11,7 +11,7 @@ pub(crate) const MOST: usize = 70;
 const PAGE: PageId = PageId(0);
 
 /// A call, about page 0 where it is one about a page.
-#[derive(Clone, Copy, PartialEq, Eq, Debug)]
+#[derive(Clone, Copy)]
 pub(crate) enum Call {
     AllocPage,
     MapWhole,
@@ -38,23 +38,37 @@ pub(crate) const BEFORE: [Call; 5] = [
     Call::Pin,
 ];
 
-/// Each call, and how many events it records there.
-const CALLS: [(Call, usize); 13] = [
-    (Call::AllocPage, 1),
-    (Call::MapWhole, 1),
-    (Call::UnmapWhole, 1),
-    (Call::MapSub, 1),
-    (Call::UnmapSub(1), 1),
-    (Call::SplitPmd, 1),
-    (Call::Pin, 1),
-    (Call::Unpin, 1),
-    (Call::Write, 1),
-    (Call::Zero, 1),
-    (Call::Close, 1),
-    // a take, a find that the page is pinned, and its return
-    (Call::Scan, 3),
-    (Call::Reserve, 0),
-];
+/// The calls by their numbers, the last of which is `LAST`.
+fn call_of(number: u32) -> Call {
+    match number {
+        0 => Call::AllocPage,
+        1 => Call::MapWhole,
+        2 => Call::UnmapWhole,
+        3 => Call::MapSub,
+        4 => Call::UnmapSub(1),
+        5 => Call::SplitPmd,
+        6 => Call::Pin,
+        7 => Call::Unpin,
+        8 => Call::Write,
+        9 => Call::Zero,
+        10 => Call::Close,
+        11 => Call::Scan,
+        _ => Call::Reserve,
+    }
+}
+
+/// The number of `Reserve`.
+const LAST: u32 = 12;
+
+/// How many events a call records there.
+fn events_of(call: Call) -> usize {
+    match call {
+        // a take, a find that the page is pinned, and its return
+        Call::Scan => 3,
+        Call::Reserve => 0,
+        _ => 1,
+    }
+}
 
 fn make(node: &mut Node, call: Call) -> Result<(), Refusal> {
     match call {
@@ -90,7 +104,7 @@ fn make(node: &mut Node, call: Call) -> Result<(), Refusal> {
 }
 
 /// What a node shows: its events, its queue, its frames and its statistics.
-#[derive(Clone, Copy, PartialEq, Eq, Debug)]
+#[derive(Clone, Copy, PartialEq, Eq)]
 pub(crate) struct View {
     events: usize,
     queued: u32,
@@ -118,15 +132,15 @@ pub(crate) fn expect_unchanged(
     call: &str,
 ) {
     tell(rt, call);
-    assert_eq!(rt; refusal, Refusal::OutOfMemory);
-    assert_eq!(rt; view_of(node), before);
+    assert!(rt; refusal == Refusal::OutOfMemory);
+    assert!(rt; view_of(node) == before);
 }
 
 pub(crate) fn node_at_last(rt: &(impl Abort + Print), alloc: Global, shape: Shape) -> Node {
     match Node::new(alloc, shape) {
         Ok(node) => return node,
         Err(fault) => {
-            assert_eq!(rt; fault, NewFault::OutOfMemory);
+            assert!(rt; matches!(fault, NewFault::OutOfMemory));
             tell(rt, "Node::new");
         }
     }
@@ -138,7 +152,7 @@ pub(crate) fn make_at_last(rt: &(impl Abort + Print), node: &mut Node, call: Cal
     let before = view_of(node);
     if let Err(refusal) = make(node, call) {
         expect_unchanged(rt, node, before, refusal, name);
-        assert_eq!(rt; make(node, call), Ok(()));
+        assert!(rt; make(node, call).is_ok());
     }
 }
 
@@ -177,24 +191,29 @@ pub(crate) fn node_after(rt: &(impl Abort + Print), alloc: Global, writes: usize
     node
 }
 
-/// Makes each call, each on a node of its own with so many writes before.
-fn make_each(rt: &(impl Abort + Print), alloc: Global, writes: usize) {
-    for (call, events) in CALLS {
-        let mut node = node_after(rt, alloc, writes);
-        let before = node.journal().len();
-        make_at_last(rt, &mut node, call, name_of(call));
-        assert_eq!(rt; node.journal().len(), before.saturating_add(events));
-        // and the node goes on
-        if call != Call::Close {
-            make_at_last(rt, &mut node, Call::Close, "Node::close");
-        }
-        assert_eq!(rt; node.alloc_page(1), Err(Refusal::Closed));
+/// Whether the node refuses an allocation since it is closed.
+fn is_closed(node: &mut Node) -> bool {
+    matches!(node.alloc_page(1), Err(Refusal::Closed))
+}
+
+/// Makes a call on a node with so many writes before, and then closes the node.
+fn make_one(rt: &(impl Abort + Print), alloc: Global, writes: usize, call: Call) {
+    let mut node = node_after(rt, alloc, writes);
+    let wanted = node.journal().len().saturating_add(events_of(call));
+    make_at_last(rt, &mut node, call, name_of(call));
+    assert!(rt; node.journal().len() == wanted);
+    // and the node goes on
+    if !matches!(call, Call::Close) {
+        make_at_last(rt, &mut node, Call::Close, "Node::close");
     }
+    assert!(rt; is_closed(&mut node));
 }
 
 #[test]
 fn each_call(rt: HostRuntime) {
     for writes in 0..MOST {
-        make_each(&rt, rt.alloc(), writes);
+        for number in 0..=LAST {
+            make_one(&rt, rt.alloc(), writes, call_of(number));
+        }
     }
 }

@@ -1,5 +1,5 @@
 //! The program on devices that fail: its exit status, and what it tells on standard error.
-use crate::devices::{Manner, Mishap, Sink, Source};
+use crate::devices::{LARGE, Manner, Mishap, Sink, Source};
 use crate::passages::{FIRST_SCRIPT, JOURNAL};
 use std::alloc::Global;
 use std::io::ErrorKind;
@@ -73,7 +73,7 @@ fn end_of<T: Threads + Sync>(
     for word in ["thpsplit", task.word] {
         words.push(String::from_str(alloc, word).ok()?).ok()?;
     }
-    let mut reader = Watched::new(Source::new(task.input, reads));
+    let mut reader = Watched::new(Source::new(task.input, 0, reads));
     let mut output = Watched::new(Sink::new(alloc, writes));
     let mut errors = Watched::new(Sink::new(alloc, tells));
     let status = run_program(rt, alloc, Ok(words), &mut reader, &mut output, &mut errors);
@@ -89,11 +89,6 @@ fn end_of<T: Threads + Sync>(
 }
 
 const FAILS: Mishap = Mishap::Fails(ErrorKind::Other);
-
-const LARGE: Manner = Manner {
-    step: 8192,
-    mishap: None,
-};
 
 /// Has each read of the program fail in turn; how many did. `None` where it ends wrong.
 fn fail_reads<T: Threads + Sync>(rt: &T, alloc: Global, task: &Task) -> Option<u32> {
@@ -138,26 +133,32 @@ fn fail_tells<T: Threads + Sync>(rt: &T, alloc: Global, task: &Task, told: &[u8]
     Some(tried)
 }
 
-#[test]
-fn failing_devices(rt: HostRuntime) {
-    let alloc = rt.alloc();
+/// Has each read and each write of each task fail in turn; how many did. `None` where the program ends wrong.
+fn fail_tasks<T: Threads + Sync>(rt: &T, alloc: Global) -> Option<(u32, u32)> {
     let mut reads = 0u32;
     let mut writes = 0u32;
     for task in &TASKS {
-        let failed = fail_reads(&rt, alloc, task).expect(&rt, "failed reads");
-        reads = reads.saturating_add(failed);
-        let failed = fail_writes(&rt, alloc, task).expect(&rt, "failed writes");
-        writes = writes.saturating_add(failed);
+        reads = reads.saturating_add(fail_reads(rt, alloc, task)?);
+        writes = writes.saturating_add(fail_writes(rt, alloc, task)?);
     }
-    assert_eq!(rt; (reads, writes), (219, 411));
+    Some((reads, writes))
+}
+
+#[test]
+fn failing_devices(rt: HostRuntime) {
+    assert!(rt; fail_tasks(&rt, rt.alloc()) == Some((219, 411)));
+}
+
+/// Has each write to standard error fail in turn for each faulty text; how many did. `None` where the program ends wrong.
+fn fail_all_tells<T: Threads + Sync>(rt: &T, alloc: Global) -> Option<u32> {
+    let mut tried = 0u32;
+    for (task, told) in &FAULTY {
+        tried = tried.saturating_add(fail_tells(rt, alloc, task, told)?);
+    }
+    Some(tried)
 }
 
 #[test]
 fn failing_standard_error(rt: HostRuntime) {
-    let mut tried = 0u32;
-    for (task, told) in &FAULTY {
-        let failed = fail_tells(&rt, rt.alloc(), task, told).expect(&rt, "failed writes");
-        tried = tried.saturating_add(failed);
-    }
-    assert_eq!(rt; tried, 51);
+    assert!(rt; fail_all_tells(&rt, rt.alloc()) == Some(51));
 }
