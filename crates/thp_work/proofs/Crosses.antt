@@ -49,7 +49,7 @@ blocks_send = view_send in_blocks.the_row _ _ _ _ (declared_send in_blocks.the_t
 
 -- a journal may go to another thread
 journal_send : IsSend Journal.the_row
-journal_send = view_send in_journal.the_row _ _ _ _ (declared_send in_journal.the_type (search (sendable, crosses) depth 30, (Vec-send _ event.the_send, (search (sendable, crosses) depth 30, (search (sendable, crosses) depth 30, (search (sendable, crosses) depth 30, (search (sendable, crosses) depth 30, (search (sendable, crosses) depth 30, tt))))))))
+journal_send = view_send in_journal.the_row _ _ _ _ (declared_send in_journal.the_type (search (sendable, crosses) depth 30, (Vec-send _ event.the_send, (search (sendable, crosses) depth 30, tt))))
 
 -- a node may go to another thread
 node_send : IsSend Node.the_row
