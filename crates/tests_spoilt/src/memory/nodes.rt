@@ -72,35 +72,38 @@ fn events_of(call: Call) -> usize {
 
 fn make(node: &mut Node, call: Call) -> Result<(), Refusal> {
     match call {
-        Call::AllocPage => {
-            let _page = node.alloc_page(1)?;
-            Ok(())
-        }
         Call::MapWhole => node.map_whole(1, PAGE),
-        Call::UnmapWhole => {
-            let _done = node.unmap_whole(1, PAGE)?;
-            Ok(())
-        }
         Call::MapSub => node.map_sub(1, PAGE, 2, 1),
-        Call::UnmapSub(subpage) => {
-            let _done = node.unmap_sub(1, PAGE, subpage, 1)?;
-            Ok(())
-        }
         Call::SplitPmd => node.split_pmd(1, PAGE),
         Call::Pin => node.pin(1, PAGE),
-        Call::Unpin => {
-            let _done = node.unpin(1, PAGE)?;
-            Ok(())
-        }
         Call::Write => node.write(1, PAGE, 1, 1),
         Call::Zero => node.zero(1, PAGE, 1, 1),
-        Call::Close => node.close(1),
+        other => make_other(node, other),
+    }
+}
+
+/// Makes a call of the whole node, or one that answers more than that it is done.
+fn make_other(node: &mut Node, call: Call) -> Result<(), Refusal> {
+    match call {
+        Call::AllocPage => {
+            let _page = node.alloc_page(1)?;
+        }
+        Call::UnmapWhole => {
+            let _done = node.unmap_whole(1, PAGE)?;
+        }
+        Call::UnmapSub(subpage) => {
+            let _done = node.unmap_sub(1, PAGE, subpage, 1)?;
+        }
+        Call::Unpin => {
+            let _done = node.unpin(1, PAGE)?;
+        }
         Call::Scan => {
             let _reply = node.scan(1, 8)?;
-            Ok(())
         }
-        Call::Reserve => node.reserve(200),
+        Call::Close => return node.close(1),
+        _ => return node.reserve(200),
     }
+    Ok(())
 }
 
 /// What a node shows: its events, its queue, its frames and its statistics.
