@@ -186,6 +186,7 @@ impl Page {
 
     /// Why `map_sub` would be refused, if it would.
     #[tactic(auto, unfolding(thp_model::specs::Pages::page_refusal))]
+    #[inline(always)]
     pub fn refusal_map_sub(&self, first: u32, count: u32) -> Option<Refusal>
         ensures { (p : ℕ) → result ≡ page_refusal self.now (call.map_sub p first count) }
     {
@@ -203,6 +204,7 @@ impl Page {
     }
 
     /// `map_sub`, where it isn't refused.
+    #[inline(always)]
     pub fn do_map_sub(&mut self, first: u32, count: u32)
         requires { page_refusal self.old (call.map_sub 0 first count) ≡ None }
         ensures { RangeMapped first count self.old self.new }
@@ -225,6 +227,7 @@ impl Page {
 
     /// Why `unmap_sub` would be refused, if it would.
     #[tactic(auto, unfolding(thp_model::specs::Pages::page_refusal))]
+    #[inline(always)]
     pub fn refusal_unmap_sub(&self, first: u32, count: u32) -> Option<Refusal>
         ensures { (p : ℕ) → result ≡ page_refusal self.now (call.unmap_sub p first count) }
     {
@@ -238,6 +241,7 @@ impl Page {
     }
 
     /// `unmap_sub`, where it isn't refused.
+    #[inline(always)]
     pub fn do_unmap_sub(&mut self, first: u32, count: u32) -> Change
         requires { page_refusal self.old (call.unmap_sub 0 first count) ≡ None }
         ensures counts { RangeUnmapped first count self.old self.new }
@@ -312,6 +316,7 @@ impl Page {
 
     /// Why `pin` would be refused, if it would.
     #[tactic(auto, unfolding(thp_model::specs::Pages::page_refusal))]
+    #[inline(always)]
     pub fn refusal_pin(&self) -> Option<Refusal>
         ensures { (p : ℕ) → result ≡ page_refusal self.now (call.pin p) }
     {
@@ -325,6 +330,7 @@ impl Page {
     }
 
     /// `pin`, where it isn't refused.
+    #[inline(always)]
     pub fn do_pin(&mut self)
         requires { page_refusal self.old (call.pin 0) ≡ None }
         ensures { Pinned self.old self.new }
@@ -349,6 +355,7 @@ impl Page {
 
     /// Why `unpin` would be refused, if it would.
     #[tactic(auto, unfolding(thp_model::specs::Pages::page_refusal))]
+    #[inline(always)]
     pub fn refusal_unpin(&self) -> Option<Refusal>
         ensures { (p : ℕ) → result ≡ page_refusal self.now (call.unpin p) }
     {
@@ -362,6 +369,7 @@ impl Page {
     }
 
     /// `unpin`, where it isn't refused.
+    #[inline(always)]
     pub fn do_unpin(&mut self)
         requires { page_refusal self.old (call.unpin 0) ≡ None }
         ensures { Pinned self.new self.old }

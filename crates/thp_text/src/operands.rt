@@ -19,6 +19,7 @@ enum PageCall {
 }
 
 impl PageCall {
+    #[inline(always)]
     fn op(self, page: u64) -> Op
         ensures { result ≡ page_op self page }
     {
@@ -42,6 +43,7 @@ enum RangeCall {
 }
 
 impl RangeCall {
+    #[inline(always)]
     fn op(self, page: u64, first: u16, count: u16) -> Op
         ensures { result ≡ range_op self page first count }
     {
@@ -62,6 +64,7 @@ enum BatchCall {
 }
 
 impl BatchCall {
+    #[inline(always)]
     fn op(self, count: u16) -> Op
         ensures { result ≡ batch_op self count }
     {
@@ -72,6 +75,7 @@ impl BatchCall {
     }
 }
 
+#[inline(always)]
 pub(crate) fn number_up_to(most: u64, word: &[u8]) -> Result<u64, TextKind>
     ensures value { result ≡ number_up_to most word.now }
     ensures bound { IfOk result (λ n. n ≤ most) }
@@ -79,6 +83,7 @@ pub(crate) fn number_up_to(most: u64, word: &[u8]) -> Result<u64, TextKind>
     number(most, word).ok_or(TextKind::BadNumber)
 }
 
+#[inline(always)]
 fn small_number_up_to(most: u16, word: &[u8]) -> Result<u16, TextKind>
     ensures value { result ≡ number_up_to most word.now }
     ensures bound { IfOk result (λ n. n ≤ most) }
@@ -87,6 +92,7 @@ fn small_number_up_to(most: u16, word: &[u8]) -> Result<u16, TextKind>
     Ok(value as u16)
 }
 
+#[inline(always)]
 fn node_number(settings: &Settings, word: &[u8]) -> Result<u32, TextKind>
     ensures { result ≡ node_number settings.now word.now }
 {
@@ -96,6 +102,7 @@ fn node_number(settings: &Settings, word: &[u8]) -> Result<u32, TextKind>
 
 /// A command on a node as a whole: `NODE`
 #[tactic(auto, unfolding(crate::specs::Commands::node_command))]
+#[inline(always)]
 fn node_command(settings: &Settings, op: Op, mut words: Words) -> Result<Command, TextKind>
     ensures { result ≡ node_command op settings.now words.entry }
 {
@@ -110,6 +117,7 @@ fn node_command(settings: &Settings, op: Op, mut words: Words) -> Result<Command
 
 /// A command on a page: `NODE PAGE`
 #[tactic(auto, unfolding(crate::specs::Commands::page_command))]
+#[inline(always)]
 fn page_command(settings: &Settings, call: PageCall, mut words: Words) -> Result<Command, TextKind>
     ensures { result ≡ page_command (page_op call) settings.now words.entry }
 {
@@ -126,6 +134,7 @@ fn page_command(settings: &Settings, call: PageCall, mut words: Words) -> Result
 
 /// A command on a range of a page's subpages: `NODE PAGE FIRST COUNT`
 #[tactic(auto, unfolding(crate::specs::Commands::range_command))]
+#[inline(always)]
 fn range_command(
     settings: &Settings,
     call: RangeCall,
@@ -154,6 +163,7 @@ fn range_command(
 
 /// A scan or a take: `NODE COUNT`
 #[tactic(auto, unfolding(crate::specs::Commands::batch_command))]
+#[inline(always)]
 fn batch_command(
     settings: &Settings,
     call: BatchCall,

@@ -9,6 +9,7 @@ ghost use Rattle.thp_text.specs.Words.{is_numeral, number_of, pieces_at, pieces_
 
 use std::marker::Model;
 
+#[inline(always)]
 fn place_of(byte: u8, text: &[u8]) -> Option<usize>
     ensures { result ≡ position (λ b. b == byte) text.now }
 {
@@ -16,6 +17,7 @@ fn place_of(byte: u8, text: &[u8]) -> Option<usize>
 }
 
 /// The text up to the first separator, and what follows that separator, where there is one.
+#[inline(always)]
 pub fn cut_at(separator: u8, text: &[u8]) -> (&[u8], Option<&[u8]>)
     ensures pieces { pieces_at separator text.now ≡ result.0.now ∷ pieces_left separator (option_copied result.1) }
     ensures shorter { IfSome result.1 (λ rest. length rest.now < length text.now) }
@@ -51,6 +53,7 @@ impl<'a> Words<'a> {
     }
 
     /// The next word.
+    #[inline(always)]
     pub fn next(&mut self) -> Option<&'a [u8]>
         ensures { MatchOption result ((self.old ≡ []) × (self.new ≡ [])) (λ word. self.old ≡ word.now ∷ self.new) }
     {
@@ -60,12 +63,14 @@ impl<'a> Words<'a> {
     }
 }
 
+#[inline(always)]
 fn is_all_digits(word: &[u8]) -> bool
     ensures { result ≡ list_all is_ascii_digit word.now }
 {
     word.iter().all(|b| b.is_ascii_digit())
 }
 
+#[inline(always)]
 fn is_numeral(word: &[u8]) -> bool
     ensures { result ≡ is_numeral word.now }
 {
@@ -73,6 +78,7 @@ fn is_numeral(word: &[u8]) -> bool
 }
 
 /// The number of the digits before this one and this one, where it fits.
+#[inline(always)]
 fn with_digit(before: u64, digit: u8) -> Option<u64>
     requires { is_ascii_digit digit ≡ true }
     ensures { SomeIff result (before * 10 + digit_value digit < 2 ^ 64) (before * 10 + digit_value digit) }
@@ -81,6 +87,7 @@ fn with_digit(before: u64, digit: u8) -> Option<u64>
 }
 
 /// The value of a numeral, where it fits.
+#[inline(always)]
 fn value_of(word: &[u8]) -> Option<u64>
     requires { is_numeral word.now ≡ true }
     ensures { SomeIff result (digits_value 10 word.now < 2 ^ 64) (digits_value 10 word.now) }
@@ -93,6 +100,7 @@ fn value_of(word: &[u8]) -> Option<u64>
 }
 
 /// The number that a word writes in decimal, without a sign or a leading zero, where it is at most `most`.
+#[inline(always)]
 pub fn number(most: u64, word: &[u8]) -> Option<u64>
     ensures value { result ≡ number_of most word.now }
     ensures in_range { IfSome result (λ n. n ≤ most) }
