@@ -55,6 +55,7 @@ impl Blocks {
     }
 
     // The block of a page.
+    #[inline(always)]
     pub(crate) fn find(&self, page: PageId) -> Option<u32>
         ensures { MatchOption result ((b : ℕ) → HoldsPage (slot_at self.now.table b) page → ⊥) (λ b. HoldsPage (slot_at self.now.table b) page) }
     {
@@ -62,6 +63,7 @@ impl Blocks {
     }
 
     // Why the page of a block would refuse a call, if it would.
+    #[inline(always)]
     pub(crate) fn refusal(&self, block: u32, call: PageCall) -> Option<Refusal>
         requires { IsSome (slot_at self.now.table block) }
         ensures { AtSlot self.now.table block (λ x. (p : ℕ) → result ≡ page_refusal x.page (page_call call p)) }
@@ -70,6 +72,7 @@ impl Blocks {
     }
 
     // Gives the page of a block mappings or a pin, or fills subpages of it, which isn't refused.
+    #[inline(always)]
     pub(crate) fn gain(&mut self, block: u32, gain: Gain)
         requires occupied { IsSome (slot_at self.old.table block) }
         requires allowed { AtSlot self.old.table block (λ x. page_refusal x.page (gain_call gain 0) ≡ None) }
@@ -80,6 +83,7 @@ impl Blocks {
 
     // Takes mappings or a pin from the page of a block, which isn't refused, and then queues or frees the page, or leaves
     // it. Answers that and the frames given back, and the caller whose batch the page left.
+    #[inline(always)]
     pub(crate) fn lose(&mut self, block: u32, loss: Loss, closed: bool) -> (Done, Option<u32>)
         requires occupied { IsSome (slot_at self.old.table block) }
         requires allowed { AtSlot self.old.table block (λ x. page_refusal x.page (loss_call loss 0) ≡ None) }
