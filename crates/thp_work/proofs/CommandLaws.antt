@@ -1,5 +1,5 @@
 -- A command, step after step.
-use Rattle.std.proofs.Common.{◌≡◌, ◌++◌, ℕ, [], ◌∷◌, refl, sym, ap, ◌∙◌, subst, append_assoc, Bool, true, false, Result, Ok, Err}
+use Rattle.std.proofs.Common.{◌≡◌, ◌++◌, ℕ, [], ◌∷◌, refl, sym, ap, ◌∙◌, subst, append_assoc, true, false, Result, Ok, Err}
 use Rattle.std.proofs.lemmas.List.{append-nil, map-append}
 use Rattle.std.proofs.lemmas.List.Elements.{All-nil, All-push}
 use Rattle.thp_text.specs.declared.script.Command.{Command}
@@ -13,7 +13,7 @@ use Rattle.thp_text.specs.declared.script.Op.TheVariants as op
 use Rattle.thp_work.specs.declared.reply.Reply.{Reply}
 use Rattle.thp_work.specs.declared.steps.Step.{Step}
 use Rattle.thp_work.specs.Does.{Reaction, IsFit}
-use Rattle.thp_work.specs.Fronts.{Fronts, HasAll, HasCaller, Goes, SameHolding, Answered, StepDone}
+use Rattle.thp_work.specs.Fronts.{Fronts, HasCaller, Goes, SameHolding, Answered, StepDone}
 use Rattle.thp_work.specs.Turns.{Progress, On, Ended, Comes, by_cell, IsReady, IsShared, is_scan, next_step, goes_on, scan_goes_on}
 use Rattle.thp_work.specs.Sections.{Made, Proceeds, told_by}
 use Rattle.thp_work.proofs.TurnLaws.{turned, fares}
