@@ -5,6 +5,4 @@
 #[cfg(test)]
 mod lines;
 #[cfg(test)]
-mod parts;
-#[cfg(test)]
 mod scripts;

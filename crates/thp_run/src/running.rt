@@ -11,21 +11,16 @@ use std::io::{Read, Write};
 use std::thread::Threads;
 use thp_report::report_text;
 use thp_scripts::run_script;
-use thp_text::{ReadFault, Script, Settings, read_script_by_threads};
+use thp_text::{ReadFault, Script, Settings, read_script};
 use thp_work::Gate;
 
 /// The script that the input spells. The input is let go.
-fn script_in<T: Threads + Sync>(
-    rt: &T,
-    alloc: Global,
-    settings: &Settings,
-    input: Vec<u8>,
-) -> Result<Script, ReadFault>
+fn script_in(alloc: Global, settings: &Settings, input: Vec<u8>) -> Result<Script, ReadFault>
     ensures script { IfOk result (λ script. script_of settings.now input.items ≡ Ok script) }
     ensures in_range { IfOk result (IsScriptFor settings.now) }
     ensures fault { IfErr result (TellsFault (script_of settings.now input.items)) }
 {
-    read_script_by_threads(rt, alloc, settings, input.as_slice())
+    read_script(alloc, settings, input.as_slice())
 }
 
 /// The report of a run of the script that the input spells.
@@ -39,7 +34,7 @@ fn report_of<T: Threads + Sync, G: Gate + Sync>(
     ensures text { IfOk result (λ text. IsReport settings.now input.items text.items) }
     ensures fault { IfErr result (TellsFault (script_of settings.now input.items)) }
 {
-    let script = script_in(rt, alloc, settings, input)?;
+    let script = script_in(alloc, settings, input)?;
     let ran = run_script(rt, alloc, settings, script, gate)?;
     let text = report_text(
         alloc,

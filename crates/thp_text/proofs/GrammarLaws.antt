@@ -1,11 +1,11 @@
 -- What the grammar reads: each command is in range, and each line that reads as a statement is printable and has no empty
 -- word.
-use Rattle.std.proofs.Common.{◌≡◌, ◌<◌, ◌≤◌, ◌-◌, ℕ, zero, suc, Bool, true, false, cond, List, [], ◌∷◌, Result, Ok, Err, arith, subst, refl, sym, inl, inr, codes, not}
+use Rattle.std.proofs.Common.{◌≡◌, ◌<◌, ◌≤◌, ◌-◌, ℕ, zero, suc, Bool, true, false, cond, List, [], ◌∷◌, Option, Result, Ok, Err, arith, subst, refl, sym, inl, inr, codes, not}
 use Rattle.std.specs.Prelude.{All}
 use Rattle.std.specs.List.{list_all, list_any}
 use Rattle.std.proofs.lemmas.List.Elements.{All-cons}
 use Rattle.thp_text.specs.declared.fault.TextKind.{TextKind}
-use Rattle.thp_text.specs.declared.fault.TextKind.TheVariants.{BadByte, BadWord}
+use Rattle.thp_text.specs.declared.fault.TextKind.TheVariants.{BadByte, BadOrder, BadWord}
 use Rattle.thp_text.specs.declared.script.Command.{Command}
 use Rattle.thp_text.specs.declared.script.Op.{Op}
 use Rattle.thp_text.specs.declared.script.Op.TheVariants.{Alloc, MapWhole, UnmapWhole, Map, Unmap, Write, Zero, SplitPmd, Pin, Unpin, Close, Scan, Count, Take, SplitNext, PutBack}
@@ -14,7 +14,7 @@ use Rattle.thp_text.specs.declared.statement.Statement.{Statement}
 use Rattle.thp_text.specs.declared.statement.Statement.TheVariants.{Nothing, Section, Call}
 use Rattle.thp_text.specs.Commands.{batch_command, call_command, command_of, further_command, is_further, node_command, node_number, number_up_to, page_command, range_command, FitsBatch, IsCommandFor}
 use Rattle.thp_text.specs.Lines.{is_empty, is_printable}
-use Rattle.thp_text.specs.Statements.{by_words, call_of, says_nothing, section_of, section_or_call, setup_of, statement_of, worker_number, worker_of, worker_or_call, IsInRange, IsSectionFor}
+use Rattle.thp_text.specs.Statements.{by_words, call_of, may_stand, says_nothing, section_of, section_or_call, setup_of, statement_in, statement_of, worker_number, worker_of, worker_or_call, IsInRange, IsSectionFor}
 use Rattle.thp_text.specs.Words.{Text, words_of}
 use Rattle.thp_text.proofs.LineLaws.{IsPlain, bind_ok, none_empty, number_read, ok_value, one_plain, pieces_printable, plain_word, read, word_cases}
 
@@ -278,8 +278,7 @@ cond_err : {A : Type 0} (b : Bool) (kind : TextKind) (others : Result A TextKind
 cond_err true kind others x e = absurd cc
 cond_err false kind others x e = e
 
--- what a line says is in range
-pub statement_in_range_of : (s : Settings) (line : Text) (statement : Statement) → statement_of s line ≡ Ok statement → IsInRange s statement
+statement_in_range_of : (s : Settings) (line : Text) (statement : Statement) → statement_of s line ≡ Ok statement → IsInRange s statement
 unfolding statement_of
 statement_in_range_of s line statement e =
     go (says_nothing line) (cond_err (not (list_all is_printable line)) BadByte _ statement e)
@@ -287,3 +286,15 @@ statement_in_range_of s line statement e =
     go : (b : Bool) → cond b (Ok Nothing) (cond (list_any is_empty (words_of line)) (Err BadWord) (by_words s (words_of line))) ≡ Ok statement → IsInRange s statement
     go true e = subst (λ t. IsInRange s t) (ok_value Nothing statement e) tt
     go false e = (line_read s (words_of line) statement (cond_err (list_any is_empty (words_of line)) BadWord _ statement e)).in_range
+
+-- what a line says in its place is in range
+pub statement_in_range : (s : Settings) (section : Option ℕ) (line : Text) (statement : Statement) → statement_in s section line ≡ Ok statement → IsInRange s statement
+unfolding statement_in
+statement_in_range s section line statement e =
+    let read = bind_ok (statement_of s line) _ statement e in
+    let same : read.0 ≡ statement = placed_same (may_stand section read.0) read.0 statement read.2 in
+    subst (λ t. IsInRange s t) same (statement_in_range_of s line read.0 read.1)
+  where
+    placed_same : (b : Bool) (t u : Statement) → cond b (Ok t) (Err BadOrder) ≡ Ok u → t ≡ u
+    placed_same true t u e = ok_value t u e
+    placed_same false t u e = absurd cc

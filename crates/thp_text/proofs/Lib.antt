@@ -6,4 +6,3 @@ pub mod SectionLaws
 pub mod ScriptLaws
 pub mod ThresholdLaws
 pub mod ListLaws
-pub mod PartLaws

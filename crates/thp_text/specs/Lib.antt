@@ -8,4 +8,3 @@ pub mod Commands
 pub mod Operands
 pub mod Statements
 pub mod Scripts
-pub mod Parts

@@ -1,28 +1,17 @@
 //! Scripts from bytes.
-ghost use Rattle.std.specs.Prelude.{◌≡◌, ◌≤◌, ◌<◌, ◌+◌, ◌++◌, [], ℕ, All, List, IfOk, IfErr, OnOk, IfSome, Some, Ok, length, map, slice_get, vec_len};
-ghost use Rattle.thp_text.specs.Parts.{joined, part_of, script_of_part};
+ghost use Rattle.std.specs.Prelude.{◌≡◌, ◌≤◌, ◌<◌, ◌+◌, ◌++◌, [], ℕ, List, IfOk, IfErr, OnOk, IfSome, length, vec_len};
 ghost use Rattle.thp_text.specs.Scripts.{placed, script_of, script_with, sections_with, IsScriptFor, Placed, TellsFault};
-ghost use Rattle.thp_text.specs.Statements.{IsInRange};
 ghost use Rattle.thp_text.specs.declared.fault.ReadFault.TheVariants.{OutOfMemory};
 
 use crate::fault::{ReadFault, TextKind};
 use crate::input::MAX_INPUT;
-use crate::part::{Part, cut_text, read_part};
+use crate::lines::fault_behind;
 use crate::script::{Command, Script};
 use crate::sequence::Sequence;
 use crate::settings::Settings;
-use crate::statement::{Statement, may_stand, section_after};
-use std::alloc::{AllocError, Global};
-use std::thread::{Threads, map_indices};
-
-/// About how many bytes of a script one thread reads.
-const PART_SIZE: usize = 1 << 20;
-
-/// The fault of a text that is longer than an input may be.
-const TOO_LONG: ReadFault = ReadFault::Text {
-    line: 0,
-    kind: TextKind::TooLong,
-};
+use crate::statement::{Statement, section_after, statement_in};
+use crate::words::cut_at;
+use std::alloc::Global;
 
 /// The sections of a script, `setup` first, before its first command.
 fn empty_sections(alloc: Global, workers: u32) -> Result<Vec<Sequence<Command>>, ReadFault>
@@ -67,100 +56,41 @@ fn script_of_sections(mut sections: Vec<Sequence<Command>>) -> Script
     }
 }
 
-/// The script of a text that was read in these parts, or its first fault: each statement is put to its place.
-fn script_of_parts(alloc: Global, settings: &Settings, parts: &[Part]) -> Result<Script, ReadFault>
-    requires in_range { All (IsInRange settings.now) (joined parts.now).statements }
-    requires few { length (joined parts.now).statements ≤ 16777216 }
-    ensures script { IfOk result (λ script. script_of_part settings.now (joined parts.now) ≡ Ok script) }
-    ensures in_range { IfOk result (IsScriptFor settings.now) }
-    ensures fault { IfErr result (TellsFault (script_of_part settings.now (joined parts.now))) }
-{
-    let mut sections = empty_sections(alloc, settings.workers)?;
-    let mut section = None;
-    let mut number: u32 = 1;
-    for part in parts {
-        for &statement in part.statements.as_slice() {
-            if !may_stand(section, statement) {
-                return Err(ReadFault::Text {
-                    line: number,
-                    kind: TextKind::BadOrder,
-                });
-            }
-            add(&mut sections, section, statement)?;
-            section = section_after(section, statement);
-            number += 1;
-        }
-        if let Some(kind) = part.fault {
-            return Err(ReadFault::Text { line: number, kind });
-        }
-    }
-    Ok(script_of_sections(sections))
-}
-
-/// The parts, where there was memory for each.
-fn all_parts(alloc: Global, read: Vec<Result<Part, AllocError>>) -> Result<Vec<Part>, AllocError>
-    ensures { IfOk result (λ parts. map (λ part. Ok part) parts.items ≡ read.items) }
-{
-    let mut parts = Vec::with_capacity(alloc, read.len())?;
-    for part in read {
-        parts.push(part?)?;
-    }
-    Ok(parts)
-}
-
-/// The parts of a text, each read by a thread of its own where one can be had.
-fn read_parts<R: Threads + Sync>(
-    rt: &R,
-    alloc: Global,
-    settings: &Settings,
-    texts: &[&[u8]],
-) -> Result<Vec<Part>, AllocError>
-    ensures { IfOk result (λ parts. parts.items ≡ map (λ text. part_of settings.now text.now) texts.now) }
-{
-    let read = map_indices(
-        rt,
-        alloc,
-        texts.len(),
-        &|index: usize| -> Result<Part, AllocError>
-            requires { index < length texts.now }
-            ensures { IfOk result (λ part. slice_get (map (λ text. part_of settings.entry.now text.now) texts.entry.now) index ≡ Some part) }
-        { read_part(alloc, settings, texts[index]) },
-    )?;
-    all_parts(alloc, read)
-}
-
 /// The script that a text spells, or its first fault.
 ///
 /// A section line, `setup` or `worker K`, begins a section; the lines after it are its commands. Empty lines and lines
-/// that begin with `#` say nothing. The script has a list of commands for each worker, also for those without a section.
+/// that begin with `#` say nothing. The text is read once, from its start to its first fault. The script has a list of
+/// commands for each worker, also for those without a section.
 pub fn read_script(alloc: Global, settings: &Settings, text: &[u8]) -> Result<Script, ReadFault>
     ensures script { IfOk result (λ script. script_of settings.now text.now ≡ Ok script) }
     ensures in_range { IfOk result (IsScriptFor settings.now) }
     ensures fault { IfErr result (TellsFault (script_of settings.now text.now)) }
 {
     if text.len() > MAX_INPUT {
-        return Err(TOO_LONG);
+        return Err(ReadFault::Text {
+            line: 0,
+            kind: TextKind::TooLong,
+        });
     }
-    let parts = [read_part(alloc, settings, text)?];
-    script_of_parts(alloc, settings, &parts)
-}
-
-/// The script that a text spells, or its first fault, as `read_script` answers. Texts of more than a mebibyte are cut at line
-/// feeds, and threads read them side by side.
-pub fn read_script_by_threads<R: Threads + Sync>(
-    rt: &R,
-    alloc: Global,
-    settings: &Settings,
-    text: &[u8],
-) -> Result<Script, ReadFault>
-    ensures script { IfOk result (λ script. script_of settings.now text.now ≡ Ok script) }
-    ensures in_range { IfOk result (IsScriptFor settings.now) }
-    ensures fault { IfErr result (TellsFault (script_of settings.now text.now)) }
-{
-    if text.len() > MAX_INPUT {
-        return Err(TOO_LONG);
+    let mut sections = empty_sections(alloc, settings.workers)?;
+    let mut section = None;
+    let mut number: u32 = 1;
+    let mut rest = text;
+    loop {
+        let (line, after) = cut_at(b'\n', rest);
+        let Some(after) = after else {
+            return match fault_behind(line) {
+                Some(kind) => Err(ReadFault::Text { line: number, kind }),
+                None => Ok(script_of_sections(sections)),
+            };
+        };
+        let statement = match statement_in(settings, section, line) {
+            Ok(statement) => statement,
+            Err(kind) => return Err(ReadFault::Text { line: number, kind }),
+        };
+        add(&mut sections, section, statement)?;
+        section = section_after(section, statement);
+        number += 1;
+        rest = after;
     }
-    let texts = cut_text(alloc, text, PART_SIZE)?;
-    let parts = read_parts(rt, alloc, settings, &texts)?;
-    script_of_parts(alloc, settings, &parts)
 }

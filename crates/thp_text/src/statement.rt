@@ -1,6 +1,6 @@
 //! What a line of a script says.
 ghost use Rattle.std.specs.Prelude.{◌≡◌};
-ghost use Rattle.thp_text.specs.Statements.{by_words, call_of, may_stand, says_nothing, section_after, section_or_call, setup_of, statement_of, worker_of, worker_or_call};
+ghost use Rattle.thp_text.specs.Statements.{by_words, call_of, may_stand, says_nothing, section_after, section_or_call, setup_of, statement_in, statement_of, worker_of, worker_or_call};
 
 use crate::fault::TextKind;
 use crate::lines::{fault_of_line, is_printable};
@@ -90,7 +90,7 @@ fn says_nothing(line: &[u8]) -> bool
 /// What a whole line says. Where it reads as a statement it has neither bad bytes nor empty words, so its bytes are looked
 /// at again only where it doesn't.
 #[tactic(auto, unfolding(crate::specs::Statements::statement_of))]
-pub(crate) fn statement_of(settings: &Settings, line: &[u8]) -> Result<Statement, TextKind>
+fn statement_of(settings: &Settings, line: &[u8]) -> Result<Statement, TextKind>
     ensures { result ≡ statement_of settings.now line.now }
 {
     if says_nothing(line) {
@@ -105,8 +105,7 @@ pub(crate) fn statement_of(settings: &Settings, line: &[u8]) -> Result<Statement
     }
 }
 
-/// Whether a statement may stand behind a section.
-pub(crate) fn may_stand(section: Option<u32>, statement: Statement) -> bool
+fn may_stand(section: Option<u32>, statement: Statement) -> bool
     ensures { result ≡ may_stand section statement }
 {
     match (section, statement) {
@@ -126,4 +125,20 @@ pub(crate) fn section_after(section: Option<u32>, statement: Statement) -> Optio
         Statement::Section(next) => Some(next),
         Statement::Nothing | Statement::Call(_) => section,
     }
+}
+
+/// What a whole line says in its place.
+#[tactic(auto, unfolding(crate::specs::Statements::statement_in))]
+pub(crate) fn statement_in(
+    settings: &Settings,
+    section: Option<u32>,
+    line: &[u8],
+) -> Result<Statement, TextKind>
+    ensures { result ≡ statement_in settings.now section line.now }
+{
+    let statement = statement_of(settings, line)?;
+    if !may_stand(section, statement) {
+        return Err(TextKind::BadOrder);
+    }
+    Ok(statement)
 }

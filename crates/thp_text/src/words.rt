@@ -9,9 +9,8 @@ ghost use Rattle.thp_text.specs.Words.{is_numeral, number_of, pieces_at, pieces_
 
 use std::marker::Model;
 
-/// Where a byte stands first.
 #[inline(always)]
-pub(crate) fn place_of(byte: u8, text: &[u8]) -> Option<usize>
+fn place_of(byte: u8, text: &[u8]) -> Option<usize>
     ensures { result ≡ position (λ b. b == byte) text.now }
 {
     text.iter().position(|b| *b == byte)

@@ -11,7 +11,7 @@ use thp_model::{Event, PageId, Shape, What};
 use thp_page::PageTable;
 use thp_places::Places;
 use thp_read::{check_text, read_journal};
-use thp_text::{ReadFault, Report, Settings, read_script, read_script_by_threads};
+use thp_text::{ReadFault, Report, Settings, read_script};
 
 const SHAPE: Shape = Shape {
     blocks: 64,
@@ -92,10 +92,6 @@ fn texts(rt: HostRuntime) {
         assert!(rt; matches!(fault, ReadFault::OutOfMemory));
         tell(&rt, "read_script");
         assert!(rt; read_script(rt.alloc(), &settings, SCRIPT).is_ok());
-    }
-    if let Err(fault) = read_script_by_threads(&rt, rt.alloc(), &settings, SCRIPT) {
-        assert!(rt; matches!(fault, ReadFault::OutOfMemory));
-        tell(&rt, "read_script_by_threads");
     }
     if let Err(fault) = read_journal(rt.alloc(), JOURNAL) {
         assert!(rt; matches!(fault, ReadFault::OutOfMemory));
