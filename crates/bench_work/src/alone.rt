@@ -13,7 +13,7 @@ use std::alloc::{AllocError, Global};
 use std::time::{Clock, CpuClock};
 use thp_cell::{NodeCell, Pass};
 use thp_model::PageId;
-use thp_work::{NoGate, NodePasses, Op, Step, Steps, work};
+use thp_work::{NoGate, NodePasses, Op, Reply, Step, Steps, work};
 
 /// Rounds on a bare node.
 pub(crate) fn on_node<R: Clock + CpuClock + AllocGlobal>(rt: &R, rounds: u32) -> Result<Times> {
@@ -77,5 +77,6 @@ fn step(passes: &mut NodePasses<'_>, op: Op) -> u64
     requires plain { IsPlain op }
     ensures two { OfTwo (fronts_in passes.new) }
 {
-    u64::from(passes.step(1, 0, Step::One(op)).is_ok())
+    let mut reply = Reply::Unit;
+    u64::from(passes.step(1, 0, Step::One(op), &mut reply).is_ok())
 }

@@ -5,7 +5,7 @@ use std::process::Abort;
 use thp_model::{Outcome, PageId, Refusal, SubSet};
 use thp_node::{BackReply, Done, ScanReply, Tried};
 use thp_text::Report;
-use thp_work::{Answer, AnswerLog, Reply, Section};
+use thp_work::{AnswerLog, Reply, Section};
 
 // The answers to the commands of a section, all on one node.
 fn section(
@@ -17,12 +17,11 @@ fn section(
 ) -> Section {
     let mut answers = AnswerLog::new(alloc, replies.len(), true).expect(rt, "room");
     for (command, reply) in replies.iter().enumerate() {
-        let answer = Answer {
-            command: u32::try_from(command).expect(rt, "a few commands"),
-            node,
-            reply: *reply,
-        };
-        answers.push(answer);
+        let command = u32::try_from(command).expect(rt, "a few commands");
+        match reply {
+            Ok(reply) => answers.push(command, node, Ok(()), reply),
+            Err(refusal) => answers.push(command, node, Err(*refusal), &Reply::Unit),
+        }
     }
     Section { worker, answers }
 }

@@ -56,7 +56,9 @@ pub fn step(passes: &mut NodePasses<'_>, caller: u32, step: Step) -> Result<Repl
     requires step { IsStep step }
     ensures two { OfTwo (fronts_in passes.new) }
 {
-    passes.step(caller, 0, step)
+    let mut reply = Reply::NoBatch;
+    passes.step(caller, 0, step, &mut reply)?;
+    Ok(reply)
 }
 
 // The calls from `from` on and before `to` find the node busy, of every `period` calls.

@@ -32,7 +32,13 @@ impl<'a> Steps for Stutter<'a> {
         self.inner.is_open(caller, node)
     }
 
-    fn step(&mut self, caller: u32, node: u32, step: Step) -> Result<Reply, CellFault> {
+    fn step(
+        &mut self,
+        caller: u32,
+        node: u32,
+        step: Step,
+        reply: &mut Reply,
+    ) -> Result<(), CellFault> {
         let call = self.calls;
         self.calls = if call.wrapping_add(1) >= self.period {
             0
@@ -42,6 +48,6 @@ impl<'a> Steps for Stutter<'a> {
         if self.from <= call && call < self.to {
             return Err(CellFault::Busy);
         }
-        self.inner.step(caller, node, step)
+        self.inner.step(caller, node, step, reply)
     }
 }

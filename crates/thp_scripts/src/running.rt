@@ -46,7 +46,7 @@ pub fn run_script<R: Threads + Sync, G: Gate + Sync>(
         return Err(AllocError);
     }
     let callers = settings.workers + 1;
-    let nodes = new_nodes(alloc, settings)?;
+    let nodes = new_nodes(alloc, settings, room_of_each(&script, settings.nodes))?;
     let (cells, passes) = share(alloc, nodes, callers)?;
     let keeps = tells_answers(settings.report);
     let (passes, sections) = run_on(
@@ -86,6 +86,21 @@ fn run_on<R: Threads + Sync, G: Gate + Sync>(
     let passes = NodePasses::new(nodes, callers, 0, callers);
     let (passes, sections) = run_sections(rt, alloc, passes, script, keeps, gate)?;
     Ok((close(alloc, passes)?, sections))
+}
+
+/// For how many events each node gets room: twice its share of the script's commands. A command leaves one event or none, but
+/// for those of batches, and room that isn't used costs no memory.
+fn room_of_each(script: &Script, nodes: u32) -> u32
+    requires { 1 ≤ nodes }
+{
+    let setup = script.setup.as_slice().len();
+    let all = script.workers.as_slice().iter().fold(
+        setup,
+        |all, commands| all.saturating_add(commands.as_slice().len()),
+    );
+    u32::try_from(all / nodes as usize)
+        .unwrap_or(u32::MAX)
+        .saturating_mul(2)
 }
 
 /// Whether a report tells answers; no other one does.

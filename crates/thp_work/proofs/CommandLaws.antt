@@ -1,5 +1,6 @@
 -- A command, step after step.
 use Rattle.std.proofs.Common.{◌≡◌, ◌++◌, ℕ, [], ◌∷◌, refl, sym, ap, ◌∙◌, subst, append_assoc, true, false, Result, Ok, Err}
+use Rattle.std.specs.Result.{IsErrAnd}
 use Rattle.std.proofs.lemmas.List.{append-nil, map-append}
 use Rattle.std.proofs.lemmas.List.Elements.{All-nil, All-push}
 use Rattle.thp_text.specs.declared.script.Command.{Command}
@@ -12,7 +13,7 @@ use Rattle.thp_text.specs.declared.script.Op.{Op}
 use Rattle.thp_text.specs.declared.script.Op.TheVariants as op
 use Rattle.thp_work.specs.declared.reply.Reply.{Reply}
 use Rattle.thp_work.specs.declared.steps.Step.{Step}
-use Rattle.thp_work.specs.Does.{Reaction, IsFit}
+use Rattle.thp_work.specs.Does.{Reaction, IsFit, answer_of}
 use Rattle.thp_work.specs.Fronts.{Fronts, HasCaller, Goes, SameHolding, Answered, StepDone}
 use Rattle.thp_work.specs.Turns.{Progress, On, Ended, Comes, by_cell, IsReady, IsShared, is_scan, next_step, goes_on, scan_goes_on}
 use Rattle.thp_work.specs.Sections.{Made, Proceeds, told_by}
@@ -116,6 +117,11 @@ module _ (c : ℕ) (command : Command) (first begun : Begun) (old mid new : Fron
   one_comes (Ok reply) one a = subst (Proceeds c command first old new) (one_ends command.op begun (Ok reply) one) (proceeds_more c command first begun old mid new (Ok reply) has fit g p a)
   one_comes (Err fault) one done = fault_comes fault done
 
+-- a fault that was handed on
+pub handed_on : (r : Result (Unit {0}) CellFault) (fault : CellFault) → IsErrAnd r (λ f. f ≡ fault) → r ≡ Err fault
+handed_on (Ok x) fault is = absurd is
+handed_on (Err f) fault is = ap (λ x. Err x) is
+
 -- a command is postponed where the holder hasn't all callers
 pub shared_comes : (c n : ℕ) (begun : Begun) (step : Step) (old mid new : Fronts) (result : Result Reply CellFault) → SameHolding old mid → StepDone c n step mid new result → Comes begun result (IsShared old)
 shared_comes c n begun step old mid new (Ok reply) same done = tt
@@ -149,12 +155,12 @@ refused_comes begun P why.NoBlock not p = p
 refused_comes begun P why.HasBatch not p = p
 
 -- what didn't stay busy and had memory is answered
-pub ended_comes : (begun : Begun) (P : Progress → Type 0) (r : Result Reply CellFault) → (r ≡ Err Busy → ⊥) → (r ≡ Err (Refused why.OutOfMemory) → ⊥) → Comes begun r P → (answer : Reaction) × P (Ended answer)
-ended_comes begun P (Ok reply) free room p = (Ok reply, p)
-ended_comes begun P (Err Busy) free room p = absurd (free refl)
-ended_comes begun P (Err (Refused r)) free room p = (Err r, refused_comes begun P r (λ e. room (ap (λ x. Err (Refused x)) e)) p)
+pub ended_comes : (begun : Begun) (P : Progress → Type 0) (called : Result (Unit {0}) CellFault) (reply : Reply) → (called ≡ Err Busy → ⊥) → (called ≡ Err (Refused why.OutOfMemory) → ⊥) → Comes begun (answer_of called reply) P → (answer : Reaction) × P (Ended answer)
+ended_comes begun P (Ok x) reply free room p = (Ok reply, p)
+ended_comes begun P (Err Busy) reply free room p = absurd (free refl)
+ended_comes begun P (Err (Refused r)) reply free room p = (Err r, refused_comes begun P r (λ e. room (ap (λ x. Err (Refused x)) e)) p)
 
 -- and so is what a cell answered
-pub cell_comes : (begun : Begun) (P : Progress → Type 0) (r : Result Reply CellFault) (answer : Reaction) → r ≡ by_cell answer → (r ≡ Err (Refused why.OutOfMemory) → ⊥) → Comes begun r P → P (Ended answer)
-cell_comes begun P r (Ok reply) is room p = subst (λ x. Comes begun x P) is p
-cell_comes begun P r (Err refusal) is room p = refused_comes begun P refusal (λ e. room (is ∙ ap (λ x. Err (Refused x)) e)) (subst (λ x. Comes begun x P) is p)
+pub cell_comes : (begun : Begun) (P : Progress → Type 0) (called : Result (Unit {0}) CellFault) (said : Result (Unit {0}) Refusal) (reply : Reply) → called ≡ by_cell said → (called ≡ Err (Refused why.OutOfMemory) → ⊥) → Comes begun (answer_of called reply) P → P (Ended (answer_of said reply))
+cell_comes begun P called (Ok x) reply is room p = subst (λ r. Comes begun (answer_of r reply) P) is p
+cell_comes begun P called (Err refusal) reply is room p = refused_comes begun P refusal (λ e. room (is ∙ ap (λ x. Err (Refused x)) e)) (subst (λ r. Comes begun (answer_of r reply) P) is p)

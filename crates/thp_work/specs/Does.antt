@@ -26,6 +26,11 @@ use Rattle.thp_work.specs.declared.reply.Reply.TheVariants as reply
 abbrev pub Reaction : Type 0
 Reaction = Result Reply Refusal
 
+-- the answer of a call that leaves its reply in a place, where this one stands now
+abbrev pub answer_of : {E : Type 0} → Result (Unit {0}) E → Reply → Result Reply E
+answer_of (Ok x) reply = Ok reply
+answer_of (Err why) reply = Err why
+
 -- an open batch: the pages taken, and those of them that are still to be tried
 pub record Open : Type 0 where
   pub pages : List ℕ

@@ -114,8 +114,8 @@ pub data Progress : Type 0 where
   Ended : Reaction → Progress
 
 -- an answer as a cell gives it
-abbrev pub by_cell : Reaction → Result Reply CellFault
-by_cell (Ok reply) = Ok reply
+abbrev pub by_cell : {A : Type 0} → Result A Refusal → Result A CellFault
+by_cell (Ok answer) = Ok answer
 by_cell (Err why) = Err (Refused why)
 
 -- a command was answered, or goes on from `begun` since its node stayed busy; without memory nothing is said of it

@@ -1,10 +1,12 @@
 //! The answers of a section, kept or only counted.
 ghost use Rattle.std.specs.Prelude.{◌≡◌, ◌<◌, ◌≤◌, ◌+◌, ◌++◌, ◌∷◌, [], true, false, length, vec_len, vec_capacity, IfOk, MatchOption};
+ghost use Rattle.thp_work.specs.Does.{answer_of};
 
-use crate::reply::Answer;
+use crate::reply::{Answer, Reply};
 use std::alloc::{AllocError, Global};
 use std::marker::Model;
 use std::snapshot::Snapshot;
+use thp_model::Refusal;
 
 // The answers so far, which only contracts see: they take no bytes.
 #[derive(Drop)]
@@ -53,20 +55,25 @@ impl AnswerLog {
         })
     }
 
-    /// Adds an answer, for which there is room.
-    pub fn push(&mut self, answer: Answer)
+    /// Adds the answer to a command, by its number and its node, for which there is room. Where the command wasn't refused, the
+    /// answer is the reply, which is copied only where the log keeps it.
+    #[inline(always)]
+    pub fn push(&mut self, command: u32, node: u32, called: Result<(), Refusal>, reply: &Reply)
         requires { length self.old.items < self.old.room }
-        ensures items { self.new.items ≡ self.old.items ++ answer ∷ [] }
+        ensures items { self.new.items ≡ self.old.items ++ record { command = command; node = node; reply = answer_of called reply.now } ∷ [] }
         ensures count { length self.new.items ≡ length self.old.items + 1 }
         ensures keeps { self.new.keeps ≡ self.old.keeps }
         ensures room { self.new.room ≡ self.old.room }
     {
-        let last = Snapshot::of(&answer);
+        // for contracts alone: the program has nothing of it
+        let last = Snapshot::of(&answer_to(command, node, called, reply));
         let nothing = Snapshot::of(&Told::Nothing);
         let told = std::mem::replace(&mut self.told, nothing);
         self.told = Snapshot::of(&Told::After(last, told));
         self.count += 1;
-        push_where(self.keeps, &mut self.kept, answer);
+        push_where(self.keeps, &mut self.kept, || {
+            answer_to(command, node, called, reply)
+        });
     }
 
     /// How many answers there are.
@@ -88,13 +95,30 @@ impl AnswerLog {
     }
 }
 
-// Adds an item, for which there is room, where it is wanted.
-fn push_where<T: Copy>(wanted: bool, items: &mut Vec<T>, item: T)
-    requires { wanted ≡ true → vec_len items.old < vec_capacity items.old }
-    ensures items { wanted ≡ true → items.new.items ≡ items.old.items ++ item ∷ [] }
+// Adds an item, for which there is room, where it is wanted; it is made only then.
+#[inline(always)]
+fn push_where<T, F: FnOnce() -> T>(wanted: bool, items: &mut Vec<T>, make: F)
+    requires make { F.pre make }
+    requires room { wanted ≡ true → vec_len items.old < vec_capacity items.old }
+    ensures items { wanted ≡ true → (item : _) × F.post make item × (items.new.items ≡ items.old.items ++ item ∷ []) }
     ensures capacity { vec_capacity items.new ≡ vec_capacity items.old }
 {
     if wanted {
-        items.push_reserved(item);
+        items.push_reserved(make());
+    }
+}
+
+// The answer to a command: its reply, or why it was refused.
+#[inline(always)]
+fn answer_to(command: u32, node: u32, called: Result<(), Refusal>, reply: &Reply) -> Answer
+    ensures { result ≡ record { command = command; node = node; reply = answer_of called reply.now } }
+{
+    Answer {
+        command,
+        node,
+        reply: match called {
+            Ok(()) => Ok(*reply),
+            Err(refusal) => Err(refusal),
+        },
     }
 }

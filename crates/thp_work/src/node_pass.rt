@@ -3,7 +3,7 @@ ghost use Rattle.std.specs.Prelude.{◌≡◌, ◌<◌, ◌≤◌, ℕ, length, 
 ghost use Rattle.thp_model.specs.Legal.{IsLegal};
 ghost use Rattle.thp_cell.specs.Calls.{IsJoined, PartsStay};
 ghost use Rattle.thp_cell.specs.Views.{HasCaller};
-ghost use Rattle.thp_work.specs.Does.{IsPlain, IsStep};
+ghost use Rattle.thp_work.specs.Does.{answer_of, IsPlain, IsStep};
 ghost use Rattle.thp_work.specs.Sections.{is_open};
 ghost use Rattle.thp_work.specs.Holdings.{batch_of, lower_part, loss_reply, unit_reply, upper_part, HeldDone, IsSomeBatch, OpenStay};
 
@@ -76,17 +76,22 @@ impl<'a> NodePass<'a> {
         is_open(&self.batches, (caller - first) as usize)
     }
 
-    /// One step of a caller.
-    pub(crate) fn step(&mut self, caller: u32, step: Step) -> Result<Reply, CellFault>
+    /// One step of a caller. What it is replied stands in `reply`, which after a fault says nothing.
+    pub(crate) fn step(
+        &mut self,
+        caller: u32,
+        step: Step,
+        reply: &mut Reply,
+    ) -> Result<(), CellFault>
         requires caller { HasCaller self.old.pass caller }
         requires step { IsStep step }
-        ensures { HeldDone caller step self.old self.new result }
+        ensures { HeldDone caller step self.old self.new (answer_of result reply.new) }
     {
         match step {
-            Step::One(op) => self.one(caller, op),
-            Step::Take(count) => self.take(caller, count),
-            Step::SplitNext => self.split_next(caller),
-            Step::PutBack => self.put_back(caller),
+            Step::One(op) => self.one(caller, op, reply),
+            Step::Take(count) => self.take(caller, count, reply),
+            Step::SplitNext => self.split_next(caller, reply),
+            Step::PutBack => self.put_back(caller, reply),
         }
     }
 
@@ -152,40 +157,68 @@ impl<'a> NodePass<'a> {
         })
     }
 
-    fn one(&mut self, caller: u32, op: Op) -> Result<Reply, CellFault>
+    fn one(&mut self, caller: u32, op: Op, reply: &mut Reply) -> Result<(), CellFault>
         requires caller { HasCaller self.old.pass caller }
         requires plain { IsPlain op }
-        ensures { HeldDone caller (Step.One op) self.old self.new result }
+        ensures { HeldDone caller (Step.One op) self.old self.new (answer_of result reply.new) }
     {
         match op {
             Op::Alloc => match self.cell.alloc_page(&mut self.pass, caller) {
-                Ok(page) => Ok(Reply::Page(page)),
+                Ok(page) => {
+                    *reply = Reply::Page(page);
+                    Ok(())
+                }
                 Err(fault) => Err(fault),
             },
             Op::MapWhole { page } => {
-                unit(self.cell.map_whole(&mut self.pass, caller, PageId(page)))
+                unit(
+                    self.cell.map_whole(&mut self.pass, caller, PageId(page)),
+                    reply,
+                )
             }
             Op::UnmapWhole { page } => {
-                loss(self.cell.unmap_whole(&mut self.pass, caller, PageId(page)))
+                loss(
+                    self.cell.unmap_whole(&mut self.pass, caller, PageId(page)),
+                    reply,
+                )
             }
-            Op::Map { first, count, page } => self.map(caller, page, first, count),
-            Op::Unmap { first, count, page } => self.unmap(caller, page, first, count),
-            Op::Write { first, count, page } => self.write(caller, page, first, count),
-            Op::Zero { first, count, page } => self.zero(caller, page, first, count),
+            Op::Map { first, count, page } => self.map(caller, page, first, count, reply),
+            Op::Unmap { first, count, page } => self.unmap(caller, page, first, count, reply),
+            Op::Write { first, count, page } => self.write(caller, page, first, count, reply),
+            Op::Zero { first, count, page } => self.zero(caller, page, first, count, reply),
             Op::SplitPmd { page } => {
-                unit(self.cell.split_pmd(&mut self.pass, caller, PageId(page)))
+                unit(
+                    self.cell.split_pmd(&mut self.pass, caller, PageId(page)),
+                    reply,
+                )
             }
-            Op::Pin { page } => unit(self.cell.pin(&mut self.pass, caller, PageId(page))),
-            Op::Unpin { page } => loss(self.cell.unpin(&mut self.pass, caller, PageId(page))),
-            Op::Close => unit(self.cell.close(&mut self.pass, caller)),
-            Op::Count => Ok(Reply::Count(self.cell.count(&mut self.pass))),
-            Op::Scan { .. } | Op::Take { .. } | Op::SplitNext | Op::PutBack => Ok(Reply::NoBatch),
+            Op::Pin { page } => unit(self.cell.pin(&mut self.pass, caller, PageId(page)), reply),
+            Op::Unpin { page } => loss(
+                self.cell.unpin(&mut self.pass, caller, PageId(page)),
+                reply,
+            ),
+            Op::Close => unit(self.cell.close(&mut self.pass, caller), reply),
+            Op::Count => {
+                *reply = Reply::Count(self.cell.count(&mut self.pass));
+                Ok(())
+            }
+            Op::Scan { .. } | Op::Take { .. } | Op::SplitNext | Op::PutBack => {
+                *reply = Reply::NoBatch;
+                Ok(())
+            }
         }
     }
 
-    fn map(&mut self, caller: u32, page: u64, first: u16, count: u16) -> Result<Reply, CellFault>
+    fn map(
+        &mut self,
+        caller: u32,
+        page: u64,
+        first: u16,
+        count: u16,
+        reply: &mut Reply,
+    ) -> Result<(), CellFault>
         requires caller { HasCaller self.old.pass caller }
-        ensures { HeldDone caller (Step.One (Op.Map first count page)) self.old self.new result }
+        ensures { HeldDone caller (Step.One (Op.Map first count page)) self.old self.new (answer_of result reply.new) }
     {
         let page = PageId(page);
         let first = u32::from(first);
@@ -193,12 +226,20 @@ impl<'a> NodePass<'a> {
         unit(
             self.cell
                 .map_sub(&mut self.pass, caller, page, first, count),
+            reply,
         )
     }
 
-    fn unmap(&mut self, caller: u32, page: u64, first: u16, count: u16) -> Result<Reply, CellFault>
+    fn unmap(
+        &mut self,
+        caller: u32,
+        page: u64,
+        first: u16,
+        count: u16,
+        reply: &mut Reply,
+    ) -> Result<(), CellFault>
         requires caller { HasCaller self.old.pass caller }
-        ensures { HeldDone caller (Step.One (Op.Unmap first count page)) self.old self.new result }
+        ensures { HeldDone caller (Step.One (Op.Unmap first count page)) self.old self.new (answer_of result reply.new) }
     {
         let page = PageId(page);
         let first = u32::from(first);
@@ -206,33 +247,54 @@ impl<'a> NodePass<'a> {
         loss(
             self.cell
                 .unmap_sub(&mut self.pass, caller, page, first, count),
+            reply,
         )
     }
 
-    fn write(&mut self, caller: u32, page: u64, first: u16, count: u16) -> Result<Reply, CellFault>
+    fn write(
+        &mut self,
+        caller: u32,
+        page: u64,
+        first: u16,
+        count: u16,
+        reply: &mut Reply,
+    ) -> Result<(), CellFault>
         requires caller { HasCaller self.old.pass caller }
-        ensures { HeldDone caller (Step.One (Op.Write first count page)) self.old self.new result }
+        ensures { HeldDone caller (Step.One (Op.Write first count page)) self.old self.new (answer_of result reply.new) }
     {
         let page = PageId(page);
         let first = u32::from(first);
         let count = u32::from(count);
-        unit(self.cell.write(&mut self.pass, caller, page, first, count))
+        unit(
+            self.cell.write(&mut self.pass, caller, page, first, count),
+            reply,
+        )
     }
 
-    fn zero(&mut self, caller: u32, page: u64, first: u16, count: u16) -> Result<Reply, CellFault>
+    fn zero(
+        &mut self,
+        caller: u32,
+        page: u64,
+        first: u16,
+        count: u16,
+        reply: &mut Reply,
+    ) -> Result<(), CellFault>
         requires caller { HasCaller self.old.pass caller }
-        ensures { HeldDone caller (Step.One (Op.Zero first count page)) self.old self.new result }
+        ensures { HeldDone caller (Step.One (Op.Zero first count page)) self.old self.new (answer_of result reply.new) }
     {
         let page = PageId(page);
         let first = u32::from(first);
         let count = u32::from(count);
-        unit(self.cell.zero(&mut self.pass, caller, page, first, count))
+        unit(
+            self.cell.zero(&mut self.pass, caller, page, first, count),
+            reply,
+        )
     }
 
-    fn take(&mut self, caller: u32, count: u32) -> Result<Reply, CellFault>
+    fn take(&mut self, caller: u32, count: u32, reply: &mut Reply) -> Result<(), CellFault>
         requires caller { HasCaller self.old.pass caller }
         requires step { IsStep (Step.Take count) }
-        ensures { HeldDone caller (Step.Take count) self.old self.new result }
+        ensures { HeldDone caller (Step.Take count) self.old self.new (answer_of result reply.new) }
     {
         let (first, _) = self.pass.callers();
         let place = (caller - first) as usize;
@@ -243,40 +305,49 @@ impl<'a> NodePass<'a> {
             Ok(batch) => {
                 let taken = batch.pages().len() as u32;
                 put_at(&mut self.batches, place, batch);
-                Ok(Reply::Taken(taken))
+                *reply = Reply::Taken(taken);
+                Ok(())
             }
             Err(fault) => Err(fault),
         }
     }
 
-    fn split_next(&mut self, caller: u32) -> Result<Reply, CellFault>
+    fn split_next(&mut self, caller: u32, reply: &mut Reply) -> Result<(), CellFault>
         requires caller { HasCaller self.old.pass caller }
-        ensures { HeldDone caller Step.SplitNext self.old self.new result }
+        ensures { HeldDone caller Step.SplitNext self.old self.new (answer_of result reply.new) }
     {
         let (first, _) = self.pass.callers();
         let place = (caller - first) as usize;
         let Some(mut batch) = take_at(&mut self.batches, place) else {
-            return Ok(Reply::NoBatch);
+            *reply = Reply::NoBatch;
+            return Ok(());
         };
         let answer = self.cell.split_next(&mut self.pass, &mut batch);
         put_at(&mut self.batches, place, batch);
         match answer {
-            Ok(tried) => Ok(Reply::Tried(tried)),
+            Ok(tried) => {
+                *reply = Reply::Tried(tried);
+                Ok(())
+            }
             Err(fault) => Err(fault),
         }
     }
 
-    fn put_back(&mut self, caller: u32) -> Result<Reply, CellFault>
+    fn put_back(&mut self, caller: u32, reply: &mut Reply) -> Result<(), CellFault>
         requires caller { HasCaller self.old.pass caller }
-        ensures { HeldDone caller Step.PutBack self.old self.new result }
+        ensures { HeldDone caller Step.PutBack self.old self.new (answer_of result reply.new) }
     {
         let (first, _) = self.pass.callers();
         let place = (caller - first) as usize;
         let Some(batch) = take_at(&mut self.batches, place) else {
-            return Ok(Reply::NoBatch);
+            *reply = Reply::NoBatch;
+            return Ok(());
         };
         match self.cell.put_back(&mut self.pass, batch) {
-            Ok(back) => Ok(Reply::Back(back)),
+            Ok(back) => {
+                *reply = Reply::Back(back);
+                Ok(())
+            }
             Err((batch, fault)) => {
                 put_at(&mut self.batches, place, batch);
                 Err(fault)
@@ -310,20 +381,17 @@ fn put_at(batches: &mut Vec<Option<Batch>>, place: usize, batch: Batch)
     batches[place] = Some(batch);
 }
 
-fn unit(called: Result<(), CellFault>) -> Result<Reply, CellFault>
-    ensures { result ≡ unit_reply called }
+fn unit(called: Result<(), CellFault>, reply: &mut Reply) -> Result<(), CellFault>
+    ensures { answer_of result reply.new ≡ unit_reply called }
 {
-    match called {
-        Ok(()) => Ok(Reply::Unit),
-        Err(fault) => Err(fault),
-    }
+    called?;
+    *reply = Reply::Unit;
+    Ok(())
 }
 
-fn loss(called: Result<Done, CellFault>) -> Result<Reply, CellFault>
-    ensures { result ≡ loss_reply called }
+fn loss(called: Result<Done, CellFault>, reply: &mut Reply) -> Result<(), CellFault>
+    ensures { answer_of result reply.new ≡ loss_reply called }
 {
-    match called {
-        Ok(done) => Ok(Reply::Done(done)),
-        Err(fault) => Err(fault),
-    }
+    *reply = Reply::Done(called?);
+    Ok(())
 }

@@ -37,7 +37,7 @@ returns-after-alloc_page c =
     let bs = c.self.inside.batches.items in
     rw (c.in-Alloc.is, ← c.self.view_is)
     (elim c.match-alloc_page.branch [
-      | in-Ok w ↦ rw w.result-is (alloc_done p q bs c.args.caller w.in-Ok.page c.alloc_page.ensures.same w.in-Ok.ensures.recorded)
+      | in-Ok w ↦ rw (w.result-is, w.reply-is) (alloc_done p q bs c.args.caller w.in-Ok.page c.alloc_page.ensures.same w.in-Ok.ensures.recorded)
       | in-Err w ↦ rw w.result-is (op_failed p q bs c.args.caller op.Alloc 1 w.in-Err.fault c.alloc_page.ensures.same w.in-Err.ensures.failed)
     ])
 

@@ -1,6 +1,7 @@
 use Rattle.std.proofs.Common.{◌∙◌, ◌-◌, ℕ, sym, subst}
 use Rattle.thp_cell.specs.Views.{HasCaller}
 use Rattle.thp_work.specs.declared.steps.Step.TheVariants.{SplitNext}
+use Rattle.thp_work.specs.Does.{answer_of}
 use Rattle.thp_work.specs.Holdings.{HeldDone}
 use Rattle.thp_work.proofs.HoldingLaws.{place_in, mine, has_mine, held_none, no_split_held, held_again, split_held, split_failed}
 use Rattle.thp_work.proofs.node_pass.NodePass.split_next.Goals.{in-Ok, in-Err}
@@ -67,8 +68,8 @@ returns c =
     let q = c.split_next-answer.new.pass in
     let new = c.put_at.new.batches.items in
     let now = rw c.take_at.ensures.now at c.put_at.ensures in
-    subst (λ x. HeldDone who SplitNext x (record { pass = q; batches = new }) c.match-answer.result) c.self.view_is
+    subst (λ x. HeldDone who SplitNext x (record { pass = q; batches = new }) (answer_of c.match-answer.result c.match-answer.reply)) c.self.view_is
     (elim c.match-answer.branch [
-      | in-Ok w ↦ rw w.result-is (split_held p q bs new who place e.same at.0 at.1 c.in-Some.batch c.split_next-answer.new.batch w.in-Ok.tried own.0 is now e.same_pages w.in-Ok.ensures.recorded)
+      | in-Ok w ↦ rw (w.result-is, w.reply-is) (split_held p q bs new who place e.same at.0 at.1 c.in-Some.batch c.split_next-answer.new.batch w.in-Ok.tried own.0 is now e.same_pages w.in-Ok.ensures.recorded)
       | in-Err w ↦ rw w.result-is (split_failed p q bs new who place e.same at.0 at.1 c.in-Some.batch c.split_next-answer.new.batch _ w.in-Err.fault is w.in-Err.ensures.kept now w.in-Err.ensures.failed)
     ])
