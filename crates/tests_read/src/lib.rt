@@ -7,4 +7,6 @@ mod blocks;
 #[cfg(test)]
 mod faults;
 #[cfg(test)]
+mod parts;
+#[cfg(test)]
 mod rows;

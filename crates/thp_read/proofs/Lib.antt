@@ -4,3 +4,4 @@ pub mod NodeLaws
 pub mod AnswerLaws
 pub mod PlainWords
 pub mod PlainLines
+pub mod PartLaws

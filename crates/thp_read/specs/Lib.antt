@@ -6,3 +6,4 @@ pub mod LineRanges
 pub mod Journals
 pub mod Reading
 pub mod Answers
+pub mod Parts

@@ -1,4 +1,4 @@
--- What a reader of journals keeps. No public clause cites this module.
+-- What a reader of journals keeps. Public clauses cite this module through `Parts` alone.
 use Rattle.std.specs.Prelude.{◌≡◌, ◌≤◌, ◌+◌, ℕ, All, List, [], ◌∷◌, ◌++◌, length, Option, Some, None, IfSome}
 use Rattle.thp_model.specs.declared.events.Event.{Event}
 use Rattle.thp_model.specs.declared.shape.Shape.{Shape}

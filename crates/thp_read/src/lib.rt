@@ -12,9 +12,9 @@ mod reading;
 mod set_text;
 mod version;
 
-pub use checking::check_text;
+pub use checking::{check_journals, check_text};
 pub use event_word::{EventWord, LossWord, PageWord, RangeWord};
-pub use journal_reader::read_journal;
+pub use journal_reader::{JournalReader, read_journal};
 pub use journals::{Journals, NodeJournal};
 pub use line::Line;
 pub use place::Place;

@@ -12,11 +12,13 @@ read_more (Some xs) None c bytes piece h k = absurd h
 read_more (Some xs) (Some ys) None bytes piece h k = absurd k
 read_more (Some xs) (Some ys) (Some zs) bytes piece h k = rw (h, k) (sym (append_assoc bytes piece zs))
 
--- all was read
-pub read_all : (a b : Option (List ℕ)) (bytes : List ℕ) → Consumes a b bytes → IsAtEnd b → IfSome a (IsInputOf bytes)
-read_all None b bytes h end = tt
-read_all (Some xs) None bytes h end = absurd h
-read_all (Some xs) (Some ys) bytes h end = record { rest = ys; front = h; all = λ le. end }
+-- all was read: one more read gave nothing
+pub read_all : (a b c : Option (List ℕ)) (bytes piece : List ℕ) → Consumes a b bytes → Consumes b c piece → length piece ≡ 0 → IsAtEnd c → IfSome a (IsInputOf bytes)
+read_all None b c bytes piece h k none end = tt
+read_all (Some xs) None c bytes piece h k none end = absurd h
+read_all (Some xs) (Some ys) None bytes piece h k none end = absurd k
+read_all (Some xs) (Some ys) (Some zs) bytes [] h k none end = record { rest = ys; front = h; all = λ le. k ∙ end }
+read_all (Some xs) (Some ys) (Some zs) bytes (b ∷ piece) h k none end = absurd (omega arith)
 
 -- more was read than an input may have
 pub read_beyond : (a b : Option (List ℕ)) (bytes : List ℕ) → Consumes a b bytes → 16777216 < length bytes → IfSome a (IsInputOf bytes)
@@ -72,3 +74,7 @@ flush_ends (Some xs) None c text rest w e k = absurd w.written
 flush_ends (Some xs) (Some ys) None text rest w e k = absurd k
 flush_ends (Some xs) (Some ys) (Some zs) text [] w e k = k ∙ w.written ∙ ap (λ (t : List ℕ). xs ++ t) (sym (w.parts ∙ append-nil w.front))
 flush_ends (Some xs) (Some ys) (Some zs) text (r ∷ rest) w e k = absurd (omega arith)
+
+-- what was told of the bytes so far goes on with one more piece
+pub goes_on : {A : Type 0} (before now whole : List ℕ → A) (bytes piece : List ℕ) → ((more : List ℕ) → now more ≡ before (piece ++ more)) → ((more : List ℕ) → before more ≡ whole (bytes ++ more)) → (more : List ℕ) → now more ≡ whole ((bytes ++ piece) ++ more)
+goes_on before now whole bytes piece step so-far more = step more ∙ so-far (piece ++ more) ∙ ap whole (sym (append_assoc bytes piece more))

@@ -5,7 +5,6 @@ use Rattle.clap.specs.Words.{kind_of}
 use Rattle.thp_line.specs.declared.line.Line.{Line}
 use Rattle.thp_text.specs.declared.fault.TextKind.{TextKind}
 use Rattle.thp_run.specs.Outcomes.{ended_by, Answers, Device, Does, IsEndedAs, IsToldAs, Served, WasAnswered}
-use Rattle.thp_run.specs.declared.ending.Ending.{Ending}
 use Rattle.thp_run.specs.declared.ending.ProgramFault.{ProgramFault}
 use Rattle.thp_run.specs.declared.ending.ProgramFault.TheVariants.{Run, Usage, NoText, Orders, Underused}
 use Rattle.thp_run.specs.declared.ending.WordsFault.{WordsFault}

@@ -2,12 +2,12 @@
 ghost use Rattle.std.specs.Prelude.{◌≡◌, IfOk, false, string_bytes};
 ghost use Rattle.thp_run.specs.Verdicts.{verdict_text, CheckEnds};
 
-use crate::device::{read_input, write_text};
+use crate::device::{read_journal_parts, write_text};
 use crate::fault::RunFault;
 use crate::watched::Watched;
 use std::alloc::{AllocError, Global};
 use std::io::{Read, Write};
-use thp_read::check_text;
+use thp_read::check_journals;
 
 /// The line that tells whether a journal is legal, by the line of its first illegal event.
 #[tactic(auto, unfolding(crate::specs::Verdicts::verdict_text))]
@@ -31,8 +31,9 @@ pub fn check_run<R: Read, W: Write>(
     requires writer { writer.old.failed ≡ false }
     ensures { CheckEnds (R.remaining reader.old.device) (W.contents writer.old.device) (W.contents writer.new.device) reader.new.failed writer.new.failed result }
 {
-    let input = read_input(alloc, reader)?;
-    let illegal = check_text(alloc, input.as_slice())?;
+    let parts = read_journal_parts(alloc, reader)?;
+    let journals = parts.finish()?;
+    let illegal = check_journals(alloc, &journals)?;
     let text = verdict(alloc, illegal)?;
     write_text(writer, text.as_bytes()).ok_or(RunFault::Write)?;
     Ok(illegal.is_none())

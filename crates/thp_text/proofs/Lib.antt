@@ -6,3 +6,4 @@ pub mod SectionLaws
 pub mod ScriptLaws
 pub mod ThresholdLaws
 pub mod ListLaws
+pub mod PartLaws

@@ -1,15 +1,11 @@
 -- The commands of each section, as one more command is read.
-use Rattle.std.proofs.Common.{◌≡◌, ℕ, zero, suc, ◌+◌, ◌<◌, ◌==◌, Bool, true, false, cond, List, [], ◌∷◌, ◌++◌, length, map, get_or, set, refl, arith}
-use Rattle.std.specs.Prelude.{replicate, All}
+use Rattle.std.proofs.Common.{◌≡◌, ℕ, zero, suc, ◌+◌, ◌<◌, ◌==◌, Bool, true, false, cond, List, [], ◌∷◌, ◌++◌, length, map, get_or, set, refl, sym, arith, ◌∙◌, ◌≤◌}
+use Rattle.std.specs.Prelude.{replicate}
 use Rattle.std.specs.List.{range_with_len}
 use Rattle.std.proofs.lemmas.Bool.{eq-eqb, ne_eqb}
-use Rattle.std.proofs.lemmas.List.{append-nil}
-use Rattle.std.proofs.lemmas.List.Elements.{All-nil, All-cons, All-tail}
+use Rattle.std.proofs.lemmas.List.{append-nil, set_past}
 use Rattle.thp_text.specs.declared.script.Command.{Command}
-use Rattle.thp_text.specs.declared.settings.Settings.{Settings}
-use Rattle.thp_text.specs.Commands.{IsCommandFor}
-use Rattle.thp_text.specs.Statements.{IsSectionFor}
-use Rattle.thp_text.specs.Scripts.{Placed, commands_in, sections_with, script_with, IsScriptFor}
+use Rattle.thp_text.specs.Scripts.{Placed, commands_in, script_with}
 
 cond_push : (b : Bool) (x : Command) (xs ys : List Command) → cond b (x ∷ (xs ++ ys)) (xs ++ ys) ≡ cond b (x ∷ xs) xs ++ ys
 cond_push true x xs ys = refl
@@ -25,6 +21,10 @@ commands_in-push_other k ps p other = rw (commands_in-push k ps p, ne_eqb p.0 k 
 
 commands_in-push_here : (k : ℕ) (ps : List Placed) (p : Placed) → p.0 ≡ k → commands_in k (ps ++ p ∷ []) ≡ commands_in k ps ++ p.1 ∷ []
 commands_in-push_here k ps p here = rw (commands_in-push k ps p, eq-eqb p.0 k here) refl
+
+-- all sections: `setup`, and one for each worker
+unfoldable pub sections_with : ℕ → List Placed → List (List Command)
+sections_with workers ps = map (λ k. commands_in k ps) (range_with_len 0 (workers + 1))
 
 -- the n sections from number a on
 abbrev sections_from : ℕ → ℕ → List Placed → List (List Command)
@@ -44,6 +44,10 @@ pub sections_with-push : (workers k : ℕ) (ps : List Placed) (command : Command
 unfolding sections_with
 sections_with-push workers k ps command lt = from-push (workers + 1) 0 k ps (k, command) (omega arith) lt
 
+from-push_beyond : (n a : ℕ) (ps : List Placed) (p : Placed) → a + n ≤ p.0 → sections_from a n (ps ++ p ∷ []) ≡ sections_from a n ps
+from-push_beyond zero a ps p le = refl
+from-push_beyond (suc n) a ps p le = rw (commands_in-push_other a ps p (λ (e : p.0 ≡ a). absurd (omega arith)), from-push_beyond n (a + 1) ps p (omega arith)) refl
+
 from-length : (n a : ℕ) (ps : List Placed) → length (sections_from a n ps) ≡ n
 from-length zero a ps = refl
 from-length (suc n) a ps = rw (from-length n (a + 1) ps) refl
@@ -52,6 +56,14 @@ from-length (suc n) a ps = rw (from-length n (a + 1) ps) refl
 pub length-sections_with : (workers : ℕ) (ps : List Placed) → length (sections_with workers ps) ≡ workers + 1
 unfolding sections_with
 length-sections_with workers ps = from-length (workers + 1) 0 ps
+
+same_beyond : (workers : ℕ) (ps : List Placed) (p : Placed) → workers + 1 ≤ p.0 → sections_with workers (ps ++ p ∷ []) ≡ sections_with workers ps
+unfolding sections_with
+same_beyond workers ps p le = from-push_beyond (workers + 1) 0 ps p (omega arith)
+
+-- a command of a section that there isn't changes nothing
+pub sections_with-push_beyond : (workers : ℕ) (ps : List Placed) (p : Placed) (commands : List Command) → workers + 1 ≤ p.0 → set (sections_with workers ps) p.0 commands ≡ sections_with workers (ps ++ p ∷ [])
+sections_with-push_beyond workers ps p commands le = set_past (sections_with workers ps) p.0 commands (rw (length-sections_with workers ps) le) ∙ sym (same_beyond workers ps p le)
 
 from-none : (n a : ℕ) → sections_from a n [] ≡ replicate n []
 from-none zero a = refl
@@ -66,30 +78,3 @@ sections_with-none workers = from-none (workers + 1) 0
 pub sections_with-script : (workers : ℕ) (ps : List Placed) → sections_with workers ps ≡ (script_with workers ps).setup ∷ (script_with workers ps).workers
 unfolding sections_with script_with
 sections_with-script workers ps = let one-more : workers + 1 ≡ suc workers = omega arith in rw one-more refl
-
--- a command in a section that there is, for a node that there is
-pub record PlacedFor (s : Settings) (p : Placed) : Type 0 where
-  pub section : IsSectionFor s p.0
-  pub command : IsCommandFor s.nodes p.1
-
-module _ (s : Settings) where
-  all_cond : (b : Bool) (command : Command) (commands : List Command) → IsCommandFor s.nodes command → All (IsCommandFor s.nodes) commands → All (IsCommandFor s.nodes) (cond b (command ∷ commands) commands)
-  all_cond true command commands h all = All-cons (IsCommandFor s.nodes) command commands h all
-  all_cond false command commands h all = all
-
-  all_in : (k : ℕ) (ps : List Placed) → All (PlacedFor s) ps → All (IsCommandFor s.nodes) (commands_in k ps)
-  all_in k [] all = All-nil (IsCommandFor s.nodes)
-  all_in k (p ∷ ps) all = all_cond (p.0 == k) p.1 (commands_in k ps) (all 0 p (omega arith)).command (all_in k ps (All-tail (PlacedFor s) p ps all))
-
-  all_from : (n a : ℕ) (ps : List Placed) → All (PlacedFor s) ps → All (λ (commands : List Command). All (IsCommandFor s.nodes) commands) (sections_from a n ps)
-  all_from zero a ps all = All-nil (λ (commands : List Command). All (IsCommandFor s.nodes) commands)
-  all_from (suc n) a ps all = All-cons (λ (commands : List Command). All (IsCommandFor s.nodes) commands) (commands_in a ps) (sections_from (a + 1) n ps) (all_in a ps all) (all_from n (a + 1) ps all)
-
--- where each command is in range, so is each of the script
-pub in_range_script : (s : Settings) (ps : List Placed) → All (PlacedFor s) ps → IsScriptFor s (script_with s.workers ps)
-unfolding script_with
-in_range_script s ps all = record {
-  setup_commands = all_in s 0 ps all;
-  worker_commands = all_from s s.workers 1 ps all;
-  sections = from-length s.workers 1 ps;
-}

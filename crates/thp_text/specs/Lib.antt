@@ -8,3 +8,4 @@ pub mod Commands
 pub mod Operands
 pub mod Statements
 pub mod Scripts
+pub mod Parts

@@ -53,10 +53,6 @@ abbrev pub commands_in : ℕ → List Placed → List Command
 commands_in k [] = []
 commands_in k (p ∷ ps) = if p.0 == k then p.1 ∷ commands_in k ps else commands_in k ps
 
--- all sections: `setup`, and one for each worker
-unfoldable pub sections_with : ℕ → List Placed → List (List Command)
-sections_with workers ps = map (λ k. commands_in k ps) (range_with_len 0 (workers + 1))
-
 -- the script of these commands: section 0 is `setup`, and there is one section for each worker
 unfoldable pub script_with : ℕ → List Placed → Script
 script_with workers ps = record { setup = commands_in 0 ps; workers = map (λ k. commands_in k ps) (range_with_len 1 workers) }

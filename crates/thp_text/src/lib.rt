@@ -18,7 +18,7 @@ pub use input::MAX_INPUT;
 pub use lines::{fault_behind, fault_of_line, has_empty_word, is_printable};
 pub use lists::{read_orders, read_underused};
 pub use script::{Command, Op, Script};
-pub use script_reader::read_script;
+pub use script_reader::{ScriptReader, read_script};
 pub use sequence::Sequence;
 pub use settings::{MAX_NODES, Report, Settings};
 pub use words::{Words, cut_at, number};

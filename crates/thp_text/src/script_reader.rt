@@ -1,6 +1,9 @@
 //! Scripts from bytes.
-ghost use Rattle.std.specs.Prelude.{◌≡◌, ◌≤◌, ◌<◌, ◌+◌, ◌++◌, [], ℕ, List, IfOk, IfErr, OnOk, IfSome, length, vec_len};
-ghost use Rattle.thp_text.specs.Scripts.{placed, script_of, script_with, sections_with, IsScriptFor, Placed, TellsFault};
+ghost use Rattle.std.specs.Prelude.{◌≡◌, ◌≢◌, ◌≤◌, ◌<◌, ◌+◌, ◌++◌, ◌∷◌, [], ℕ, List, All, IfOk, IfErr, IfSome, OnOk, length, replicate, vec_len};
+ghost use Rattle.thp_text.specs.Commands.{IsCommandFor};
+ghost use Rattle.thp_text.specs.Parts.{script_in, spelled_with, with_commands};
+ghost use Rattle.thp_text.specs.Scripts.{placed, script_of, IsScriptFor, TellsFault};
+ghost use Rattle.thp_text.specs.Words.{Text};
 ghost use Rattle.thp_text.specs.declared.fault.ReadFault.TheVariants.{OutOfMemory};
 
 use crate::fault::{ReadFault, TextKind};
@@ -12,10 +15,11 @@ use crate::settings::Settings;
 use crate::statement::{Statement, section_after, statement_in};
 use crate::words::cut_at;
 use std::alloc::Global;
+use std::marker::Model;
 
 /// The sections of a script, `setup` first, before its first command.
 fn empty_sections(alloc: Global, workers: u32) -> Result<Vec<Sequence<Command>>, ReadFault>
-    ensures empty { IfOk result (λ sections. sections.items ≡ sections_with workers []) }
+    ensures empty { IfOk result (λ sections. sections.items ≡ replicate (workers + 1) []) }
     ensures memory { IfErr result (λ fault. fault ≡ OutOfMemory) }
 {
     let mut sections = Vec::new(alloc);
@@ -33,8 +37,7 @@ fn add(
     statement: Statement,
 ) -> Result<(), ReadFault>
     requires { IfSome section (λ k. k < vec_len sections.old) }
-    ensures added { OnOk result ((workers : ℕ) (ps : List Placed) → sections.old.items ≡ sections_with workers ps → sections.new.items ≡ sections_with workers (ps ++ placed section statement)) }
-    ensures count { vec_len sections.new ≡ vec_len sections.old }
+    ensures added { OnOk result (sections.new.items ≡ with_commands sections.old.items (placed section statement)) }
     ensures memory { IfErr result (λ fault. fault ≡ OutOfMemory) }
 {
     if let (Some(section), Statement::Call(command)) = (section, statement) {
@@ -47,12 +50,146 @@ fn add(
 /// The script of its sections.
 fn script_of_sections(mut sections: Vec<Sequence<Command>>) -> Script
     requires { 0 < vec_len sections }
-    ensures { (workers : ℕ) (ps : List Placed) → sections.items ≡ sections_with workers ps → result ≡ script_with workers ps }
+    ensures { result ≡ script_in sections.items }
 {
     let setup = sections.remove(0);
     Script {
         setup,
         workers: Sequence::from_vec(sections),
+    }
+}
+
+/// A reader of a script whose text comes in parts of any length. It keeps the commands that it has read, and of the text no
+/// more than the line begun.
+#[derive(Drop)]
+pub struct ScriptReader<'a> {
+    settings: &'a Settings,
+    sections: Vec<Sequence<Command>>,
+    // in which the last line stands
+    section: Option<u32>,
+    // what has come of a line, by its number
+    begun: Vec<u8>,
+    line: u32,
+    // how many bytes have come
+    given: usize,
+    // the first, and in which line
+    fault: Option<(u32, TextKind)>,
+}
+
+impl<'a> Model for ScriptReader<'a> {
+    ghost use Rattle.thp_text.specs.Parts.{IsReading, ReadSoFar};
+
+    ghost Value = { ReadSoFar };
+
+    ghost view = { λ r. record { settings = r.settings.now; sections = r.sections.items; section = r.section; begun = r.begun.items; line = r.line; given = r.given; fault = r.fault } };
+
+    ghost invariant = { λ r. IsReading (record { settings = r.settings.now; sections = r.sections.items; section = r.section; begun = r.begun.items; line = r.line; given = r.given; fault = r.fault }) };
+}
+
+impl<'a> ScriptReader<'a> {
+    /// A reader of a script of which nothing has come.
+    pub fn new(alloc: Global, settings: &'a Settings) -> Result<ScriptReader<'a>, ReadFault>
+        ensures text { IfOk result (λ reader. (text : Text) → spelled_with reader text ≡ script_of settings.now text) }
+        ensures settings { IfOk result (λ reader. reader.settings ≡ settings.now) }
+        ensures memory { IfErr result (λ fault. fault ≡ OutOfMemory) }
+    {
+        Ok(ScriptReader {
+            settings,
+            sections: empty_sections(alloc, settings.workers)?,
+            section: None,
+            begun: Vec::new(alloc),
+            line: 1,
+            given: 0,
+            fault: None,
+        })
+    }
+
+    /// Reads the next part of the text. Behind the first fault, and where more has come than an input may have, nothing is
+    /// kept of it.
+    pub fn read_part(self, part: &[u8]) -> Result<ScriptReader<'a>, ReadFault>
+        ensures text { IfOk result (λ reader. (more : Text) → spelled_with reader more ≡ spelled_with self.entry (part.now ++ more)) }
+        ensures settings { IfOk result (λ reader. reader.settings ≡ self.entry.settings) }
+        ensures memory { IfErr result (λ fault. fault ≡ OutOfMemory) }
+    {
+        let given = self.given.saturating_add(part.len());
+        if given > MAX_INPUT || self.fault.is_some() {
+            return Ok(ScriptReader { given, ..self });
+        }
+        let ScriptReader {
+            settings,
+            mut sections,
+            mut section,
+            mut begun,
+            mut line,
+            ..
+        } = self;
+        let mut rest = part;
+        loop {
+            let (piece, after) = cut_at(b'\n', rest);
+            let Some(after) = after else {
+                begun.extend_from_slice(piece)?;
+                return Ok(ScriptReader {
+                    settings,
+                    sections,
+                    section,
+                    begun,
+                    line,
+                    given,
+                    fault: None,
+                });
+            };
+            let whole = if begun.is_empty() {
+                piece
+            } else {
+                begun.extend_from_slice(piece)?;
+                begun.as_slice()
+            };
+            let statement = statement_in(settings, section, whole);
+            begun.clear();
+            let statement = match statement {
+                Ok(statement) => statement,
+                Err(kind) => {
+                    return Ok(ScriptReader {
+                        settings,
+                        sections,
+                        section,
+                        begun,
+                        line,
+                        given,
+                        fault: Some((line, kind)),
+                    });
+                }
+            };
+            add(&mut sections, section, statement)?;
+            section = section_after(section, statement);
+            line += 1;
+            rest = after;
+        }
+    }
+
+    /// The script that the whole text spells, or its first fault. No memory is taken.
+    pub fn finish(self) -> Result<Script, ReadFault>
+        ensures script { IfOk result (λ script. spelled_with self.entry [] ≡ Ok script) }
+        ensures in_range { IfOk result (IsScriptFor self.entry.settings) }
+        ensures fault { IfErr result (TellsFault (spelled_with self.entry [])) }
+        ensures memory { IfErr result (λ fault. fault ≢ OutOfMemory) }
+    {
+        if self.given > MAX_INPUT {
+            return Err(ReadFault::Text {
+                line: 0,
+                kind: TextKind::TooLong,
+            });
+        }
+        if let Some((line, kind)) = self.fault {
+            return Err(ReadFault::Text { line, kind });
+        }
+        match fault_behind(self.begun.as_slice()) {
+            Some(kind) => Err(ReadFault::Text {
+                line: self.line,
+                kind,
+            }),
+            None => Ok(script_of_sections(self.sections)),
+        }
     }
 }
 
@@ -66,31 +203,7 @@ pub fn read_script(alloc: Global, settings: &Settings, text: &[u8]) -> Result<Sc
     ensures in_range { IfOk result (IsScriptFor settings.now) }
     ensures fault { IfErr result (TellsFault (script_of settings.now text.now)) }
 {
-    if text.len() > MAX_INPUT {
-        return Err(ReadFault::Text {
-            line: 0,
-            kind: TextKind::TooLong,
-        });
-    }
-    let mut sections = empty_sections(alloc, settings.workers)?;
-    let mut section = None;
-    let mut number: u32 = 1;
-    let mut rest = text;
-    loop {
-        let (line, after) = cut_at(b'\n', rest);
-        let Some(after) = after else {
-            return match fault_behind(line) {
-                Some(kind) => Err(ReadFault::Text { line: number, kind }),
-                None => Ok(script_of_sections(sections)),
-            };
-        };
-        let statement = match statement_in(settings, section, line) {
-            Ok(statement) => statement,
-            Err(kind) => return Err(ReadFault::Text { line: number, kind }),
-        };
-        add(&mut sections, section, statement)?;
-        section = section_after(section, statement);
-        number += 1;
-        rest = after;
-    }
+    let reader = ScriptReader::new(alloc, settings)?;
+    let reader = reader.read_part(text)?;
+    reader.finish()
 }

@@ -21,6 +21,7 @@ fn place_of(byte: u8, text: &[u8]) -> Option<usize>
 pub fn cut_at(separator: u8, text: &[u8]) -> (&[u8], Option<&[u8]>)
     ensures pieces { pieces_at separator text.now ≡ result.0.now ∷ pieces_left separator (option_copied result.1) }
     ensures shorter { IfSome result.1 (λ rest. length rest.now < length text.now) }
+    ensures whole { IfNone result.1 (result.0.now ≡ text.now) }
 {
     match place_of(separator, text) {
         Some(place) => (&text[..place], Some(&text[place + 1..])),

@@ -1,0 +1,18 @@
+use Rattle.std.proofs.Common.{◌≡◌, ◌++◌, ◌-◌, ℕ, List, length, false}
+use Rattle.std.specs.Io.KnownBytes.{Consumes}
+use Rattle.thp_text.specs.Parts.{spelled_with}
+use Rattle.thp_text.specs.Scripts.{script_of}
+use Rattle.thp_run.proofs.device.read_script_parts.Given as goal
+
+abbrev pub decreases-loop-given : goal.decreases-loop-given
+decreases-loop-given g l = 16777217 - l.given
+
+-- the bytes that were read, with those to come, spell what the reader says
+abbrev pub invariant-loop-given : goal.invariant-loop-given
+invariant-loop-given g l =
+    let remaining = g.R.Read.remaining in
+    record {
+      taken : (bytes : List ℕ) × Consumes (remaining l.fn.reader.device) (remaining l.reader.device) bytes × (length bytes ≡ l.given) × ((more : List ℕ) → spelled_with l.script more ≡ script_of l.settings (bytes ++ more));
+      settings : l.script.settings ≡ l.settings;
+      flag : l.reader.failed ≡ false;
+    }
