@@ -88,7 +88,7 @@ impl Page {
         }
     }
 
-    /// Makes it a page that was just allocated, in its place: no counts are copied.
+    /// Makes it a page that was just allocated, in its place.
     pub(crate) fn renew(&mut self, order: u32)
         requires least { 2 ≤ order }
         requires most { order ≤ 9 }
