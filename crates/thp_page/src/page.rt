@@ -88,24 +88,6 @@ impl Page {
         }
     }
 
-    /// Makes it a page that was just allocated, in its place.
-    pub(crate) fn renew(&mut self, order: u32)
-        requires least { 2 ≤ order }
-        requires most { order ≤ 9 }
-        ensures fresh { IsFresh order self.new }
-        ensures state { self.new ≡ fresh_page order }
-    {
-        self.order = order;
-        self.whole = 1;
-        self.pins = 0;
-        self.split = false;
-        self.partly = false;
-        self.gave_zero = false;
-        self.mapped = 0;
-        self.zero = SubSet::full(order);
-        self.own = [0; MOST_SUBPAGES];
-    }
-
     /// One more mapping of the whole page. Refused as `IsSplit` and `TooMany`.
     pub fn map_whole(&mut self) -> Result<(), Refusal>
         ensures refusal { (p : ℕ) → result_err result ≡ page_refusal self.old (call.map_whole p) }

@@ -131,7 +131,7 @@ impl PageTable {
     {
         let descriptor = &mut self.descriptors[block as usize];
         descriptor.standing = Standing::Nowhere;
-        descriptor.page.renew(self.order);
+        descriptor.page = Page::fresh(self.order);
         self.numbers.place(block, id);
     }
 
