@@ -52,7 +52,7 @@ fn said_of(reply: Reply) -> Said {
     }
 }
 
-fn answered(answer: &Answer) -> Said {
+fn answered(answer: Answer) -> Said {
     match answer.reply {
         Ok(reply) => said_of(reply),
         Err(refusal) => Said::Refused(refusal),
@@ -62,16 +62,13 @@ fn answered(answer: &Answer) -> Said {
 // The answers of a section are these.
 pub(crate) fn are_answers(ran: &Ran, section: usize, wanted: &[Said]) -> bool {
     match ran.sections.get(section) {
-        Some(section) => match section.answers.kept() {
-            Some(answers) => {
-                answers.len() == wanted.len()
-                    && answers
-                        .iter()
-                        .zip(wanted)
-                        .all(|(answer, want)| answered(answer) == *want)
-            }
-            None => false,
-        },
+        Some(section) => {
+            section.answers.len() == wanted.len()
+                && wanted.iter().enumerate().all(|(place, want)| match section.answers.get(place) {
+                    Some(answer) => answered(answer) == *want,
+                    None => false,
+                })
+        }
         None => false,
     }
 }

@@ -78,10 +78,10 @@ pub(crate) fn are_answers(
 }
 
 fn write_section(text: &mut String, nodes: &[Node], section: &Section) -> Result<(), AllocError> {
-    let Some(answers) = section.answers.kept() else {
-        return Err(AllocError);
-    };
-    for (place, answer) in answers.iter().enumerate() {
+    for place in 0..section.answers.len() {
+        let Some(answer) = section.answers.get(place) else {
+            return Err(AllocError);
+        };
         write!(text, "{} {} ", section.worker, place.wrapping_add(1))?;
         let looks = match nodes.get(answer.node as usize) {
             Some(node) => node.shape().shrinks_underused(),

@@ -7,7 +7,7 @@ use std::alloc::Global;
 use thp_model::Refusal;
 use thp_node::{Node, ScanReply, Tried};
 use thp_text::{Command, Op};
-use thp_work::{Answer, Reply, Section};
+use thp_work::{AnswerLog, Reply, Section};
 
 // A caller on a node: the events that aren't explained yet, and the open batch.
 #[derive(Drop)]
@@ -123,13 +123,16 @@ fn is_so(holds: bool) -> Option<()> {
 fn explain_answers(
     alloc: Global,
     commands: &[Command],
-    answers: &[Answer],
+    answers: &AnswerLog,
     walks: &mut Vec<Walk<'_>>,
 ) -> Option<()> {
     if answers.len() != commands.len() {
         return None;
     }
-    for (index, (command, answer)) in commands.iter().zip(answers).enumerate() {
+    for (index, command) in commands.iter().enumerate() {
+        let Some(answer) = answers.get(index) else {
+            return None;
+        };
         if answer.command as usize != index || answer.node != command.node {
             return None;
         }
@@ -158,7 +161,7 @@ pub(crate) fn explain_section(
             })
             .ok()?;
     }
-    explain_answers(alloc, commands, section.answers.kept()?, &mut walks)?;
+    explain_answers(alloc, commands, &section.answers, &mut walks)?;
     for walk in walks {
         walk.end()?;
     }

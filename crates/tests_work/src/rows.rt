@@ -2,7 +2,7 @@
 use crate::sections::{BusyCalls, Told, section_on_new, section_on_queued};
 use thp_model::{PageId, Refusal};
 use thp_node::{ScanReply, Tried};
-use thp_work::{Answer, Command, Op, Reply, Step};
+use thp_work::{Answer, AnswerLog, Command, Op, Reply, Step};
 
 // How many pages are queued, asked by caller 0.
 const COUNT: (u32, Step) = (0, Step::One(Op::Count));
@@ -24,11 +24,9 @@ const SCAN: [Command; 1] = [Command {
 }];
 
 // The reply to a command.
-fn reply_at(answers: Option<&[Answer]>, command: usize) -> Option<Result<Reply, Refusal>> {
-    match answers?.get(command) {
-        Some(answer) => Some(answer.reply),
-        None => None,
-    }
+fn reply_at(answers: &AnswerLog, command: usize) -> Option<Result<Reply, Refusal>> {
+    let answer = answers.get(command)?;
+    Some(answer.reply)
 }
 
 // The section is done, and has so many answers.
@@ -63,7 +61,7 @@ fn busy_64_times(rt: HostRuntime) {
     let told = section_on_new(&rt, rt.alloc(), busy, &ALLOC_AND_CLOSE, COUNT);
     assert!(rt; stopped_at(&told, 0, 0, 0));
     assert!(rt; is_done(&told, 2));
-    let answers = told.worked.answers.kept();
+    let answers = &told.worked.answers;
     assert!(rt; matches!(reply_at(answers, 0), Some(Ok(Reply::Page(PageId(0))))));
     assert!(rt; matches!(reply_at(answers, 1), Some(Ok(Reply::Unit))));
 }
@@ -72,7 +70,7 @@ fn busy_64_times(rt: HostRuntime) {
 fn is_scanned(told: &Told) -> bool {
     is_done(told, 1)
         && matches!(
-            reply_at(told.worked.answers.kept(), 0),
+            reply_at(&told.worked.answers, 0),
             Some(Ok(Reply::Scan(ScanReply {
                 taken: 2,
                 split: 1,
@@ -133,7 +131,7 @@ fn open_batch_postponed(rt: HostRuntime) {
     let told = section_on_queued(&rt, rt.alloc(), busy, &commands, put_back);
     assert!(rt; stopped_at(&told, 1, 0, 1));
     assert!(rt; is_done(&told, 3));
-    let answers = told.worked.answers.kept();
+    let answers = &told.worked.answers;
     assert!(rt; matches!(reply_at(answers, 0), Some(Ok(Reply::Taken(2)))));
     assert!(rt;
         matches!(
@@ -164,8 +162,16 @@ fn put_back_postponed(rt: HostRuntime) {
     };
     let told = section_on_queued(&rt, rt.alloc(), busy, &commands, COUNT);
     assert!(rt; stopped_at(&told, 2, 0, 2));
-    let answers = Some(told.answered_then.as_slice());
-    assert!(rt; matches!(reply_at(answers, 1), Some(Err(Refusal::HasBatch))));
+    let second = told.answered_then.get(1);
+    assert!(rt;
+        matches!(
+            second,
+            Some(Answer {
+                reply: Err(Refusal::HasBatch),
+                ..
+            })
+        )
+    );
     assert!(rt; is_done(&told, 2));
     assert!(rt; matches!(told.behind, Ok(Reply::Count(2))));
 }

@@ -12,7 +12,8 @@ use thp_cell::{CellFault, NodeCell, Pass};
 use thp_model::Shape;
 use thp_node::Node;
 use thp_work::{
-    Answer, Command, NoGate, NodePass, NodePasses, Op, Reply, Step, Steps, Worked, work, work_rest,
+    Answer, AnswerLog, Command, NoGate, NodePass, NodePasses, Op, Reply, Step, Steps, Worked, work,
+    work_rest,
 };
 
 // A node of 16 blocks of order 9, for two callers.
@@ -144,6 +145,16 @@ fn queue_two(rt: &impl Abort, passes: &mut NodePasses<'_>)
     assert!(rt; matches!(step(passes, 0, pin), Ok(Reply::Unit)));
 }
 
+// All answers of a log.
+fn answers_in(rt: &impl Abort, alloc: Global, log: &AnswerLog) -> Vec<Answer> {
+    let mut answers = Vec::new(alloc);
+    for place in 0..log.len() {
+        let answer = log.get(place).expect(rt, "an answer");
+        answers.push(answer).expect(rt, "room");
+    }
+    answers
+}
+
 // What became of a section that was gone on with where it stopped.
 #[derive(Drop)]
 pub struct Told {
@@ -212,8 +223,7 @@ fn go_through(
         Some(rest) => Some((rest.command, rest.steps)),
         None => None,
     };
-    let answers = worked.answers.kept().expect(rt, "answers");
-    let answered_then = Vec::from_slice(alloc, answers).expect(rt, "room");
+    let answered_then = answers_in(rt, alloc, &worked.answers);
     let worked = go_on(rt, &mut passes, commands, worked);
     let behind = step(&mut passes, behind.0, behind.1);
     Told {

@@ -1,6 +1,8 @@
 -- Lines of answers, made piece by piece.
-use Rattle.std.proofs.Common.{◌≡◌, ℕ, Bool, List, [], ◌∷◌, ◌++◌, Result, Ok, Err, ap, sym, ◌∙◌, append_assoc}
-use Rattle.std.specs.Prelude.{OnOk}
+use Rattle.std.proofs.Common.{◌≡◌, ℕ, ◌+◌, Bool, true, false, List, [], ◌∷◌, ◌++◌, drop, Option, Some, None, Result, Ok, Err, ap, sym, ◌∙◌, append_assoc}
+use Rattle.std.specs.Prelude.{OnOk, if◌then◌else◌, slice_get}
+use Rattle.std.proofs.lemmas.List.{drop_more}
+use Rattle.std.proofs.lemmas.Option.{get_or_from_slice_get, slice_get_within}
 use Rattle.std.specs.declared.alloc.AllocError.{AllocError}
 use Rattle.thp_node.specs.declared.answers.Tried.{Tried}
 use Rattle.thp_node.specs.declared.answers.Tried.TheVariants as tried
@@ -52,3 +54,13 @@ pub answer-put : (r : Result (Unit {0}) AllocError) (ws own : List (List ℕ)) (
 answer-put (Err e) ws own t t1 t2 t3 a b s o p q g = tt
 answer-put (Ok u) ws own t t1 t2 t3 a b s o p q g =
     g ∙ ap (λ x. x ++ ended (line_of ws)) (q ∙ ap (λ x. x ++ b ++ 32 ∷ []) p) ∙ line-goes_on ws t a b s ∙ ap (λ x. t ++ ended (line_of (a ∷ b ∷ x))) (sym o)
+
+-- an answer of a log that keeps them is the one at its place
+pub kept_answer : {A : Type 0} (keeps : Bool) (at : Option A) (answer : A) → Some answer ≡ (if keeps then at else None) → Some answer ≡ at
+kept_answer true at answer is = is
+kept_answer false at answer is = absurd cc
+
+-- what is left of a list from a place at which this stands
+pub drop_at_get : {A : Type 0} (xs : List A) (place : ℕ) (x : A) → Some x ≡ slice_get xs place → drop place xs ≡ x ∷ drop (place + 1) xs
+drop_at_get xs place x is =
+    drop_more xs place x (slice_get_within xs place x (sym is)) ∙ ap (λ y. y ∷ drop (place + 1) xs) (get_or_from_slice_get xs place x x (sym is))

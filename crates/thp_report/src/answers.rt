@@ -33,11 +33,11 @@ pub(crate) fn answers_text(
 fn put_section(text: &mut Vec<u8>, nodes: &[Node], section: &Section) -> Result<(), AllocError>
     ensures { OnOk result (text.new.items ≡ text.old.items ++ section_text (map shape_of nodes.now) section.now) }
 {
-    let Some(answers) = section.answers.kept() else {
-        return Err(AllocError);
-    };
-    for answer in answers {
-        put_answer(text, nodes, section.worker, answer)?;
+    for place in 0..section.answers.len() {
+        let Some(answer) = section.answers.get(place) else {
+            return Err(AllocError);
+        };
+        put_answer(text, nodes, section.worker, &answer)?;
     }
     Ok(())
 }

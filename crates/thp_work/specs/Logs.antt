@@ -1,9 +1,9 @@
 -- What contracts see of an `AnswerLog`.
-use Rattle.std.specs.Prelude.{◌≡◌, ◌≤◌, ℕ, Bool, true, List, [], ◌∷◌, ◌++◌, length, Vec, vec_capacity}
-use Rattle.std.specs.declared.alloc.Global.{Global}
+use Rattle.std.specs.Prelude.{◌≡◌, ◌≤◌, ℕ, Bool, true, List, [], ◌∷◌, ◌++◌, length}
 use Rattle.thp_work.specs.declared.reply.Answer.{Answer}
 use Rattle.thp_work.specs.declared.answer_log.Told.{Told}
 use Rattle.thp_work.specs.declared.answer_log.Told.TheVariants.{Nothing, After'}
+use Rattle.thp_work.specs.Kept.{KeptState}
 
 -- the answers so far, in order, whether they are kept, and for how many there is room
 pub record LogState : Type 0 where
@@ -17,7 +17,7 @@ told_items Nothing = []
 told_items (After' answer shape before) = told_items before ++ answer.value ∷ []
 
 -- the count is that of the answers, and where they are kept these are they, with room
-pub record IsLog (keeps : Bool) (kept : Vec Answer Global) (count room : ℕ) (told : Told) : Type 0 where
+pub record IsLog (keeps : Bool) (kept : KeptState) (count room : ℕ) (told : Told) : Type 0 where
   pub counted : count ≡ length (told_items told)
   pub items : keeps ≡ true → kept.items ≡ told_items told
-  pub capacity : keeps ≡ true → room ≤ vec_capacity kept
+  pub capacity : keeps ≡ true → room ≤ kept.room

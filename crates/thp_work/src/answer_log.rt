@@ -1,7 +1,8 @@
 //! The answers of a section, kept or only counted.
-ghost use Rattle.std.specs.Prelude.{◌≡◌, ◌<◌, ◌≤◌, ◌+◌, ◌++◌, ◌∷◌, [], true, false, length, vec_len, vec_capacity, IfOk, MatchOption};
+ghost use Rattle.std.specs.Prelude.{◌≡◌, ◌<◌, ◌≤◌, ◌+◌, ◌++◌, ◌∷◌, [], true, false, length, slice_get, IfOk, None, if◌then◌else◌};
 ghost use Rattle.thp_work.specs.Does.{answer_of};
 
+use crate::kept_answers::KeptAnswers;
 use crate::reply::{Answer, Reply};
 use std::alloc::{AllocError, Global};
 use std::marker::Model;
@@ -21,7 +22,7 @@ enum Told {
 pub struct AnswerLog {
     keeps: bool,
     // all answers where the log keeps them, else none
-    kept: Vec<Answer>,
+    kept: KeptAnswers,
     count: usize,
     // for how many answers there is room
     room: usize,
@@ -45,10 +46,9 @@ impl AnswerLog {
         ensures keeps { IfOk result (λ log. log.keeps ≡ keeps) }
         ensures room { IfOk result (λ log. log.room ≡ room) }
     {
-        let kept = Vec::with_capacity(alloc, if keeps { room } else { 0 })?;
         Ok(AnswerLog {
             keeps,
-            kept,
+            kept: KeptAnswers::new(alloc, if keeps { room } else { 0 })?,
             count: 0,
             room,
             told: Snapshot::of(&Told::Nothing),
@@ -71,9 +71,9 @@ impl AnswerLog {
         let told = std::mem::replace(&mut self.told, nothing);
         self.told = Snapshot::of(&Told::After(last, told));
         self.count += 1;
-        push_where(self.keeps, &mut self.kept, || {
-            answer_to(command, node, called, reply)
-        });
+        if self.keeps {
+            self.kept.push(command, node, called, reply);
+        }
     }
 
     /// How many answers there are.
@@ -83,28 +83,15 @@ impl AnswerLog {
         self.count
     }
 
-    /// The answers, where the log keeps them.
-    pub fn kept(&self) -> Option<&[Answer]>
-        ensures { MatchOption result (self.now.keeps ≡ false) (λ answers. (self.now.keeps ≡ true) × (answers.now ≡ self.now.items)) }
+    /// The answer at a place, counted from 0, where the log keeps them.
+    pub fn get(&self, place: usize) -> Option<Answer>
+        ensures { result ≡ (if self.now.keeps then slice_get self.now.items place else None) }
     {
         if self.keeps {
-            Some(self.kept.as_slice())
+            self.kept.get(place)
         } else {
             None
         }
-    }
-}
-
-// Adds an item, for which there is room, where it is wanted; it is made only then.
-#[inline(always)]
-fn push_where<T, F: FnOnce() -> T>(wanted: bool, items: &mut Vec<T>, make: F)
-    requires make { F.pre make }
-    requires room { wanted ≡ true → vec_len items.old < vec_capacity items.old }
-    ensures items { wanted ≡ true → (item : _) × F.post make item × (items.new.items ≡ items.old.items ++ item ∷ []) }
-    ensures capacity { vec_capacity items.new ≡ vec_capacity items.old }
-{
-    if wanted {
-        items.push_reserved(make());
     }
 }
 

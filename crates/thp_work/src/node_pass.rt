@@ -318,13 +318,11 @@ impl<'a> NodePass<'a> {
     {
         let (first, _) = self.pass.callers();
         let place = (caller - first) as usize;
-        let Some(mut batch) = take_at(&mut self.batches, place) else {
+        let Some(batch) = &mut self.batches[place] else {
             *reply = Reply::NoBatch;
             return Ok(());
         };
-        let answer = self.cell.split_next(&mut self.pass, &mut batch);
-        put_at(&mut self.batches, place, batch);
-        match answer {
+        match self.cell.split_next(&mut self.pass, batch) {
             Ok(tried) => {
                 *reply = Reply::Tried(tried);
                 Ok(())

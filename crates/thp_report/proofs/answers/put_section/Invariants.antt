@@ -4,6 +4,6 @@ use Rattle.thp_report.specs.Answers.{answer_line, section_text}
 use Rattle.thp_report.specs.Reports.{shape_of}
 use Rattle.thp_report.proofs.answers.put_section.Given as goal
 
-abbrev pub invariant-loop-answer : goal.invariant-loop-answer
-invariant-loop-answer l =
-    l.text.items ++ flat_map (answer_line (map shape_of l.nodes) l.section.worker) (drop l.answer-index l.section.answers.items) ≡ l.fn.text.items ++ section_text (map shape_of l.nodes) l.section
+abbrev pub invariant-loop-place : goal.invariant-loop-place
+invariant-loop-place l =
+    l.text.items ++ flat_map (answer_line (map shape_of l.nodes) l.section.worker) (drop l.place l.section.answers.items) ≡ l.fn.text.items ++ section_text (map shape_of l.nodes) l.section
