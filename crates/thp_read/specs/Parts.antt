@@ -1,26 +1,21 @@
 -- Journals whose text comes in parts (this project's journal format).
-use Rattle.std.specs.Prelude.{◌≡◌, ◌≤◌, ℕ, ◌+◌, List, [], ◌∷◌, ◌++◌, Option, Result, Ok}
-use Rattle.thp_text.specs.Parts.{told_behind}
+use Rattle.std.specs.Prelude.{ℕ, ◌+◌, List, [], ◌∷◌, ◌++◌, Result, Ok}
 use Rattle.thp_text.specs.Readings.{◌>>=◌}
 use Rattle.thp_text.specs.Scripts.{Fault}
+use Rattle.thp_text.specs.TextInParts.{told_behind, TextSoFar}
 use Rattle.thp_text.specs.Words.{Text, lines_of}
 use Rattle.thp_read.specs.declared.journals.Journals.{Journals}
 use Rattle.thp_read.specs.declared.journals.NodeJournal.{NodeJournal}
 use Rattle.thp_read.specs.declared.line.Line.{Line}
 use Rattle.thp_read.specs.declared.place.Place.{Place}
-use Rattle.thp_read.specs.declared.reading.Nodes.{Nodes}
 use Rattle.thp_read.specs.Journals.{lines_from}
-use Rattle.thp_read.specs.Reading.{with_line, IsReading}
+use Rattle.thp_read.specs.Reading.{with_line}
 
--- What was read of a text of journals so far: the nodes; the place behind the last line; what has come of the next line, and its
--- number; how many bytes have come; and the first fault.
+-- What was read of a text of journals so far: the nodes; the place behind the last line; and what has come of the text.
 pub record ReadSoFar : Type 0 where
   pub nodes : List NodeJournal
   pub place : Place
-  pub begun : Text
-  pub line : ℕ
-  pub given : ℕ
-  pub fault : Option Fault
+  pub text : TextSoFar
 
 -- the nodes after further lines, the first of which has this number
 abbrev pub with_lines : ℕ → List NodeJournal → List Line → List NodeJournal
@@ -37,11 +32,4 @@ lines_tell nodes place line text = lines_from line place (lines_of text) >>= λ 
 
 -- the journals that the text so far and this one behind it spell, or its first fault
 abbrev pub told_with : ReadSoFar → Text → Result Journals Fault
-told_with r more = told_behind r.given r.fault more (lines_tell r.nodes r.place r.line (r.begun ++ more))
-
--- what is true of journals that are being read
-pub record IsRead (nodes : Option Nodes) (begun : Text) (line given : ℕ) : Type 0 where
-  pub reading : IsReading line nodes
-  pub one_line : lines_of begun ≡ begun ∷ []
-  pub lines : line ≤ given + 1
-  pub most : line ≤ 16777217
+told_with r more = told_behind r.text more (lines_tell r.nodes r.place r.text.line (r.text.begun ++ more))

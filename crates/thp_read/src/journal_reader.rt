@@ -13,7 +13,7 @@ use crate::place::{Place, line_in, place_after};
 use crate::reading::{Nodes, add, finish};
 use std::alloc::Global;
 use std::marker::Model;
-use thp_text::{MAX_INPUT, ReadFault, TextKind, cut_at, fault_behind};
+use thp_text::{ReadFault, TextInParts, TextKind, WholeLine, fault_behind};
 
 /// The fault of what stands behind the last line, at this place.
 fn fault_at(behind: &[u8], place: Place) -> Option<TextKind>
@@ -34,24 +34,18 @@ pub struct JournalReader {
     nodes: Option<Nodes>,
     // behind the last line
     place: Place,
-    // what has come of a line, by its number
-    begun: Vec<u8>,
-    line: u32,
-    // how many bytes have come
-    given: usize,
-    // the first, and in which line
-    fault: Option<(u32, TextKind)>,
+    text: TextInParts,
 }
 
 impl Model for JournalReader {
-    ghost use Rattle.thp_read.specs.Parts.{IsRead, ReadSoFar};
-    ghost use Rattle.thp_read.specs.Reading.{nodes_in};
+    ghost use Rattle.thp_read.specs.Parts.{ReadSoFar};
+    ghost use Rattle.thp_read.specs.Reading.{nodes_in, IsReading};
 
     ghost Value = { ReadSoFar };
 
-    ghost view = { λ r. record { nodes = nodes_in r.nodes; place = r.place; begun = r.begun.items; line = r.line; given = r.given; fault = r.fault } };
+    ghost view = { λ r. record { nodes = nodes_in r.nodes; place = r.place; text = r.text } };
 
-    ghost invariant = { λ r. IsRead r.nodes r.begun.items r.line r.given };
+    ghost invariant = { λ r. IsReading r.text.line r.nodes };
 }
 
 impl JournalReader {
@@ -63,10 +57,7 @@ impl JournalReader {
             alloc,
             nodes: None,
             place: Place::Start,
-            begun: Vec::new(alloc),
-            line: 1,
-            given: 0,
-            fault: None,
+            text: TextInParts::new(alloc),
         }
     }
 
@@ -76,60 +67,33 @@ impl JournalReader {
         ensures text { IfOk result (λ reader. (more : Text) → told_with reader more ≡ told_with self (part.now ++ more)) }
         ensures memory { IfErr result (λ fault. fault ≡ OutOfMemory) }
     {
-        let given = self.given.saturating_add(part.len());
-        if given > MAX_INPUT || self.fault.is_some() {
-            return Ok(JournalReader { given, ..self });
-        }
         let JournalReader {
             alloc,
             mut nodes,
             mut place,
-            mut begun,
-            mut line,
-            ..
+            mut text,
         } = self;
-        let mut rest = part;
-        loop {
-            let (piece, after) = cut_at(b'\n', rest);
-            let Some(after) = after else {
-                begun.extend_from_slice(piece)?;
-                return Ok(JournalReader {
-                    alloc,
-                    nodes,
-                    place,
-                    begun,
-                    line,
-                    given,
-                    fault: None,
-                });
-            };
-            let whole = if begun.is_empty() {
-                piece
-            } else {
-                begun.extend_from_slice(piece)?;
-                begun.as_slice()
-            };
-            let said = line_in(place, whole);
-            begun.clear();
-            let said = match said {
-                Ok(said) => said,
-                Err(kind) => {
-                    return Ok(JournalReader {
-                        alloc,
-                        nodes,
-                        place,
-                        begun,
-                        line,
-                        given,
-                        fault: Some((line, kind)),
-                    });
+        let mut rest = text.next_part(part);
+        while let Some(WholeLine { number, bytes }) = text.next_line(&mut rest)? {
+            let said = line_in(place, bytes.as_slice());
+            drop(bytes);
+            match said {
+                Ok(said) => {
+                    add(alloc, &mut nodes, number, said)?;
+                    place = place_after(place, &said);
                 }
-            };
-            add(alloc, &mut nodes, line, said)?;
-            place = place_after(place, &said);
-            line += 1;
-            rest = after;
+                Err(kind) => {
+                    text.note_fault(number, kind);
+                    break;
+                }
+            }
         }
+        Ok(JournalReader {
+            alloc,
+            nodes,
+            place,
+            text,
+        })
     }
 
     /// The journals that the whole text spells, or its first fault.
@@ -138,20 +102,12 @@ impl JournalReader {
         ensures in_range { IfOk result AreJournals }
         ensures fault { IfErr result (TellsFault (told_with self [])) }
     {
-        if self.given > MAX_INPUT {
-            return Err(ReadFault::Text {
-                line: 0,
-                kind: TextKind::TooLong,
-            });
-        }
-        if let Some((line, kind)) = self.fault {
+        if let Some((line, kind)) = self.text.fault() {
             return Err(ReadFault::Text { line, kind });
         }
-        match fault_at(self.begun.as_slice(), self.place) {
-            Some(kind) => Err(ReadFault::Text {
-                line: self.line,
-                kind,
-            }),
+        let (line, behind) = self.text.last_line();
+        match fault_at(behind, self.place) {
+            Some(kind) => Err(ReadFault::Text { line, kind }),
             None => finish(self.alloc, self.nodes),
         }
     }

@@ -1,4 +1,5 @@
 pub mod PieceLaws
+pub mod TextLaws
 pub mod NumberLaws
 pub mod LineLaws
 pub mod GrammarLaws

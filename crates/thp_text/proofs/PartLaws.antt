@@ -1,9 +1,8 @@
 -- A script whose text comes in parts: what was read, with what the text to come says, is what the whole text says.
-use Rattle.std.proofs.Common.{◌≡◌, ◌∙◌, ◌+◌, ◌<◌, ◌≤◌, ◌==◌, ℕ, Bool, true, false, cond, is_some, List, [], ◌∷◌, ◌++◌, length, get_or, set, Option, Some, None, Result, Ok, Err, refl, sym, ap, append_assoc, arith, inl, inr}
+use Rattle.std.proofs.Common.{◌≡◌, ◌∙◌, ◌+◌, ◌<◌, ℕ, List, [], ◌∷◌, ◌++◌, length, get_or, set, Option, Some, None, Result, Ok, Err, refl, sym, ap, append_assoc, arith, inl, inr}
 use Rattle.std.specs.Prelude.{IfSome, All, replicate}
-use Rattle.std.specs.List.{onto_first}
-use Rattle.std.proofs.lemmas.Bool.{le-ltb, cases_lt}
-use Rattle.std.proofs.lemmas.List.{append-nil, length-append, length-set}
+use Rattle.std.proofs.lemmas.Bool.{cases_lt}
+use Rattle.std.proofs.lemmas.List.{append-nil, length-set}
 use Rattle.std.proofs.lemmas.List.Elements.{All-get_or, All-head, All-push, All-set, All-tail}
 use Rattle.thp_text.specs.declared.fault.TextKind.{TextKind}
 use Rattle.thp_text.specs.declared.script.Command.{Command}
@@ -13,58 +12,14 @@ use Rattle.thp_text.specs.declared.statement.Statement.{Statement}
 use Rattle.thp_text.specs.declared.statement.Statement.TheVariants.{Nothing, Section, Call}
 use Rattle.thp_text.specs.Commands.{IsCommandFor}
 use Rattle.thp_text.specs.Lines.{fault_behind}
-use Rattle.thp_text.specs.Parts.{lines_spell, script_in, spelled_with, told_behind, unless, with_commands}
+use Rattle.thp_text.specs.Parts.{lines_spell, script_in, spelled_with, with_commands}
 use Rattle.thp_text.specs.Readings.{◌>>=◌}
 use Rattle.thp_text.specs.Scripts.{Fault, IsScriptFor, Placed, commands_from, placed, script_of, script_with}
 use Rattle.thp_text.specs.Statements.{IsInRange, section_after, statement_in}
-use Rattle.thp_text.specs.Words.{Text, lines_of, pieces_at}
-use Rattle.thp_text.proofs.PieceLaws.{has_first, HasFirst}
+use Rattle.thp_text.specs.Words.{Text, lines_of}
+use Rattle.thp_text.proofs.TextLaws.{whole_comes}
 use Rattle.thp_text.proofs.ScriptLaws.{behind, line_ends, line_fails, line_says}
 use Rattle.thp_text.proofs.SectionLaws.{sections_with, sections_with-none, sections_with-push, sections_with-push_beyond, sections_with-script}
-
--- ---- pieces of two texts, one behind the other
-
--- the last piece of the first text goes on as the first of the second
-abbrev joined : List Text → List Text → List Text
-joined [] ys = ys
-joined (x ∷ []) [] = x ∷ []
-joined (x ∷ []) (y ∷ ys) = (x ++ y) ∷ ys
-joined (x ∷ w ∷ xs) ys = x ∷ joined (w ∷ xs) ys
-
-joined-cons : (x : Text) (xs ys : List Text) → HasFirst xs → joined (x ∷ xs) ys ≡ x ∷ joined xs ys
-joined-cons x xs ys f = rw f.2 refl
-
-no_first : HasFirst [] → ⊥
-no_first f = absurd cc
-
-joined-onto : (b : ℕ) (xs ys : List Text) → HasFirst xs → HasFirst ys → joined (onto_first b xs) ys ≡ onto_first b (joined xs ys)
-joined-onto b [] ys f g = absurd (no_first f)
-joined-onto b (x ∷ []) ys f g = rw g.2 refl
-joined-onto b (x ∷ w ∷ xs) ys f g = refl
-
-joined-cond : (t : Bool) (b : ℕ) (xs ys : List Text) → HasFirst xs → HasFirst ys → joined (cond t ([] ∷ xs) (onto_first b xs)) ys ≡ cond t ([] ∷ joined xs ys) (onto_first b (joined xs ys))
-joined-cond true b xs ys f g = joined-cons [] xs ys f
-joined-cond false b xs ys f g = joined-onto b xs ys f g
-
-pieces-append : (c : ℕ) (xs ys : Text) → pieces_at c (xs ++ ys) ≡ joined (pieces_at c xs) (pieces_at c ys)
-pieces-append c [] ys = let g = has_first c ys in rw g.2 refl
-pieces-append c (b ∷ xs) ys = rw (pieces-append c xs ys) (sym (joined-cond (b == c) b (pieces_at c xs) (pieces_at c ys) (has_first c xs) (has_first c ys)))
-
--- a line that has begun ends with the first line of what comes
-ends_begun : (begun text line : Text) (others : List Text) → lines_of begun ≡ begun ∷ [] → lines_of text ≡ line ∷ others → lines_of (begun ++ text) ≡ (begun ++ line) ∷ others
-ends_begun begun text line others one e = rw (pieces-append 10 begun text, one, e) refl
-
--- what comes behind a text comes behind its first line
-first_line : (text more line after : Text) → lines_of text ≡ line ∷ lines_of after → lines_of (text ++ more) ≡ line ∷ lines_of (after ++ more)
-first_line text more line after e =
-    rw (pieces-append 10 text more, e, pieces-append 10 after more) (joined-cons line (lines_of after) (lines_of more) (has_first 10 after))
-
--- the first line of what has begun, what is left of a part and what comes behind it
-pub whole_line : (begun rest more piece after : Text) → lines_of begun ≡ begun ∷ [] → lines_of rest ≡ piece ∷ lines_of after → lines_of (begun ++ (rest ++ more)) ≡ (begun ++ piece) ∷ lines_of (after ++ more)
-whole_line begun rest more piece after one e = ends_begun begun (rest ++ more) piece (lines_of (after ++ more)) one (first_line rest more piece after e)
-
-pub still_one_line : (begun piece : Text) → lines_of begun ≡ begun ∷ [] → lines_of piece ≡ piece ∷ [] → lines_of (begun ++ piece) ≡ (begun ++ piece) ∷ []
-still_one_line begun piece one e = ends_begun begun piece piece [] one e
 
 -- ---- the commands of each section
 
@@ -95,11 +50,11 @@ bind_same (Err fault) f g same = refl
 
 -- nothing has come: the text to come is the whole
 pub spells_all : (s : Settings) (sections : List (List Command)) (text : Text) → sections ≡ replicate (s.workers + 1) []
-    → spelled_with (record { settings = s; sections = sections; section = None; begun = []; line = 1; given = 0; fault = None }) text ≡ script_of s text
+    → spelled_with (record { settings = s; sections = sections; section = None; text = record { begun = []; line = 1; given = 0; fault = None } }) text ≡ script_of s text
 unfolding script_of lines_spell
 spells_all s sections text none =
-    let all : 0 + length text ≡ length text = omega arith in
-    rw (none, all, bind_same (commands_from s 1 None (lines_of text)) (λ ps. Ok (script_in (with_commands (replicate (s.workers + 1) []) ps))) (λ ps. Ok (script_with s.workers ps)) (λ ps. ap (λ (t : Script). Ok t) (from_none s.workers ps))) refl
+    rw (none, bind_same (commands_from s 1 None (lines_of text)) (λ ps. Ok (script_in (with_commands (replicate (s.workers + 1) []) ps))) (λ ps. Ok (script_with s.workers ps)) (λ ps. ap (λ (t : Script). Ok t) (from_none s.workers ps)))
+    (whole_comes text (commands_from s 1 None (lines_of text) >>= λ ps. Ok (script_with s.workers ps)))
 
 -- the commands of a line before those of the lines behind it
 behind_spells : (s : Settings) (sections : List (List Command)) (before : List Placed) (read : Result (List Placed) Fault)
@@ -107,22 +62,19 @@ behind_spells : (s : Settings) (sections : List (List Command)) (before : List P
 behind_spells s sections before (Ok ps) = rw (with_commands-append sections before ps) refl
 behind_spells s sections before (Err fault) = refl
 
--- a line that says something in its place, and what is left behind it
-pub line_spells : (s : Settings) (sections : List (List Command)) (section : Option ℕ) (n : ℕ) (begun rest more piece after : Text) (statement : Statement) → lines_of begun ≡ begun ∷ [] → lines_of rest ≡ piece ∷ lines_of after → Ok statement ≡ statement_in s section (begun ++ piece)
-    → lines_spell s sections section n (begun ++ (rest ++ more)) ≡ lines_spell s (with_commands sections (placed section statement)) (section_after section statement) (n + 1) (after ++ more)
+-- a line that says something in its place, and the lines behind it
+pub line_spells : (s : Settings) (sections : List (List Command)) (section : Option ℕ) (n : ℕ) (text line after : Text) (statement : Statement) → lines_of text ≡ line ∷ lines_of after → Ok statement ≡ statement_in s section line
+    → lines_spell s sections section n text ≡ lines_spell s (with_commands sections (placed section statement)) (section_after section statement) (n + 1) after
 unfolding lines_spell
-line_spells s sections section n begun rest more piece after statement one e says =
-    let texts = whole_line begun rest more piece after one e in
-    rw (line_says s n section (lines_of (begun ++ (rest ++ more))) (begun ++ piece) (after ++ more) statement texts says)
-    (behind_spells s sections (placed section statement) (commands_from s (n + 1) (section_after section statement) (lines_of (after ++ more))))
+line_spells s sections section n text line after statement texts says =
+    rw (line_says s n section (lines_of text) line after statement texts says)
+    (behind_spells s sections (placed section statement) (commands_from s (n + 1) (section_after section statement) (lines_of after)))
 
 -- a line that is at fault
-pub line_is_wrong : (s : Settings) (sections : List (List Command)) (section : Option ℕ) (n : ℕ) (begun rest more piece after : Text) (kind : TextKind) → lines_of begun ≡ begun ∷ [] → lines_of rest ≡ piece ∷ lines_of after → Err kind ≡ statement_in s section (begun ++ piece)
-    → lines_spell s sections section n (begun ++ (rest ++ more)) ≡ Err (n, kind)
+pub line_is_wrong : (s : Settings) (sections : List (List Command)) (section : Option ℕ) (n : ℕ) (text line after : Text) (kind : TextKind) → lines_of text ≡ line ∷ lines_of after → Err kind ≡ statement_in s section line
+    → lines_spell s sections section n text ≡ Err (n, kind)
 unfolding lines_spell
-line_is_wrong s sections section n begun rest more piece after kind one e says =
-    let texts = whole_line begun rest more piece after one e in
-    rw (line_fails s n section (lines_of (begun ++ (rest ++ more))) (begun ++ piece) (after ++ more) kind texts says) refl
+line_is_wrong s sections section n text line after kind texts says = rw (line_fails s n section (lines_of text) line after kind texts says) refl
 
 -- all has come, and a line has begun behind the last line feed or none
 pub end_spells : (s : Settings) (sections : List (List Command)) (section : Option ℕ) (n : ℕ) (begun : Text) → lines_of begun ≡ begun ∷ [] → None ≡ fault_behind begun
@@ -136,17 +88,6 @@ unfolding lines_spell
 end_is_wrong s sections section n begun kind one some = rw (append-nil begun, line_ends s n section (lines_of begun) begun one, ← some) refl
 
 -- ---- what stays true of a script that is being read
-
--- where nothing is at fault and not too much has come, what is read counts
-pub told_end : {A : Type 0} (given : ℕ) (fault : Option Fault) (read : Result A Fault) → given ≤ 16777216 → fault ≡ None → told_behind given fault [] read ≡ read
-told_end given fault read le none = rw (none, le-ltb 16777216 (given + 0) (omega arith)) refl
-
--- a part was read up to its end or its first fault
-pub told_more : {A : Type 0} (given new : ℕ) (fault found : Option Fault) (part more : Text) (before after : Result A Fault) → fault ≡ None → new ≡ given + length part → unless found after ≡ before
-    → told_behind new found more after ≡ told_behind given fault (part ++ more) before
-told_more given new fault found part more before after none is reads =
-    let all : given + length (part ++ more) ≡ (given + length part) + length more = omega (arith, length-append part more) in
-    rw (none, is, all, reads) refl
 
 -- a command in range is added to sections of commands in range
 pub added_in_range : (s : Settings) (sections : List (List Command)) (section : Option ℕ) (statement : Statement) → IfSome section (λ k. k < length sections) → IsInRange s statement → All (λ (commands : List Command). All (IsCommandFor s.nodes) commands) sections
@@ -173,15 +114,7 @@ script_in_range s (setup ∷ workers) count all = record {
   sections = omega arith;
 }
 
-pub nothing_begun : (begun piece : Text) → length begun ≡ 0 → begun ++ piece ≡ piece
-nothing_begun [] piece none = refl
-nothing_begun (b ∷ begun) piece none = absurd (omega arith)
-
 -- what isn't there
 pub not_there : {A : Type 0} (o : Option A) → ((x : A) → o ≡ Some x → ⊥) → o ≡ None
 not_there None none = refl
 not_there (Some x) none = absurd (none x refl)
-
-pub is_none : (fault : Option Fault) → is_some fault ≡ false → fault ≡ None
-is_none None none = refl
-is_none (Some f) none = absurd cc

@@ -8,4 +8,5 @@ pub mod Commands
 pub mod Operands
 pub mod Statements
 pub mod Scripts
+pub mod TextInParts
 pub mod Parts

@@ -11,6 +11,7 @@ mod script_reader;
 mod sequence;
 mod settings;
 mod statement;
+mod text_in_parts;
 mod words;
 
 pub use fault::{ReadFault, TextKind};
@@ -21,4 +22,5 @@ pub use script::{Command, Op, Script};
 pub use script_reader::{ScriptReader, read_script};
 pub use sequence::Sequence;
 pub use settings::{MAX_NODES, Report, Settings};
+pub use text_in_parts::{TextInParts, WholeLine};
 pub use words::{Words, cut_at, number};

@@ -6,14 +6,13 @@ ghost use Rattle.thp_text.specs.Scripts.{placed, script_of, IsScriptFor, TellsFa
 ghost use Rattle.thp_text.specs.Words.{Text};
 ghost use Rattle.thp_text.specs.declared.fault.ReadFault.TheVariants.{OutOfMemory};
 
-use crate::fault::{ReadFault, TextKind};
-use crate::input::MAX_INPUT;
+use crate::fault::ReadFault;
 use crate::lines::fault_behind;
 use crate::script::{Command, Script};
 use crate::sequence::Sequence;
 use crate::settings::Settings;
 use crate::statement::{Statement, section_after, statement_in};
-use crate::words::cut_at;
+use crate::text_in_parts::{TextInParts, WholeLine};
 use std::alloc::Global;
 use std::marker::Model;
 
@@ -67,13 +66,7 @@ pub struct ScriptReader<'a> {
     sections: Vec<Sequence<Command>>,
     // in which the last line stands
     section: Option<u32>,
-    // what has come of a line, by its number
-    begun: Vec<u8>,
-    line: u32,
-    // how many bytes have come
-    given: usize,
-    // the first, and in which line
-    fault: Option<(u32, TextKind)>,
+    text: TextInParts,
 }
 
 impl<'a> Model for ScriptReader<'a> {
@@ -81,9 +74,9 @@ impl<'a> Model for ScriptReader<'a> {
 
     ghost Value = { ReadSoFar };
 
-    ghost view = { λ r. record { settings = r.settings.now; sections = r.sections.items; section = r.section; begun = r.begun.items; line = r.line; given = r.given; fault = r.fault } };
+    ghost view = { λ r. record { settings = r.settings.now; sections = r.sections.items; section = r.section; text = r.text } };
 
-    ghost invariant = { λ r. IsReading (record { settings = r.settings.now; sections = r.sections.items; section = r.section; begun = r.begun.items; line = r.line; given = r.given; fault = r.fault }) };
+    ghost invariant = { λ r. IsReading (record { settings = r.settings.now; sections = r.sections.items; section = r.section; text = r.text }) };
 }
 
 impl<'a> ScriptReader<'a> {
@@ -97,10 +90,7 @@ impl<'a> ScriptReader<'a> {
             settings,
             sections: empty_sections(alloc, settings.workers)?,
             section: None,
-            begun: Vec::new(alloc),
-            line: 1,
-            given: 0,
-            fault: None,
+            text: TextInParts::new(alloc),
         })
     }
 
@@ -111,60 +101,33 @@ impl<'a> ScriptReader<'a> {
         ensures settings { IfOk result (λ reader. reader.settings ≡ self.entry.settings) }
         ensures memory { IfErr result (λ fault. fault ≡ OutOfMemory) }
     {
-        let given = self.given.saturating_add(part.len());
-        if given > MAX_INPUT || self.fault.is_some() {
-            return Ok(ScriptReader { given, ..self });
-        }
         let ScriptReader {
             settings,
             mut sections,
             mut section,
-            mut begun,
-            mut line,
-            ..
+            mut text,
         } = self;
-        let mut rest = part;
-        loop {
-            let (piece, after) = cut_at(b'\n', rest);
-            let Some(after) = after else {
-                begun.extend_from_slice(piece)?;
-                return Ok(ScriptReader {
-                    settings,
-                    sections,
-                    section,
-                    begun,
-                    line,
-                    given,
-                    fault: None,
-                });
-            };
-            let whole = if begun.is_empty() {
-                piece
-            } else {
-                begun.extend_from_slice(piece)?;
-                begun.as_slice()
-            };
-            let statement = statement_in(settings, section, whole);
-            begun.clear();
-            let statement = match statement {
-                Ok(statement) => statement,
-                Err(kind) => {
-                    return Ok(ScriptReader {
-                        settings,
-                        sections,
-                        section,
-                        begun,
-                        line,
-                        given,
-                        fault: Some((line, kind)),
-                    });
+        let mut rest = text.next_part(part);
+        while let Some(WholeLine { number, bytes }) = text.next_line(&mut rest)? {
+            let said = statement_in(settings, section, bytes.as_slice());
+            drop(bytes);
+            match said {
+                Ok(statement) => {
+                    add(&mut sections, section, statement)?;
+                    section = section_after(section, statement);
                 }
-            };
-            add(&mut sections, section, statement)?;
-            section = section_after(section, statement);
-            line += 1;
-            rest = after;
+                Err(kind) => {
+                    text.note_fault(number, kind);
+                    break;
+                }
+            }
         }
+        Ok(ScriptReader {
+            settings,
+            sections,
+            section,
+            text,
+        })
     }
 
     /// The script that the whole text spells, or its first fault. No memory is taken.
@@ -174,20 +137,12 @@ impl<'a> ScriptReader<'a> {
         ensures fault { IfErr result (TellsFault (spelled_with self.entry [])) }
         ensures memory { IfErr result (λ fault. fault ≢ OutOfMemory) }
     {
-        if self.given > MAX_INPUT {
-            return Err(ReadFault::Text {
-                line: 0,
-                kind: TextKind::TooLong,
-            });
-        }
-        if let Some((line, kind)) = self.fault {
+        if let Some((line, kind)) = self.text.fault() {
             return Err(ReadFault::Text { line, kind });
         }
-        match fault_behind(self.begun.as_slice()) {
-            Some(kind) => Err(ReadFault::Text {
-                line: self.line,
-                kind,
-            }),
+        let (line, behind) = self.text.last_line();
+        match fault_behind(behind) {
+            Some(kind) => Err(ReadFault::Text { line, kind }),
             None => Ok(script_of_sections(self.sections)),
         }
     }

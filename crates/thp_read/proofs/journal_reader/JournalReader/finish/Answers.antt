@@ -1,6 +1,8 @@
-use Rattle.std.proofs.Common.{◌∙◌, ◌++◌, [], ap, arith, sym, List, Ok}
+use Rattle.std.proofs.Common.{◌≡◌, ◌∙◌, ◌++◌, [], ap, sym, List, Ok, None}
 use Rattle.std.specs.Prelude.{All}
-use Rattle.thp_text.proofs.PartLaws.{not_there, told_end}
+use Rattle.thp_text.specs.TextInParts.{fault_with}
+use Rattle.thp_text.proofs.PartLaws.{not_there}
+use Rattle.thp_text.proofs.TextLaws.{told_end}
 use Rattle.thp_read.specs.declared.journals.NodeJournal.{NodeJournal}
 use Rattle.thp_read.specs.Journals.{IsNodeJournal}
 use Rattle.thp_read.specs.Parts.{journals_in, lines_tell, told_with}
@@ -12,22 +14,27 @@ use Rattle.thp_read.proofs.journal_reader.JournalReader.finish.Goals as goal
 pub returns-in-Some-fault_at-clause-fault : goal.returns-in-Some-fault_at-clause-fault
 returns-in-Some-fault_at-clause-fault c =
     let r = c.self.inside in
-    rw (← c.self.view_is) (told_end r.given r.fault (lines_tell (nodes_in r.nodes) r.place r.line (r.begun.items ++ [])) (omega arith) (not_there r.fault c.in_default.not-Some)
-    ∙ end_is_wrong (nodes_in r.nodes) r.place r.line r.begun.items c.in-Some-fault_at.kind c.self.invariant.one_line (rw (← c.as_slice.ensures.value) c.in-Some-fault_at.ensures))
+    let last = c.last_line-line in
+    let sound : fault_with r.text [] ≡ None = sym c.fault.ensures ∙ not_there c.fault.result c.in_default.not-Some in
+    rw (← c.self.view_is, last.ensures.number) (told_end r.text (lines_tell (nodes_in r.nodes) r.place r.text.line (r.text.begun ++ [])) sound
+    ∙ end_is_wrong (nodes_in r.nodes) r.place r.text.line r.text.begun c.in-Some-fault_at.kind (rw (← last.ensures.line) last.ensures.one_line) (rw (← last.ensures.line) c.in-Some-fault_at.ensures))
 
 pub returns-in-None-clause-journals : goal.returns-in-None-clause-journals
 returns-in-None-clause-journals c =
     let r = c.self.inside in
+    let last = c.last_line-line in
+    let sound : fault_with r.text [] ≡ None = sym c.fault.ensures ∙ not_there c.fault.result c.in_default.not-Some in
     if_ok c.finish.result _ _ c.finish.ensures.nodes
     (λ journals is.
-    rw (← c.self.view_is) (told_end r.given r.fault (lines_tell (nodes_in r.nodes) r.place r.line (r.begun.items ++ [])) (omega arith) (not_there r.fault c.in_default.not-Some)
-    ∙ end_tells (nodes_in r.nodes) r.place r.line r.begun.items c.self.invariant.one_line (rw (← c.as_slice.ensures.value) c.in-None.ensures)
+    rw (← c.self.view_is) (told_end r.text (lines_tell (nodes_in r.nodes) r.place r.text.line (r.text.begun ++ [])) sound
+    ∙ end_tells (nodes_in r.nodes) r.place r.text.line r.text.begun (rw (← last.ensures.line) last.ensures.one_line) (rw (← last.ensures.line) c.in-None.ensures)
     ∙ ap (λ (nodes : List NodeJournal). Ok (journals_in nodes)) (sym is)))
 
 pub returns-in-None-clause-in_range : goal.returns-in-None-clause-in_range
 returns-in-None-clause-in_range c =
     let r = c.self.inside in
-    let all : All IsNodeJournal (nodes_in r.nodes) = all_in_range r.line (nodes_in r.nodes) c.self.invariant.most c.self.invariant.reading.each in
+    let last = c.last_line-line in
+    let all : All IsNodeJournal (nodes_in r.nodes) = all_in_range r.text.line (nodes_in r.nodes) (rw (← last.ensures.number) last.ensures.most) c.self.invariant.each in
     if_ok c.finish.result _ _ c.finish.ensures.nodes (λ journals is. rw is all)
 
 pub returns-in-None-clause-fault : goal.returns-in-None-clause-fault

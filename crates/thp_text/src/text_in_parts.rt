@@ -1,0 +1,137 @@
+//! Texts that come in parts.
+ghost use Rattle.std.specs.Prelude.{◌≡◌, ◌≤◌, ◌<◌, ◌++◌, ◌∷◌, [], None, IfOk, IfSome, IfNone, OnOk, OnErr, length};
+ghost use Rattle.std.specs.Cow.{cow_slice_items};
+ghost use Rattle.thp_text.specs.TextInParts.{after_line, fault_with, read_unless, with_begun, with_fault, with_part, IsCounted};
+ghost use Rattle.thp_text.specs.Words.{Text, lines_of};
+
+use crate::fault::TextKind;
+use crate::input::MAX_INPUT;
+use crate::words::cut_at;
+use std::alloc::{AllocError, Global};
+use std::borrow::CowSlice;
+use std::marker::Model;
+
+/// A whole line of a text.
+#[derive(Drop)]
+pub struct WholeLine<'p> {
+    /// Lines count from 1.
+    pub number: u32,
+    /// Its bytes without the line feed: lent from a part, or put together of several.
+    pub bytes: CowSlice<'p, u8, Global>,
+}
+
+/// A text that comes in parts of any length, line by line. It keeps no more of it than the line begun.
+#[derive(Drop)]
+pub struct TextInParts {
+    alloc: Global,
+    // what has come of a line, by its number
+    begun: Vec<u8>,
+    line: u32,
+    // how many bytes have come
+    given: usize,
+    // the first, and in which line
+    fault: Option<(u32, TextKind)>,
+}
+
+impl Model for TextInParts {
+    ghost use Rattle.thp_text.specs.TextInParts.{HasCome, TextSoFar};
+
+    ghost Value = { TextSoFar };
+
+    ghost view = { λ t. record { begun = t.begun.items; line = t.line; given = t.given; fault = t.fault } };
+
+    ghost invariant = { λ t. HasCome (record { begun = t.begun.items; line = t.line; given = t.given; fault = t.fault }) };
+}
+
+impl TextInParts {
+    /// A text of which nothing has come.
+    pub fn new(alloc: Global) -> TextInParts
+        ensures { result ≡ record { begun = []; line = 1; given = 0; fault = None } }
+    {
+        TextInParts {
+            alloc,
+            begun: Vec::new(alloc),
+            line: 1,
+            given: 0,
+            fault: None,
+        }
+    }
+
+    /// Counts the next part, and gives what is to be read of it: nothing behind a fault, or where more has come than an
+    /// input may have.
+    pub fn next_part<'p>(&mut self, part: &'p [u8]) -> &'p [u8]
+        ensures part { self.new ≡ with_part self.old part.now }
+        ensures to_read { result.now ≡ read_unless (fault_with self.new []) part.now }
+        ensures counted { IsCounted result.now self.new }
+    {
+        self.given = self.given.saturating_add(part.len());
+        if self.fault().is_some() {
+            return &[];
+        }
+        part
+    }
+
+    /// The next whole line of what is left of a part. At `None` no line ends there, and what was left has begun one. A line
+    /// that lies in the part alone is lent from it and not copied.
+    #[inline(always)]
+    pub fn next_line<'p>(
+        &mut self,
+        rest: &mut &'p [u8],
+    ) -> Result<Option<WholeLine<'p>>, AllocError>
+        requires { IsCounted rest.old.now self.old }
+        ensures number { IfOk result (λ next. IfSome next (λ line. line.number ≡ self.old.line)) }
+        ensures line { IfOk result (λ next. IfSome next (λ line. (more : Text) → lines_of (self.old.begun ++ (rest.old.now ++ more)) ≡ cow_slice_items line.bytes ∷ lines_of (rest.new.now ++ more))) }
+        ensures after_line { IfOk result (λ next. IfSome next (λ _. self.new ≡ after_line self.old)) }
+        ensures shorter { IfOk result (λ next. IfSome next (λ _. length rest.new.now < length rest.old.now)) }
+        ensures begun { IfOk result (λ next. IfNone next (self.new ≡ with_begun self.old rest.old.now)) }
+        ensures nothing_left { IfOk result (λ next. IfNone next (rest.new.now ≡ [])) }
+        ensures counted { OnOk result (IsCounted rest.new.now self.new) }
+        ensures unchanged { OnErr result ((self.new ≡ self.old) × (rest.new.now ≡ rest.old.now)) }
+    {
+        let (piece, after) = cut_at(b'\n', *rest);
+        let Some(after) = after else {
+            self.begun.extend_from_slice(piece)?;
+            *rest = &[];
+            return Ok(None);
+        };
+        let bytes = if self.begun.is_empty() {
+            CowSlice::Borrowed(piece)
+        } else {
+            self.begun.extend_from_slice(piece)?;
+            CowSlice::Owned(std::mem::replace(&mut self.begun, Vec::new(self.alloc)))
+        };
+        let number = self.line;
+        self.line += 1;
+        *rest = after;
+        Ok(Some(WholeLine { number, bytes }))
+    }
+
+    /// Notes a fault of a line. Only the first is kept.
+    pub fn note_fault(&mut self, line: u32, kind: TextKind)
+        ensures { self.new ≡ with_fault self.old (line, kind) }
+    {
+        if self.fault.is_none() {
+            self.fault = Some((line, kind));
+        }
+    }
+
+    /// The fault so far, whatever stands behind the last line feed: too much has come, or a line is at fault.
+    pub fn fault(&self) -> Option<(u32, TextKind)>
+        ensures { result ≡ fault_with self.now [] }
+    {
+        if self.given > MAX_INPUT {
+            return Some((0, TextKind::TooLong));
+        }
+        self.fault
+    }
+
+    /// What stands behind the last line feed, and the number of that line.
+    pub fn last_line(&self) -> (u32, &[u8])
+        ensures number { result.0 ≡ self.now.line }
+        ensures most { result.0 ≤ 16777217 }
+        ensures line { result.1.now ≡ self.now.begun }
+        ensures one_line { lines_of result.1.now ≡ result.1.now ∷ [] }
+    {
+        (self.line, self.begun.as_slice())
+    }
+}
