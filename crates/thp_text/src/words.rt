@@ -7,13 +7,19 @@ ghost use Rattle.std.specs.Char.{digit_value, is_ascii_digit};
 ghost use Rattle.std.specs.Str.Parse.{digits_value};
 ghost use Rattle.thp_text.specs.Words.{is_numeral, number_of, pieces_at, pieces_left, words_of};
 
+use memchr::memchr;
 use std::marker::Model;
 
+// The first place of a byte. A line's end is sought by vectors; other separators stand near, within a line.
 #[inline(always)]
 fn place_of(byte: u8, text: &[u8]) -> Option<usize>
     ensures { result ≡ position (λ b. b == byte) text.now }
 {
-    text.iter().position(|b| *b == byte)
+    if byte == b'\n' {
+        memchr(byte, text)
+    } else {
+        text.iter().position(|b| *b == byte)
+    }
 }
 
 /// The text up to the first separator, and what follows that separator, where there is one.
