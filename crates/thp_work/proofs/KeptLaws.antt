@@ -1,7 +1,7 @@
 -- Answers kept short: a further long reply changes none of those before it.
 use Rattle.std.proofs.Common.{◌≡◌, List, [], ◌∷◌, ◌++◌, length, refl}
 use Rattle.std.specs.Prelude.{All}
-use Rattle.std.proofs.lemmas.List.Elements.{All-head, All-tail, All-weaker}
+use Rattle.std.proofs.lemmas.List.Elements.{All-head, All-tail}
 use Rattle.thp_work.specs.declared.kept_answers.ShortAnswer.{ShortAnswer}
 use Rattle.thp_work.specs.declared.kept_answers.ShortReply.{ShortReply}
 use Rattle.thp_work.specs.declared.reply.Reply.{Reply}
@@ -17,9 +17,6 @@ answers_stay old new [] same there = refl
 answers_stay old new (a ∷ answers) same there =
     let first = same a.reply (All-head (λ (a : ShortAnswer). is_there (length old) a.reply) a answers there) in
     rw (first.1, answers_stay old new answers same (All-tail (λ (a : ShortAnswer). is_there (length old) a.reply) a answers there)) refl
-
-pub still_there : (old new : List Reply) (answers : List ShortAnswer) → StandOn old new → All (λ (a : ShortAnswer). is_there (length old) a.reply) answers → All (λ (a : ShortAnswer). is_there (length new) a.reply) answers
-still_there old new answers same there = All-weaker (λ (a : ShortAnswer). is_there (length old) a.reply) (λ (a : ShortAnswer). is_there (length new) a.reply) (λ a is. (same a.reply is).0) answers there
 
 -- an answer put behind the others, with the long replies as they are then
 pub pushed : (old new : List Reply) (answers : List ShortAnswer) (last : ShortAnswer) → StandOn old new → All (λ (a : ShortAnswer). is_there (length old) a.reply) answers → answers_in new (answers ++ last ∷ []) ≡ answers_in old answers ++ answer_in new last ∷ []
