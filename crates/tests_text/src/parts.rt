@@ -2,7 +2,9 @@
 ghost use Rattle.std.specs.Prelude.{◌<◌};
 
 use std::alloc::Global;
-use thp_text::{Command, Op, ReadFault, Report, Script, ScriptReader, Settings, TextKind};
+use thp_text::{
+    Command, Op, ReadFault, Report, Script, ScriptReader, Settings, TextInParts, TextKind,
+};
 
 const SCRIPT: &[u8] = b"# pages\nsetup\nalloc 0\nalloc 0\n\nworker 1\npin 0 1\ncount 0\n";
 
@@ -58,4 +60,32 @@ fn first_fault_of_parts(rt: HostRuntime) {
         );
         assert!(rt; is_first, "{size}");
     }
+}
+
+#[test]
+fn lines_in_turn(rt: HostRuntime) {
+    let mut text = TextInParts::new(rt.alloc());
+    let mut rest = text.next_part(b"one\ntw".as_slice());
+    let Ok(Some(first)) = text.next_line(&mut rest) else {
+        assert!(rt; false, "a line");
+        return;
+    };
+    assert!(rt; first.number == 1);
+    assert!(rt; first.bytes.as_slice() == b"one".as_slice());
+    let Ok(None) = text.next_line(&mut rest) else {
+        assert!(rt; false, "a line begun");
+        return;
+    };
+    let mut rest = text.next_part(b"o\n".as_slice());
+    let Ok(Some(second)) = text.next_line(&mut rest) else {
+        assert!(rt; false, "a line");
+        return;
+    };
+    assert!(rt; second.number == 2);
+    assert!(rt; second.bytes.as_slice() == b"two".as_slice());
+    text.note_fault(2, TextKind::BadWord);
+    assert!(rt; text.fault() == Some((2, TextKind::BadWord)));
+    let (line, behind) = text.last_line();
+    assert!(rt; line == 3);
+    assert!(rt; behind.is_empty());
 }
