@@ -4,10 +4,10 @@
 //! at every moment; a call that is refused changes nothing. What the calls record and answer, and when they are refused,
 //! is said by the definitions of `thp_model`; what every call keeps is said once, in `specs/Calls.antt`.
 //!
-//! The public surface: `Node::new`, `reserve`; `alloc_page`, `map_whole`, `unmap_whole`, `map_sub`, `unmap_sub`,
-//! `split_pmd`, `pin`, `unpin`, `write`, `zero`, `close`; `take`, `split_next`, `put_back`, `scan`; the readers `shape`,
+//! The public surface: `Node::new`, `reserve`; `alloc_page`, `close`; `gain` and `lose`, and by name `map_whole`,
+//! `unmap_whole`, `map_sub`, `unmap_sub`, `split_pmd`, `pin`, `unpin`, `write`, `zero`; `take`, `split_next`, `put_back`, `scan`; the readers `shape`,
 //! `journal`, `table`, `queue`, `queue_len`, `frames_given`, `frames_held`, `counters`; `Batch` with `caller`, `pages`,
-//! `abandon`; and the answers `NewFault`, `Done`, `Tried`, `BackReply`, `ScanReply`, `Counters`.
+//! `abandon`; the values `Gain`, `Loss`; and the answers `NewFault`, `Done`, `Tried`, `BackReply`, `ScanReply`, `Counters`.
 //!
 //! For callers' proofs: `journal` ensures the laws of `specs/JournalLaws.antt`, which `proofs/JournalFacts` has for every legal
 //! history. What `put_back` requires of its batch is ensured by `take` and handed on by every call, clauses `front`, `fronts`
@@ -23,4 +23,4 @@ mod node;
 pub use answers::{BackReply, Counters, NewFault, ScanReply, Tried};
 pub use batch::Batch;
 pub use node::Node;
-pub use thp_places::Done;
+pub use thp_places::{Done, Gain, Loss};

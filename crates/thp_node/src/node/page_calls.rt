@@ -144,10 +144,10 @@ impl Node {
         self.gain(caller, page, Gain::Zero { first, count })
     }
 
-    // A call that gives a page mappings or a pin, or fills subpages of it. It is inlined, as `lose` is, so that each call does
-    // its own kind alone.
+    /// Gives a page mappings or a pin, or fills subpages of it. Refused as the page refuses it. It is inlined, as `lose` is, so
+    /// that a call of a known kind does that kind alone.
     #[inline(always)]
-    fn gain(&mut self, caller: u32, page: PageId, gain: Gain) -> Result<(), Refusal>
+    pub fn gain(&mut self, caller: u32, page: PageId, gain: Gain) -> Result<(), Refusal>
         requires { caller < 64 }
         ensures allowed { OnOk result (refusal self.old.shape self.old.journal (gain_call gain page) ≡ None) }
         ensures recorded { OnOk result (Did self.old self.new caller (by caller (gain_what gain page) ∷ [])) }
@@ -161,9 +161,9 @@ impl Node {
         Ok(())
     }
 
-    // A call that takes mappings or a pin from a page.
+    /// Takes mappings or a pin from a page, which can queue or free it. Refused as the page refuses it.
     #[inline(always)]
-    fn lose(&mut self, caller: u32, page: PageId, loss: Loss) -> Result<Done, Refusal>
+    pub fn lose(&mut self, caller: u32, page: PageId, loss: Loss) -> Result<Done, Refusal>
         requires { caller < 64 }
         ensures allowed { OnOk result (refusal self.old.shape self.old.journal (loss_call loss page) ≡ None) }
         ensures recorded { IfOk result (λ d. Did self.old self.new caller (by caller (loss_what loss page d.outcome d.released) ∷ [])) }
