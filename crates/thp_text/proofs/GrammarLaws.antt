@@ -2,7 +2,7 @@
 -- word.
 use Rattle.std.proofs.Common.{◌≡◌, ◌<◌, ◌≤◌, ◌-◌, ℕ, zero, suc, Bool, true, false, cond, List, [], ◌∷◌, Option, Result, Ok, Err, arith, subst, refl, sym, inl, inr, codes, not}
 use Rattle.std.specs.Prelude.{All}
-use Rattle.std.specs.List.{list_all, list_any}
+use Rattle.std.specs.List.{AllByRecursion, list_all, list_any}
 use Rattle.std.proofs.lemmas.List.Elements.{All-cons}
 use Rattle.thp_text.specs.declared.fault.TextKind.{TextKind}
 use Rattle.thp_text.specs.declared.fault.TextKind.TheVariants.{BadByte, BadOrder, BadWord}
@@ -12,7 +12,7 @@ use Rattle.thp_text.specs.declared.script.Op.TheVariants.{Alloc, MapWhole, Unmap
 use Rattle.thp_text.specs.declared.settings.Settings.{Settings}
 use Rattle.thp_text.specs.declared.statement.Statement.{Statement}
 use Rattle.thp_text.specs.declared.statement.Statement.TheVariants.{Nothing, Section, Call}
-use Rattle.thp_text.specs.Commands.{batch_command, call_command, command_of, further_command, is_further, node_command, node_number, number_up_to, page_command, range_command, FitsBatch, IsCommandFor}
+use Rattle.thp_text.specs.Commands.{batch_command, command_in, command_of, commands, node_command, node_number, number_up_to, page_command, range_command, FitsBatch, IsCommandFor, Reading}
 use Rattle.thp_text.specs.Lines.{is_empty, is_printable}
 use Rattle.thp_text.specs.Statements.{by_words, call_of, may_stand, says_nothing, section_of, section_or_call, setup_of, statement_in, statement_of, worker_number, worker_of, worker_or_call, IsInRange, IsSectionFor}
 use Rattle.thp_text.specs.Words.{Text, words_of}
@@ -111,87 +111,87 @@ section_is (suc n) k e = ok_value (suc n) k e
 first_section : (s : Settings) → IsSectionFor s 0
 first_section s = omega arith
 
-further_read : (s : Settings) (name : Text) (words : List Text) (command : Command) → further_command s name words ≡ Ok command → IsReadCommand s name words command
-unfolding further_command
-further_read s name words command e =
-    elim (word_cases name (codes "count") _ _ command e) [
-      | inl h ↦ node_read s Count name words command (plain_word name (codes "count") h.0 (record { printable = refl; some = refl })) tt h.1
-      | inr e1 ↦
-          elim (word_cases name (codes "take") _ _ command e1) [
-            | inl h ↦ batch_read s (λ count. Take count) name words command (plain_word name (codes "take") h.0 (record { printable = refl; some = refl })) (λ n le. le) h.1
-            | inr e2 ↦
-                elim (word_cases name (codes "splitnext") _ _ command e2) [
-                  | inl h ↦ node_read s SplitNext name words command (plain_word name (codes "splitnext") h.0 (record { printable = refl; some = refl })) tt h.1
-                  | inr e3 ↦
-                      elim (word_cases name (codes "putback") _ _ command e3) [
-                        | inl h ↦ node_read s PutBack name words command (plain_word name (codes "putback") h.0 (record { printable = refl; some = refl })) tt h.1
-                        | inr e4 ↦
-                            elim (word_cases name (codes "write") _ _ command e4) [
-                              | inl h ↦ range_read s (λ page first count. Write first count page) name words command (plain_word name (codes "write") h.0 (record { printable = refl; some = refl })) (λ p f n. tt) h.1
-                              | inr e5 ↦
-                                  elim (word_cases name (codes "zero") _ _ command e5) [
-                                    | inl h ↦ range_read s (λ page first count. Zero first count page) name words command (plain_word name (codes "zero") h.0 (record { printable = refl; some = refl })) (λ p f n. tt) h.1
-                                    | inr e6 ↦
-                                        absurd cc
-                                  ]
-                            ]
-                      ]
-                ]
-          ]
-    ]
+-- an entry of the table: its word is plain, and what it reads is in range
+record IsEntry (s : Settings) (entry : Text × Reading) : Type 0 where
+  pub plain : IsPlain entry.0
+  pub reads : (words : List Text) (command : Command) → entry.1 s words ≡ Ok command → IsReadCommand s entry.0 words command
 
-call_command_read : (s : Settings) (name : Text) (words : List Text) (command : Command) → call_command s name words ≡ Ok command → IsReadCommand s name words command
-unfolding call_command
-call_command_read s name words command e =
-    elim (word_cases name (codes "alloc") _ _ command e) [
-      | inl h ↦ node_read s Alloc name words command (plain_word name (codes "alloc") h.0 (record { printable = refl; some = refl })) tt h.1
-      | inr e1 ↦
-          elim (word_cases name (codes "mapwhole") _ _ command e1) [
-            | inl h ↦ page_read s MapWhole name words command (plain_word name (codes "mapwhole") h.0 (record { printable = refl; some = refl })) (λ n. tt) h.1
-            | inr e2 ↦
-                elim (word_cases name (codes "unmapwhole") _ _ command e2) [
-                  | inl h ↦ page_read s UnmapWhole name words command (plain_word name (codes "unmapwhole") h.0 (record { printable = refl; some = refl })) (λ n. tt) h.1
-                  | inr e3 ↦
-                      elim (word_cases name (codes "map") _ _ command e3) [
-                        | inl h ↦ range_read s (λ page first count. Map first count page) name words command (plain_word name (codes "map") h.0 (record { printable = refl; some = refl })) (λ p f n. tt) h.1
-                        | inr e4 ↦
-                            elim (word_cases name (codes "unmap") _ _ command e4) [
-                              | inl h ↦ range_read s (λ page first count. Unmap first count page) name words command (plain_word name (codes "unmap") h.0 (record { printable = refl; some = refl })) (λ p f n. tt) h.1
-                              | inr e5 ↦
-                                  elim (word_cases name (codes "splitpmd") _ _ command e5) [
-                                    | inl h ↦ page_read s SplitPmd name words command (plain_word name (codes "splitpmd") h.0 (record { printable = refl; some = refl })) (λ n. tt) h.1
-                                    | inr e6 ↦
-                                        elim (word_cases name (codes "pin") _ _ command e6) [
-                                          | inl h ↦ page_read s Pin name words command (plain_word name (codes "pin") h.0 (record { printable = refl; some = refl })) (λ n. tt) h.1
-                                          | inr e7 ↦
-                                              elim (word_cases name (codes "unpin") _ _ command e7) [
-                                                | inl h ↦ page_read s Unpin name words command (plain_word name (codes "unpin") h.0 (record { printable = refl; some = refl })) (λ n. tt) h.1
-                                                | inr e8 ↦
-                                                    elim (word_cases name (codes "close") _ _ command e8) [
-                                                      | inl h ↦ node_read s Close name words command (plain_word name (codes "close") h.0 (record { printable = refl; some = refl })) tt h.1
-                                                      | inr e9 ↦
-                                                          elim (word_cases name (codes "scan") _ _ command e9) [
-                                                            | inl h ↦ batch_read s (λ count. Scan count) name words command (plain_word name (codes "scan") h.0 (record { printable = refl; some = refl })) (λ n le. le) h.1
-                                                            | inr e10 ↦
-                                                                absurd cc
-                                                          ]
-                                                    ]
-                                              ]
-                                        ]
-                                  ]
-                            ]
-                      ]
-                ]
-          ]
+module _ (s : Settings) (word : Text) (plain : IsPlain word) where
+  of_node : (op : Op) → FitsBatch op → IsEntry s (word, node_command op)
+  of_node op fits = record { plain = plain; reads = λ words command e. node_read s op word words command plain fits e }
+
+  of_page : (op : ℕ → Op) → ((p : ℕ) → FitsBatch (op p)) → IsEntry s (word, page_command op)
+  of_page op fits = record { plain = plain; reads = λ words command e. page_read s op word words command plain fits e }
+
+  of_range : (op : ℕ → ℕ → ℕ → Op) → ((p f n : ℕ) → FitsBatch (op p f n)) → IsEntry s (word, range_command op)
+  of_range op fits = record { plain = plain; reads = λ words command e. range_read s op word words command plain fits e }
+
+  of_batch : (op : ℕ → Op) → ((n : ℕ) → n ≤ 128 → FitsBatch (op n)) → IsEntry s (word, batch_command op)
+  of_batch op fits = record { plain = plain; reads = λ words command e. batch_read s op word words command plain fits e }
+
+entries : (s : Settings) → AllByRecursion (IsEntry s) commands
+entries s = (
+  of_node s (codes "alloc") (record { printable = refl; some = refl }) Alloc tt,
+  (
+    of_page s (codes "mapwhole") (record { printable = refl; some = refl }) MapWhole (λ p. tt),
+    (
+      of_page s (codes "unmapwhole") (record { printable = refl; some = refl }) UnmapWhole (λ p. tt),
+      (
+        of_range s (codes "map") (record { printable = refl; some = refl }) (λ page first count. Map first count page) (λ p f n. tt),
+        (
+          of_range s (codes "unmap") (record { printable = refl; some = refl }) (λ page first count. Unmap first count page) (λ p f n. tt),
+          (
+            of_page s (codes "splitpmd") (record { printable = refl; some = refl }) SplitPmd (λ p. tt),
+            (
+              of_page s (codes "pin") (record { printable = refl; some = refl }) Pin (λ p. tt),
+              (
+                of_page s (codes "unpin") (record { printable = refl; some = refl }) Unpin (λ p. tt),
+                (
+                  of_range s (codes "write") (record { printable = refl; some = refl }) (λ page first count. Write first count page) (λ p f n. tt),
+                  (
+                    of_range s (codes "zero") (record { printable = refl; some = refl }) (λ page first count. Zero first count page) (λ p f n. tt),
+                    (
+                      of_node s (codes "close") (record { printable = refl; some = refl }) Close tt,
+                      (
+                        of_batch s (codes "scan") (record { printable = refl; some = refl }) (λ count. Scan count) (λ n le. le),
+                        (
+                          of_node s (codes "count") (record { printable = refl; some = refl }) Count tt,
+                          (
+                            of_batch s (codes "take") (record { printable = refl; some = refl }) (λ count. Take count) (λ n le. le),
+                            (
+                              of_node s (codes "splitnext") (record { printable = refl; some = refl }) SplitNext tt,
+                              (
+                                of_node s (codes "putback") (record { printable = refl; some = refl }) PutBack tt,
+                                tt,
+                              ),
+                            ),
+                          ),
+                        ),
+                      ),
+                    ),
+                  ),
+                ),
+              ),
+            ),
+          ),
+        ),
+      ),
+    ),
+  ),
+)
+
+in_table : (s : Settings) (table : List (Text × Reading)) (name : Text) (words : List Text) (command : Command) → AllByRecursion (IsEntry s) table → command_in table s name words ≡ Ok command → IsReadCommand s name words command
+in_table s [] name words command all e = absurd cc
+in_table s (entry ∷ others) name words command all e =
+    elim (word_cases name entry.0 _ _ command e) [
+      | inl h ↦ subst (λ n. IsReadCommand s n words command) (sym h.0) (all.0.reads words command h.1)
+      | inr rest ↦ in_table s others name words command all.1 rest
     ]
 
 -- a command that is read has plain words, and is for a node that there is
 pub command_read : (s : Settings) (name : Text) (words : List Text) (command : Command) → command_of s name words ≡ Ok command → IsReadCommand s name words command
-command_read s name words command e = go (is_further name) e
-  where
-    go : (b : Bool) → cond b (further_command s name words) (call_command s name words) ≡ Ok command → IsReadCommand s name words command
-    go true e = further_read s name words command e
-    go false e = call_command_read s name words command e
+unfolding command_of
+command_read s name words command e = in_table s commands name words command (entries s) e
 
 -- ---- lines
 

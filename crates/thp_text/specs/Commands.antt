@@ -1,5 +1,5 @@
 -- The commands of scripts by their words (this project's script format).
-use Rattle.std.specs.Prelude.{◌≤◌, ◌<◌, ℕ, ◌-◌, ◌||◌, Bool, ⊤, List, [], ◌∷◌, Result, Ok, Err, codes, ok_or, if◌then◌else◌}
+use Rattle.std.specs.Prelude.{◌≤◌, ◌<◌, ℕ, ◌-◌, ⊤, List, [], ◌∷◌, Result, Ok, Err, codes, ok_or, if◌then◌else◌}
 use Rattle.std.specs.Str.{bytes_eq}
 use Rattle.thp_text.specs.declared.fault.TextKind.{TextKind}
 use Rattle.thp_text.specs.declared.fault.TextKind.TheVariants.{BadWord, BadCount, BadNumber}
@@ -66,39 +66,38 @@ batch_command op s words = do
   count ← number_up_to 128 word.1
   Ok (record { node = node; op = op count })
 
--- the commands that only the whole format has
-unfoldable pub further_command : Settings → Text → List Text → Result Command TextKind
-further_command s name words =
-    if bytes_eq name (codes "count") then node_command Count s words
-    else if bytes_eq name (codes "take") then batch_command (λ count. Take count) s words
-    else if bytes_eq name (codes "splitnext") then node_command SplitNext s words
-    else if bytes_eq name (codes "putback") then node_command PutBack s words
-    else if bytes_eq name (codes "write") then range_command (λ page first count. Write first count page) s words
-    else if bytes_eq name (codes "zero") then range_command (λ page first count. Zero first count page) s words
-    else Err BadWord
+-- how the operands read that stand behind a command's name
+abbrev pub Reading : Type 0
+Reading = Settings → List Text → Result Command TextKind
 
--- one of their words
-abbrev pub is_further : Text → Bool
-is_further name = bytes_eq name (codes "count") || bytes_eq name (codes "take") || bytes_eq name (codes "splitnext") || bytes_eq name (codes "putback") || bytes_eq name (codes "write") || bytes_eq name (codes "zero")
-
--- the commands that are one call of a node each
-unfoldable pub call_command : Settings → Text → List Text → Result Command TextKind
-call_command s name words =
-    if bytes_eq name (codes "alloc") then node_command Alloc s words
-    else if bytes_eq name (codes "mapwhole") then page_command MapWhole s words
-    else if bytes_eq name (codes "unmapwhole") then page_command UnmapWhole s words
-    else if bytes_eq name (codes "map") then range_command (λ page first count. Map first count page) s words
-    else if bytes_eq name (codes "unmap") then range_command (λ page first count. Unmap first count page) s words
-    else if bytes_eq name (codes "splitpmd") then page_command SplitPmd s words
-    else if bytes_eq name (codes "pin") then page_command Pin s words
-    else if bytes_eq name (codes "unpin") then page_command Unpin s words
-    else if bytes_eq name (codes "close") then node_command Close s words
-    else if bytes_eq name (codes "scan") then batch_command (λ count. Scan count) s words
-    else Err BadWord
+-- the commands, each by its word
+abbrev pub commands : List (Text × Reading)
+commands =
+    (codes "alloc", node_command Alloc)
+    ∷ (codes "mapwhole", page_command MapWhole)
+    ∷ (codes "unmapwhole", page_command UnmapWhole)
+    ∷ (codes "map", range_command (λ page first count. Map first count page))
+    ∷ (codes "unmap", range_command (λ page first count. Unmap first count page))
+    ∷ (codes "splitpmd", page_command SplitPmd)
+    ∷ (codes "pin", page_command Pin)
+    ∷ (codes "unpin", page_command Unpin)
+    ∷ (codes "write", range_command (λ page first count. Write first count page))
+    ∷ (codes "zero", range_command (λ page first count. Zero first count page))
+    ∷ (codes "close", node_command Close)
+    ∷ (codes "scan", batch_command (λ count. Scan count))
+    ∷ (codes "count", node_command Count)
+    ∷ (codes "take", batch_command (λ count. Take count))
+    ∷ (codes "splitnext", node_command SplitNext)
+    ∷ (codes "putback", node_command PutBack)
+    ∷ []
 
 -- a command by its first word and the others
-abbrev pub command_of : Settings → Text → List Text → Result Command TextKind
-command_of s name words = if is_further name then further_command s name words else call_command s name words
+abbrev pub command_in : List (Text × Reading) → Settings → Text → List Text → Result Command TextKind
+command_in [] s name words = Err BadWord
+command_in (entry ∷ others) s name words = if bytes_eq name entry.0 then entry.1 s words else command_in others s name words
+
+unfoldable pub command_of : Settings → Text → List Text → Result Command TextKind
+command_of s name words = command_in commands s name words
 
 -- a scan and a take are of as many pages as a batch holds
 abbrev pub FitsBatch : Op → Type 0

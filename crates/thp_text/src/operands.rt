@@ -1,6 +1,6 @@
 //! Commands from the words of a line.
 ghost use Rattle.std.specs.Prelude.{◌≡◌, ◌≤◌, ◌<◌, IfOk};
-ghost use Rattle.thp_text.specs.Commands.{batch_command, call_command, command_of, further_command, is_further, node_command, node_number, number_up_to, page_command, range_command};
+ghost use Rattle.thp_text.specs.Commands.{batch_command, command_of, node_command, node_number, number_up_to, page_command, range_command};
 ghost use Rattle.thp_text.specs.Operands.{batch_op, page_op, range_op};
 
 use crate::fault::TextKind;
@@ -182,38 +182,14 @@ fn batch_command(
     })
 }
 
-/// The commands that only the whole format has.
-#[tactic(auto, unfolding(crate::specs::Commands::further_command))]
-fn further_command(settings: &Settings, name: &[u8], words: Words) -> Result<Command, TextKind>
-    ensures { result ≡ further_command settings.now name.now words.entry }
-{
-    match name {
-        b"count" => node_command(settings, Op::Count, words),
-        b"take" => batch_command(settings, BatchCall::Take, words),
-        b"splitnext" => node_command(settings, Op::SplitNext, words),
-        b"putback" => node_command(settings, Op::PutBack, words),
-        b"write" => range_command(settings, RangeCall::Write, words),
-        b"zero" => range_command(settings, RangeCall::Zero, words),
-        _ => Err(TextKind::BadWord),
-    }
-}
-
-/// Whether only the whole format has a command of this name.
-fn is_further(name: &[u8]) -> bool
-    ensures { result ≡ is_further name.now }
-{
-    name == b"count".as_slice()
-        || name == b"take".as_slice()
-        || name == b"splitnext".as_slice()
-        || name == b"putback".as_slice()
-        || name == b"write".as_slice()
-        || name == b"zero".as_slice()
-}
-
-/// The commands that are one call of a node each.
-#[tactic(auto, unfolding(crate::specs::Commands::call_command))]
-fn call_command(settings: &Settings, name: &[u8], words: Words) -> Result<Command, TextKind>
-    ensures { result ≡ call_command settings.now name.now words.entry }
+/// The command that the first word names, with its operands.
+#[tactic(auto, unfolding(crate::specs::Commands::command_of))]
+pub(crate) fn command_of(
+    settings: &Settings,
+    name: &[u8],
+    words: Words,
+) -> Result<Command, TextKind>
+    ensures { result ≡ command_of settings.now name.now words.entry }
 {
     match name {
         b"alloc" => node_command(settings, Op::Alloc, words),
@@ -224,22 +200,14 @@ fn call_command(settings: &Settings, name: &[u8], words: Words) -> Result<Comman
         b"splitpmd" => page_command(settings, PageCall::SplitPmd, words),
         b"pin" => page_command(settings, PageCall::Pin, words),
         b"unpin" => page_command(settings, PageCall::Unpin, words),
+        b"write" => range_command(settings, RangeCall::Write, words),
+        b"zero" => range_command(settings, RangeCall::Zero, words),
         b"close" => node_command(settings, Op::Close, words),
         b"scan" => batch_command(settings, BatchCall::Scan, words),
+        b"count" => node_command(settings, Op::Count, words),
+        b"take" => batch_command(settings, BatchCall::Take, words),
+        b"splitnext" => node_command(settings, Op::SplitNext, words),
+        b"putback" => node_command(settings, Op::PutBack, words),
         _ => Err(TextKind::BadWord),
     }
-}
-
-/// The command that the first word names, with its operands.
-pub(crate) fn command_of(
-    settings: &Settings,
-    name: &[u8],
-    words: Words,
-) -> Result<Command, TextKind>
-    ensures { result ≡ command_of settings.now name.now words.entry }
-{
-    if is_further(name) {
-        return further_command(settings, name, words);
-    }
-    call_command(settings, name, words)
 }
