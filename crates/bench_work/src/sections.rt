@@ -3,6 +3,7 @@ ghost use Rattle.std.specs.Prelude.{◌≡◌, ◌≤◌, ◌<◌, All, IfOk, le
 ghost use Rattle.thp_work.specs.Halves.{IsSection};
 
 use std::alloc::{AllocError, Global};
+use thp_places::{Gain, Loss, PageCall};
 use thp_work::{Command, Op, Worked};
 
 /// A section of rounds on this page of one of the nodes.
@@ -21,11 +22,17 @@ pub(crate) fn section(
     for _round in 0..rounds {
         commands.push(Command {
             node,
-            op: Op::Pin { page },
+            op: Op::Page {
+                page,
+                call: PageCall::Gain(Gain::Pin),
+            },
         })?;
         commands.push(Command {
             node,
-            op: Op::Unpin { page },
+            op: Op::Page {
+                page,
+                call: PageCall::Loss(Loss::Unpin),
+            },
         })?;
     }
     Ok(commands)
