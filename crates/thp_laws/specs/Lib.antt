@@ -1,3 +1,7 @@
-pub mod Tellable
+pub mod OneReport
+pub mod OneRun
+pub mod OneStep
+pub mod OneText
 pub mod ReadBack
 pub mod SameTotals
+pub mod Tellable

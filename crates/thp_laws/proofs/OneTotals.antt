@@ -1,0 +1,26 @@
+-- Nodes that are the same but for their blocks have the same totals.
+use Rattle.std.proofs.Common.{◌≡◌, List, [], ◌∷◌, map, refl, ap₂}
+use Rattle.std.specs.List.{AllZip}
+use Rattle.thp_model.specs.declared.shape.Shape.{Shape}
+use Rattle.thp_model.specs.History.{History}
+use Rattle.thp_journal.specs.Journals.{Journal}
+use Rattle.thp_laws.specs.SameTotals.{IsSameJournal}
+use Rattle.thp_laws.proofs.TotalsAlike.{one_run}
+use Rattle.thp_report.specs.Laws.{bare}
+use Rattle.thp_report.proofs.TotalsLaws.{totals_blind}
+use Rattle.thp_laws.specs.OneText.{OneJournalHasOneTotals}
+
+-- two nodes that are the same but for their blocks
+node_bare : (j k : Journal) → IsSameJournal j k → bare j ≡ bare k
+node_bare j k same = ap₂ (λ (s : Shape) (h : History). let n : Journal = (s, h) in n) same.shape same.events
+
+-- nodes that are the same but for their blocks are equal without them
+pub all_bare : (js ks : List Journal) → AllZip IsSameJournal js ks → map bare js ≡ map bare ks
+all_bare [] [] h = refl
+all_bare [] (k ∷ ks) h = absurd h
+all_bare (j ∷ js) [] h = absurd h
+all_bare (j ∷ js) (k ∷ ks) h = ap₂ (λ n ns. n ∷ ns) (node_bare j k h.0) (all_bare js ks h.1)
+
+-- one text of journals is of one run, which has one text of totals
+pub one_totals : OneJournalHasOneTotals
+one_totals nodes others ours theirs same = totals_blind nodes others (all_bare nodes others (one_run nodes others ours theirs same))

@@ -1,0 +1,109 @@
+-- Reports of runs that are the same but for blocks.
+use Rattle.std.proofs.Common.{◌≡◌, ◌<◌, ◌≤◌, ◌⊎◌, inl, inr, ℕ, zero, suc, List, [], ◌∷◌, ◌++◌, map, length, None, Ok, refl, ap, ap₂, sym, subst, ◌∙◌, arith}
+use Rattle.std.specs.Prelude.{slice_get}
+use Rattle.std.specs.List.{AllZip, flat_map}
+use Rattle.std.proofs.lemmas.Bool.{cases_lt}
+use Rattle.thp_model.specs.declared.shape.Shape.{Shape}
+use Rattle.thp_model.specs.BlockLaws.{SameButBlocks}
+use Rattle.thp_journal.specs.Journals.{Journal}
+use Rattle.thp_laws.specs.SameTotals.{IsSameJournal}
+use Rattle.thp_laws.proofs.WithoutBlocks.{one_text}
+use Rattle.thp_node.specs.NodeState.{NodeState}
+use Rattle.thp_report.specs.Answers.{answer_line, answers_text, section_text}
+use Rattle.thp_report.specs.Reports.{report_of, shape_in, told_of}
+use Rattle.thp_report.proofs.TotalsLaws.{totals_blind}
+use Rattle.thp_laws.proofs.OneTotals.{all_bare}
+use Rattle.thp_text.specs.declared.script.Script.{Script}
+use Rattle.thp_text.specs.declared.settings.Report.{Report}
+use Rattle.thp_text.specs.declared.settings.Report.TheVariants as report
+use Rattle.thp_text.specs.declared.settings.Settings.{Settings}
+use Rattle.thp_text.specs.Scripts.{script_of}
+use Rattle.thp_work.specs.declared.reply.Section.{Section}
+use Rattle.thp_scripts.specs.NewNodes.{AreNodesFor, histories_of, journal_in, shapes_of}
+use Rattle.thp_scripts.specs.NewNodes as nodes
+use Rattle.thp_scripts.specs.Runs.{IsRun}
+use Rattle.thp_laws.specs.OneRun.{IsSameRun, IsSameSection}
+use Rattle.thp_laws.proofs.WorkersApart.{one_run, some_at}
+use Rattle.thp_laws.specs.OneReport.{WorkersApartHaveOneReport, WorkersApartWriteOneText}
+
+-- ---- nodes
+
+-- nothing stands beyond the end
+none_at : {A : Type 0} (xs : List A) (k : ℕ) → length xs ≤ k → slice_get xs k ≡ None
+none_at [] k le = refl
+none_at (x ∷ xs) zero le = absurd (omega (arith, le))
+none_at (x ∷ xs) (suc k) le = none_at xs k (omega (arith, le))
+
+-- a node has the shape that the settings say
+shape_at : (s : Settings) (ns : List NodeState) (n : ℕ) → AreNodesFor s ns → n < s.nodes → shapes_of ns n ≡ nodes.shape_of s n
+shape_at s ns n are lt =
+    let count = are.count in
+    let there = some_at ns n (omega (arith, count, lt)) in
+    ap nodes.shape_in there.1 ∙ are.shapes n there.0 there.1
+
+-- nodes for the same settings have the same shapes
+same_shape : (s : Settings) (ns ms : List NodeState) → AreNodesFor s ns → AreNodesFor s ms → (n : ℕ) → shapes_of ns n ≡ shapes_of ms n
+same_shape s ns ms a b n = go (cases_lt n s.nodes) where
+  go : (n < s.nodes) ⊎ (s.nodes ≤ n) → shapes_of ns n ≡ shapes_of ms n
+  go (inl lt) = shape_at s ns n a lt ∙ sym (shape_at s ms n b lt)
+  go (inr le) =
+      let ours = a.count in
+      let theirs = b.count in
+      ap nodes.shape_in (none_at ns n (omega (arith, ours, le))) ∙ sym (ap nodes.shape_in (none_at ms n (omega (arith, theirs, le))))
+
+-- nodes with the same shapes whose histories are the same but for blocks
+same_told : (ns ms : List NodeState) → length ns ≡ length ms → ((n : ℕ) → shapes_of ns n ≡ shapes_of ms n) → ((n : ℕ) → SameButBlocks (histories_of ns n) (histories_of ms n)) → AllZip IsSameJournal (map told_of ns) (map told_of ms)
+same_told [] [] e shapes histories = tt
+same_told [] (m ∷ ms) e shapes histories = absurd (omega (arith, e))
+same_told (n ∷ ns) [] e shapes histories = absurd (omega (arith, e))
+same_told (n ∷ ns) (m ∷ ms) e shapes histories = (
+  record { shape = shapes 0; events = histories 0 },
+  same_told ns ms (omega (arith, e)) (λ i. shapes (suc i)) (λ i. histories (suc i)),
+)
+
+-- ---- reports
+
+-- their shapes are the same
+told_shapes : (js ks : List Journal) → AllZip IsSameJournal js ks → map shape_in js ≡ map shape_in ks
+told_shapes [] [] same = refl
+told_shapes [] (k ∷ ks) same = absurd same
+told_shapes (j ∷ js) [] same = absurd same
+told_shapes (j ∷ js) (k ∷ ks) same = ap₂ (λ s ss. s ∷ ss) same.0.shape (told_shapes js ks same.1)
+
+-- sections with the same answers have one text
+same_section : (shapes : List Shape) (x y : Section) → IsSameSection x y → section_text shapes x ≡ section_text shapes y
+unfolding section_text
+same_section shapes x y same = ap₂ (λ k answers. flat_map (answer_line shapes k) answers) same.number same.answers
+
+-- and so have all sections
+same_sections : (shapes : List Shape) (xs ys : List Section) → AllZip IsSameSection xs ys → answers_text shapes xs ≡ answers_text shapes ys
+unfolding answers_text
+same_sections shapes [] [] same = refl
+same_sections shapes [] (y ∷ ys) same = absurd same
+same_sections shapes (x ∷ xs) [] same = absurd same
+same_sections shapes (x ∷ xs) (y ∷ ys) same = ap₂ (λ a b. a ++ b) (same_section shapes x y same.0) (same_sections shapes xs ys same.1)
+
+-- each report is the same
+same_report : (r : Report) (js ks : List Journal) (xs ys : List Section) → AllZip IsSameJournal js ks → AllZip IsSameSection xs ys → report_of r js xs ≡ report_of r ks ys
+same_report report.Totals js ks xs ys nodes sections = totals_blind js ks (all_bare js ks nodes)
+same_report report.Journal js ks xs ys nodes sections = one_text js ks nodes
+same_report report.Answers js ks xs ys nodes sections = ap (λ shapes. answers_text shapes xs) (told_shapes js ks nodes) ∙ same_sections (map shape_in ks) xs ys sections
+
+-- an input spells one script
+one_script : (script other : Script) (s : Settings) (input : List ℕ) → script_of s input ≡ Ok script → script_of s input ≡ Ok other → other ≡ script
+one_script script other s input e f = cc
+
+-- a script whose workers keep to nodes of their own has one report
+pub one_report : WorkersApartHaveOneReport
+one_report s input text other apart r t =
+    let shapes : shapes_of t.nodes ≡ shapes_of r.nodes = λ i n. same_shape s t.nodes r.nodes t.nodes_are r.nodes_are n i in
+    let theirs : IsRun s.nodes (shapes_of r.nodes) r.script (histories_of t.nodes) t.sections =
+    subst (λ x. IsRun s.nodes (shapes_of r.nodes) x (histories_of t.nodes) t.sections) (one_script r.script t.script s input r.spelled t.spelled) (subst (λ f. IsRun s.nodes f t.script (histories_of t.nodes) t.sections) shapes t.is_run) in
+    let same : IsSameRun (histories_of r.nodes) (histories_of t.nodes) r.sections t.sections = one_run s.nodes (shapes_of r.nodes) r.script (histories_of r.nodes) (histories_of t.nodes) r.sections t.sections (apart r.script r.spelled) r.is_run theirs in
+    let count : length r.nodes ≡ length t.nodes = r.nodes_are.count ∙ sym t.nodes_are.count in
+    let told = same_told r.nodes t.nodes count (same_shape s r.nodes t.nodes r.nodes_are t.nodes_are) same.histories in
+    r.written ∙ same_report s.report (map told_of r.nodes) (map told_of t.nodes) r.sections t.sections told same.answers ∙ sym t.written
+
+-- and is written as one text
+pub one_writing : WorkersApartWriteOneText
+one_writing s input old new other apart a b = a.0.2 ∙ ap (λ text. old ++ text) (one_report s input a.0.0 b.0.0 apart a.0.1 b.0.1) ∙ sym b.0.2

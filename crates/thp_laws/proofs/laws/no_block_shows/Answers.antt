@@ -1,5 +1,0 @@
-use Rattle.thp_laws.proofs.WithoutBlocks.{one_text}
-use Rattle.thp_laws.proofs.laws.no_block_shows.Goals as goal
-
-pub returns : goal.returns
-returns c = one_text

@@ -1,5 +1,0 @@
-use Rattle.thp_report_laws.proofs.OneTotals.{one_totals}
-use Rattle.thp_report_laws.proofs.laws.one_journal_has_one_totals.Goals as goal
-
-pub returns : goal.returns
-returns c = one_totals

@@ -1,2 +1,0 @@
-pub mod SpelledWorkers
-pub mod SameReports

@@ -1,2 +1,0 @@
-pub mod OneStep
-pub mod OneRun
