@@ -12,8 +12,7 @@ use anyhow::{Context, Result};
 use std::alloc::{AllocError, Global};
 use std::time::{Clock, CpuClock};
 use thp_cell::{NodeCell, Pass};
-use thp_model::PageId;
-use thp_places::{Gain, Loss, PageCall};
+use thp_model::{Gain, Loss, PageCall, PageId};
 use thp_work::{NoGate, NodePasses, Op, Reply, Step, Steps, work};
 
 /// Rounds on a bare node.

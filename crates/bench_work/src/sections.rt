@@ -3,7 +3,7 @@ ghost use Rattle.std.specs.Prelude.{◌≡◌, ◌≤◌, ◌<◌, All, IfOk, le
 ghost use Rattle.thp_work.specs.Halves.{IsSection};
 
 use std::alloc::{AllocError, Global};
-use thp_places::{Gain, Loss, PageCall};
+use thp_model::{Gain, Loss, PageCall};
 use thp_work::{Command, Op, Worked};
 
 /// A section of rounds on this page of one of the nodes.

@@ -1,6 +1,5 @@
 //! What a command's answer says of its events.
-use thp_model::{PageId, Refusal, What};
-use thp_places::{Gain, Loss, PageCall};
+use thp_model::{Gain, Loss, PageCall, PageId, Refusal, What};
 use thp_text::Op;
 use thp_work::Reply;
 

@@ -1,6 +1,6 @@
 //! Scripts as the whole grammar reads them: sections of workers, all commands, and first faults.
 use std::alloc::Global;
-use thp_places::{Gain, PageCall};
+use thp_model::{Gain, PageCall};
 use thp_text::{Command, Op, ReadFault, Report, Settings, TextKind, read_script};
 
 /// The first fault of a script by line and kind, `None` where it has none.

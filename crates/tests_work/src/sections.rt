@@ -9,9 +9,8 @@ use crate::stutter::Stutter;
 use std::alloc::Global;
 use std::process::Abort;
 use thp_cell::{CellFault, NodeCell, Pass};
-use thp_model::Shape;
+use thp_model::{Gain, Loss, PageCall, Shape};
 use thp_node::Node;
-use thp_places::{Gain, Loss, PageCall};
 use thp_work::{
     Answer, AnswerLog, Command, NoGate, NodePass, NodePasses, Op, Reply, Step, Steps, Worked, work,
     work_rest,

@@ -19,14 +19,14 @@ use Rattle.thp_model.proofs.OnePlace.{without_none, times_hasnt}
 use Rattle.thp_model.proofs.PageOutcomes.{lives_by, outcome_is, released_is}
 use Rattle.thp_model.proofs.Standing.{Sound}
 use Rattle.thp_page.specs.Table.{Slot}
-use Rattle.thp_places.specs.declared.page_call.Done.{Done}
-use Rattle.thp_places.specs.declared.page_call.Gain.{Gain}
-use Rattle.thp_places.specs.declared.page_call.Gain.TheVariants as gain
-use Rattle.thp_places.specs.declared.page_call.Loss.{Loss}
-use Rattle.thp_places.specs.declared.page_call.Loss.TheVariants as loss
+use Rattle.thp_model.specs.declared.page_call.Done.{Done}
+use Rattle.thp_model.specs.declared.page_call.Gain.{Gain}
+use Rattle.thp_model.specs.declared.page_call.Gain.TheVariants as gain
+use Rattle.thp_model.specs.declared.page_call.Loss.{Loss}
+use Rattle.thp_model.specs.declared.page_call.Loss.TheVariants as loss
 use Rattle.thp_places.specs.Holding.{IsSlot}
 use Rattle.thp_places.specs.Homes.{standing_of}
-use Rattle.thp_places.specs.PageCalls.{gain_call, loss_call, gain_what, loss_what}
+use Rattle.thp_model.specs.PageCalls.{gain_call, loss_call, gain_what, loss_what}
 use Rattle.thp_places.specs.PlacesState.{PlacesState, Lost, batch_of, left_by}
 use Rattle.thp_places.proofs.Homing.{Homed}
 use Rattle.thp_places.proofs.PageEvents.{ByOutcome, by_outcome, tallies_loss, outcome_told}

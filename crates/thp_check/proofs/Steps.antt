@@ -22,7 +22,7 @@ use Rattle.thp_model.proofs.OnePlace.{flies_live}
 use Rattle.thp_model.proofs.Pushes.{count_same, count_more, some_same, some_event_push}
 use Rattle.thp_page.specs.Slots.{slot_at, HoldsPage}
 use Rattle.thp_page.specs.Table.{Slot}
-use Rattle.thp_places.specs.declared.page_call.Done.{Done}
+use Rattle.thp_model.specs.declared.page_call.Done.{Done}
 use Rattle.thp_places.specs.PlacesState.{PlacesState, AtSlot, Edits, Lost, Placed}
 use Rattle.thp_places.specs.Holding.{IsNode}
 use Rattle.thp_places.proofs.Admitting.{Found, found, not_live}
@@ -31,15 +31,15 @@ use Rattle.thp_places.proofs.Homing.{Homed, legal_homed, block_push, block_taken
 use Rattle.thp_places.proofs.Keeping.{block_other}
 use Rattle.thp_places.proofs.ListEvents.{placed_fits, placed_node, closed_node}
 use Rattle.thp_places.proofs.PageEvents.{slot_is, refusal_is, refusal_gone, gained, LossFits, loss_fits, lost_node}
-use Rattle.thp_places.specs.declared.page_call.Gain.{Gain}
-use Rattle.thp_places.specs.declared.page_call.Gain.TheVariants as gain
-use Rattle.thp_places.specs.declared.page_call.Loss.{Loss}
-use Rattle.thp_places.specs.declared.page_call.Loss.TheVariants as loss
-use Rattle.thp_places.specs.declared.page_call.PageCall.TheVariants as either
+use Rattle.thp_model.specs.declared.page_call.Gain.{Gain}
+use Rattle.thp_model.specs.declared.page_call.Gain.TheVariants as gain
+use Rattle.thp_model.specs.declared.page_call.Loss.{Loss}
+use Rattle.thp_model.specs.declared.page_call.Loss.TheVariants as loss
+use Rattle.thp_model.specs.declared.page_call.PageCall.TheVariants as either
 use Rattle.thp_check.specs.declared.replay.Replay.{Replay}
 use Rattle.thp_check.specs.Flights.{FlightsState, blocks_in, flight_left}
 use Rattle.thp_check.specs.Meanings.{Keeps, Means}
-use Rattle.thp_places.specs.PageCalls.{gain_call, loss_call, gain_what, loss_what, Gains}
+use Rattle.thp_model.specs.PageCalls.{gain_call, loss_call, gain_what, loss_what, Gains}
 use Rattle.thp_check.proofs.FlightBlocks.{LieIn, unmoved, departed, gain_home, loss_flying_home}
 use Rattle.thp_check.proofs.PageEvents.{gain_allowed, loss_allowed, gain_flight, loss_told, loss_flight}
 

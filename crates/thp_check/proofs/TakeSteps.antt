@@ -34,8 +34,8 @@ use Rattle.thp_places.proofs.ListEvents.{first_is, taken_fits, taken_node, in_fl
 use Rattle.thp_places.proofs.Worth.{worth_is}
 use Rattle.thp_places.proofs.PageEvents.{slot_is}
 use Rattle.thp_places.proofs.Standings.{standing_queued, standing_flying}
-use Rattle.thp_places.specs.declared.page_call.Done.{Done}
-use Rattle.thp_places.specs.declared.page_call.Loss.{Loss}
+use Rattle.thp_model.specs.declared.page_call.Done.{Done}
+use Rattle.thp_model.specs.declared.page_call.Loss.{Loss}
 use Rattle.thp_check.specs.declared.replay.Replay.{Replay}
 use Rattle.thp_check.specs.Flights.{blocks_in, flight_left}
 use Rattle.thp_check.specs.Meanings.{Keeps, Means, is_taker}

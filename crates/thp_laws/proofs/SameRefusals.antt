@@ -12,11 +12,11 @@ use Rattle.thp_model.specs.Refusals as call
 use Rattle.thp_model.specs.Sets.{each_below}
 use Rattle.thp_model.proofs.Alike.{alike, flight_alike}
 use Rattle.thp_model.proofs.LeastBlocks.{as_many, free_by_number}
-use Rattle.thp_places.specs.PageCalls.{page_call}
-use Rattle.thp_places.specs.declared.page_call.Gain.TheVariants as gain
-use Rattle.thp_places.specs.declared.page_call.Loss.TheVariants as loss
-use Rattle.thp_places.specs.declared.page_call.PageCall.{PageCall}
-use Rattle.thp_places.specs.declared.page_call.PageCall.TheVariants as either
+use Rattle.thp_model.specs.PageCalls.{page_call}
+use Rattle.thp_model.specs.declared.page_call.Gain.TheVariants as gain
+use Rattle.thp_model.specs.declared.page_call.Loss.TheVariants as loss
+use Rattle.thp_model.specs.declared.page_call.PageCall.{PageCall}
+use Rattle.thp_model.specs.declared.page_call.PageCall.TheVariants as either
 use Rattle.thp_text.specs.declared.script.Op.{Op}
 use Rattle.thp_text.specs.declared.script.Op.TheVariants as op
 use Rattle.thp_work.specs.Does.{refusal_of_op}

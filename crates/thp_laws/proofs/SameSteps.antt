@@ -21,11 +21,11 @@ use Rattle.thp_model.specs.Underused.{is_worth_split}
 use Rattle.thp_model.proofs.Alike.{alike, dropped_alike, flight_alike, worth_alike}
 use Rattle.thp_model.proofs.LegalSteps.{legal_front, legal_last}
 use Rattle.thp_model.proofs.OneAnswer.{one_answer}
-use Rattle.thp_places.specs.PageCalls.{gain_what, loss_what}
-use Rattle.thp_places.specs.declared.page_call.Done.{Done}
-use Rattle.thp_places.specs.declared.page_call.Loss.{Loss}
-use Rattle.thp_places.specs.declared.page_call.Loss.TheVariants as loss
-use Rattle.thp_places.specs.declared.page_call.PageCall.TheVariants as either
+use Rattle.thp_model.specs.PageCalls.{gain_what, loss_what}
+use Rattle.thp_model.specs.declared.page_call.Done.{Done}
+use Rattle.thp_model.specs.declared.page_call.Loss.{Loss}
+use Rattle.thp_model.specs.declared.page_call.Loss.TheVariants as loss
+use Rattle.thp_model.specs.declared.page_call.PageCall.TheVariants as either
 use Rattle.thp_node.specs.Batches.{back_reply, tried}
 use Rattle.thp_node.specs.declared.answers.BackReply.{BackReply}
 use Rattle.thp_node.specs.declared.answers.Tried.TheVariants as try

@@ -13,6 +13,7 @@ pub mod Counters
 pub mod Pages
 pub mod FlightSteps
 pub mod PageChanges
+pub mod PageCalls
 pub mod Rows
 pub mod PlaceLaws
 pub mod FrameLaws

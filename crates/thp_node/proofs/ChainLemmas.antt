@@ -12,8 +12,8 @@ use Rattle.thp_page.specs.declared.standing.Standing.TheVariants.{Queued}
 use Rattle.thp_page.specs.Slots.{slot_at}
 use Rattle.thp_page.specs.Table.{Slot, Table}
 use Rattle.thp_page.proofs.TableSlots.{slot_at-inside}
-use Rattle.thp_places.specs.declared.page_call.Done.{Done}
-use Rattle.thp_places.specs.declared.page_call.Loss.{Loss}
+use Rattle.thp_model.specs.declared.page_call.Done.{Done}
+use Rattle.thp_model.specs.declared.page_call.Loss.{Loss}
 use Rattle.thp_places.specs.FreeChains.{IsFreeChain, Relinks}
 use Rattle.thp_places.specs.PlacesState.{PlacesState, Edits, HasFree, Lost, slot_after, queue_after}
 use Rattle.thp_places.proofs.FreeChains.{free_chain_kept, not_free}

@@ -20,14 +20,14 @@ use Rattle.thp_model.proofs.Bools.{by_bool, and_both, and_yes, not_true}
 use Rattle.thp_model.proofs.Flights.{flight_push}
 use Rattle.thp_model.proofs.ListPlaces.{append_none}
 use Rattle.thp_model.proofs.OnePlace.{filter_in}
-use Rattle.thp_places.specs.declared.page_call.Gain.{Gain}
-use Rattle.thp_places.specs.declared.page_call.Gain.TheVariants as gain
-use Rattle.thp_places.specs.declared.page_call.Loss.{Loss}
-use Rattle.thp_places.specs.declared.page_call.Loss.TheVariants as loss
+use Rattle.thp_model.specs.declared.page_call.Gain.{Gain}
+use Rattle.thp_model.specs.declared.page_call.Gain.TheVariants as gain
+use Rattle.thp_model.specs.declared.page_call.Loss.{Loss}
+use Rattle.thp_model.specs.declared.page_call.Loss.TheVariants as loss
 use Rattle.thp_node.specs.Batches.{BatchState, IsInFront, FrontsStay, OtherFrontsStay, OlderAreInFront}
 use Rattle.thp_node.specs.Calls.{Did}
 use Rattle.thp_node.specs.NodeState.{NodeState}
-use Rattle.thp_places.specs.PageCalls.{gain_what, loss_what}
+use Rattle.thp_model.specs.PageCalls.{gain_what, loss_what}
 
 filter_all : (ps : List ℕ) → filter (λ p. true) ps ≡ ps
 filter_all [] = refl

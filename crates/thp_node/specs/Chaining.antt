@@ -3,8 +3,8 @@ use Rattle.std.specs.Prelude.{◌≡◌, ℕ, ◌<◌, length, Bool, List, Optio
 use Rattle.std.specs.List.{Contains}
 use Rattle.thp_page.specs.Table.{Slot, Table}
 use Rattle.thp_page.specs.Slots.{slot_at}
-use Rattle.thp_places.specs.declared.page_call.Done.{Done}
-use Rattle.thp_places.specs.declared.page_call.Loss.{Loss}
+use Rattle.thp_model.specs.declared.page_call.Done.{Done}
+use Rattle.thp_model.specs.declared.page_call.Loss.{Loss}
 use Rattle.thp_places.specs.FreeChains.{IsFreeChain, Relinks}
 use Rattle.thp_places.specs.PlacesState.{PlacesState, Lost, Placed}
 

@@ -6,16 +6,16 @@ ghost use Rattle.thp_model.specs.Shapes.{IsShape};
 ghost use Rattle.thp_model.specs.Pages.{page_refusal, gives_frames, is_worth, PageState, PageSplit};
 ghost use Rattle.thp_page.specs.Slots.{slot_at, HoldsPage};
 ghost use Rattle.thp_page.specs.Table.{Slot};
-ghost use Rattle.thp_places.specs.PageCalls.{gain_call, loss_call, page_call, Gains};
+ghost use Rattle.thp_model.specs.PageCalls.{gain_call, loss_call, page_call, Gains};
 ghost use Rattle.thp_places.specs.PlacesState.{AtSlot, Edits, TakesFirst, HasFree};
 ghost use Rattle.thp_node.specs.Chaining.{LostChained, PlacesFresh};
 
 use std::alloc::{AllocError, Global};
 use std::marker::Model;
 use thp_links::{FreeChain, Queue};
-use thp_model::{Outcome, PageId, Refusal, Shape, SubSet};
+use thp_model::{Done, Gain, Loss, Outcome, PageCall, PageId, Refusal, Shape, SubSet};
 use thp_page::{PageTable, Standing};
-use thp_places::{Done, Gain, Loss, PageCall, Places};
+use thp_places::Places;
 
 // The pages of a node by block, with its queue, and the chain of its free blocks, which stands in the same links.
 //

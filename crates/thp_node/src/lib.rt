@@ -23,4 +23,4 @@ mod node;
 pub use answers::{BackReply, Counters, NewFault, ScanReply, Tried};
 pub use batch::Batch;
 pub use node::Node;
-pub use thp_places::{Done, Gain, Loss};
+pub use thp_model::{Done, Gain, Loss};

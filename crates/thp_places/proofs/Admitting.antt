@@ -13,13 +13,13 @@ use Rattle.thp_page.specs.declared.standing.Standing.TheVariants.{Batch}
 use Rattle.thp_page.specs.Table.{Slot}
 use Rattle.thp_page.specs.Table.{Table}
 use Rattle.thp_page.specs.Slots.{slot_at, HoldsPage}
-use Rattle.thp_places.specs.declared.page_call.Gain.TheVariants as gain
-use Rattle.thp_places.specs.declared.page_call.Loss.TheVariants as loss
-use Rattle.thp_places.specs.declared.page_call.PageCall.{PageCall}
-use Rattle.thp_places.specs.declared.page_call.PageCall.TheVariants as either
+use Rattle.thp_model.specs.declared.page_call.Gain.TheVariants as gain
+use Rattle.thp_model.specs.declared.page_call.Loss.TheVariants as loss
+use Rattle.thp_model.specs.declared.page_call.PageCall.{PageCall}
+use Rattle.thp_model.specs.declared.page_call.PageCall.TheVariants as either
 use Rattle.thp_places.specs.Holding.{IsSlot, Fills, IsNode}
 use Rattle.thp_places.specs.Homes.{block_of}
-use Rattle.thp_places.specs.PageCalls.{page_call}
+use Rattle.thp_model.specs.PageCalls.{page_call}
 use Rattle.thp_places.proofs.Homing.{Homed, legal_homed, live_block}
 use Rattle.thp_places.proofs.PageEvents.{slot_is, refusal_is, refusal_gone}
 use Rattle.thp_places.proofs.Standings.{standing_flying}

@@ -24,18 +24,18 @@ use Rattle.thp_page.specs.declared.standing.Standing.TheVariants.{Queued}
 use Rattle.thp_page.specs.Table.{Slot}
 use Rattle.thp_page.specs.Table.{Table}
 use Rattle.thp_page.specs.Slots.{slot_at}
-use Rattle.thp_places.specs.declared.page_call.Done.{Done}
-use Rattle.thp_places.specs.declared.page_call.Gain.{Gain}
-use Rattle.thp_places.specs.declared.page_call.Gain.TheVariants as gain
-use Rattle.thp_places.specs.declared.page_call.Loss.{Loss}
-use Rattle.thp_places.specs.declared.page_call.Loss.TheVariants as loss
-use Rattle.thp_places.specs.declared.page_call.PageCall.{PageCall}
-use Rattle.thp_places.specs.declared.page_call.PageCall.TheVariants as either
+use Rattle.thp_model.specs.declared.page_call.Done.{Done}
+use Rattle.thp_model.specs.declared.page_call.Gain.{Gain}
+use Rattle.thp_model.specs.declared.page_call.Gain.TheVariants as gain
+use Rattle.thp_model.specs.declared.page_call.Loss.{Loss}
+use Rattle.thp_model.specs.declared.page_call.Loss.TheVariants as loss
+use Rattle.thp_model.specs.declared.page_call.PageCall.{PageCall}
+use Rattle.thp_model.specs.declared.page_call.PageCall.TheVariants as either
 use Rattle.thp_places.specs.PlacesState.{PlacesState, Edits, Lost, slot_after, batch_of, left_by, is_nowhere}
 use Rattle.thp_places.specs.PlacesState as blocks
 use Rattle.thp_places.specs.Holding.{IsSlot, Fills, IsNode}
 use Rattle.thp_places.specs.Homes.{block_of, block_after, block_by, standing_of, flier}
-use Rattle.thp_places.specs.PageCalls.{gain_call, loss_call, page_call, gain_what, loss_what, Gains, Loses}
+use Rattle.thp_model.specs.PageCalls.{gain_call, loss_call, page_call, gain_what, loss_what, Gains, Loses}
 use Rattle.thp_places.proofs.Homing.{Homed, block_push}
 use Rattle.thp_places.proofs.Keeping.{node_moved, OnlyIn, blocks_same, blocks_pushed, blocks_without}
 use Rattle.thp_places.proofs.Standings.{names, standing_same, standing_queued, has_pushed, has_not, batch_is, stands_is}

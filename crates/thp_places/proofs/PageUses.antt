@@ -15,9 +15,10 @@ use Rattle.thp_page.specs.Changes.{IsChange}
 use Rattle.thp_page.specs.declared.standing.Standing.{Standing}
 use Rattle.thp_page.specs.declared.standing.Standing.TheVariants as standing
 use Rattle.thp_places.specs.PlacesState.{is_nowhere}
-use Rattle.thp_places.specs.declared.page_call.Loss.{Loss}
-use Rattle.thp_places.specs.declared.page_call.Loss.TheVariants as loss
-use Rattle.thp_places.specs.PageCalls.{Loses, outcome_by, released_after}
+use Rattle.thp_model.specs.declared.page_call.Loss.{Loss}
+use Rattle.thp_model.specs.declared.page_call.Loss.TheVariants as loss
+use Rattle.thp_model.specs.PageCalls.{Loses}
+use Rattle.thp_places.specs.Outcomes.{outcome_by, released_after}
 
 same_sizes : (a b : PageState) → a.order ≡ b.order → size a ≡ size b
 unfolding size

@@ -1,5 +1,5 @@
 pub mod PlacesState
-pub mod PageCalls
+pub mod Outcomes
 pub mod Linking
 pub mod FreeChains
 pub mod Homes

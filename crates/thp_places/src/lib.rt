@@ -15,5 +15,4 @@
 mod page_call;
 mod places;
 
-pub use page_call::{Done, Gain, Loss, PageCall};
 pub use places::Places;

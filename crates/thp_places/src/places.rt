@@ -8,14 +8,14 @@ ghost use Rattle.thp_page.specs.Slots.{slot_at, HoldsPage};
 ghost use Rattle.thp_page.specs.Table.{Slot};
 ghost use Rattle.thp_places.specs.Flying.{IsFlyingAt};
 ghost use Rattle.thp_places.specs.FreeChains.{IsFreeChain, Relinks};
-ghost use Rattle.thp_places.specs.PageCalls.{gain_call, loss_call, page_call, Gains};
+ghost use Rattle.thp_model.specs.PageCalls.{gain_call, loss_call, page_call, Gains};
 ghost use Rattle.thp_places.specs.PlacesState.{AtSlot, Edits, batch_of, IsElsewhere, LeavesQueue, Lost, Placed, Reduced, TakesFirst};
 
-use crate::page_call::{Done, Gain, Loss, PageCall};
+use crate::page_call::{gain_by, lose_by, refusal_of};
 use std::alloc::{AllocError, Global};
 use std::marker::Model;
 use thp_links::{FreeChain, LinkTable, Queue};
-use thp_model::{Outcome, PageId, Refusal, Shape, SubSet};
+use thp_model::{Done, Gain, Loss, Outcome, PageCall, PageId, Refusal, Shape, SubSet};
 use thp_page::{PageTable, Standing};
 
 /// The live pages of a node by block, and the queue of those that wait to be split.
@@ -114,7 +114,7 @@ impl Places {
         ensures { AtSlot self.now.table block (λ x. (p : ℕ) → result ≡ page_refusal x.page (page_call call p)) }
     {
         match self.table.page(block) {
-            Some((_, page)) => call.refusal(page),
+            Some((_, page)) => refusal_of(call, page),
             None => unreachable!(),
         }
     }
@@ -127,7 +127,7 @@ impl Places {
         ensures { AtSlot self.old.table block (λ x. (p : PageState) × Gains gain x.page p × Edits self.old self.new block (Some (record x { page = p })) self.old.queue 0) }
     {
         match self.table.page_mut(block) {
-            Some(page) => gain.apply(page),
+            Some(page) => gain_by(gain, page),
             None => unreachable!(),
         }
     }
@@ -318,7 +318,7 @@ impl Places {
     {
         let standing = self.table.standing(block);
         match self.table.page_mut(block) {
-            Some(page) => loss.apply(page, standing, closed),
+            Some(page) => lose_by(loss, page, standing, closed),
             None => unreachable!(),
         }
     }

@@ -4,10 +4,10 @@ use Rattle.std.proofs.Common.{◌≡◌, ◌<◌, ◌≤◌, ◌-◌, ℕ, zero,
 use Rattle.std.specs.Prelude.{All}
 use Rattle.std.specs.List.{AllByRecursion, list_all, list_any}
 use Rattle.std.proofs.lemmas.List.Elements.{All-cons}
-use Rattle.thp_places.specs.declared.page_call.Gain.TheVariants as gain
-use Rattle.thp_places.specs.declared.page_call.Loss.TheVariants as loss
-use Rattle.thp_places.specs.declared.page_call.PageCall.{PageCall}
-use Rattle.thp_places.specs.declared.page_call.PageCall.TheVariants.{Gain, Loss}
+use Rattle.thp_model.specs.declared.page_call.Gain.TheVariants as gain
+use Rattle.thp_model.specs.declared.page_call.Loss.TheVariants as loss
+use Rattle.thp_model.specs.declared.page_call.PageCall.{PageCall}
+use Rattle.thp_model.specs.declared.page_call.PageCall.TheVariants.{Gain, Loss}
 use Rattle.thp_text.specs.declared.fault.TextKind.{TextKind}
 use Rattle.thp_text.specs.declared.fault.TextKind.TheVariants.{BadByte, BadOrder, BadWord}
 use Rattle.thp_text.specs.declared.script.Command.{Command}

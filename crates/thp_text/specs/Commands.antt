@@ -1,10 +1,10 @@
 -- The commands of scripts by their words (this project's script format).
 use Rattle.std.specs.Prelude.{◌≤◌, ◌<◌, ℕ, ◌-◌, ⊤, List, [], ◌∷◌, Result, Ok, Err, codes, ok_or, if◌then◌else◌}
 use Rattle.std.specs.Str.{bytes_eq}
-use Rattle.thp_places.specs.declared.page_call.Gain.TheVariants as gain
-use Rattle.thp_places.specs.declared.page_call.Loss.TheVariants as loss
-use Rattle.thp_places.specs.declared.page_call.PageCall.{PageCall}
-use Rattle.thp_places.specs.declared.page_call.PageCall.TheVariants.{Gain, Loss}
+use Rattle.thp_model.specs.declared.page_call.Gain.TheVariants as gain
+use Rattle.thp_model.specs.declared.page_call.Loss.TheVariants as loss
+use Rattle.thp_model.specs.declared.page_call.PageCall.{PageCall}
+use Rattle.thp_model.specs.declared.page_call.PageCall.TheVariants.{Gain, Loss}
 use Rattle.thp_text.specs.declared.fault.TextKind.{TextKind}
 use Rattle.thp_text.specs.declared.fault.TextKind.TheVariants.{BadWord, BadCount, BadNumber}
 use Rattle.thp_text.specs.declared.script.Command.{Command}

@@ -1,10 +1,10 @@
 -- The commands on a range of a page's subpages and on a batch, by the kinds that the reader tells apart. No public clause cites this
 -- module.
 use Rattle.std.specs.Prelude.{ℕ}
-use Rattle.thp_places.specs.declared.page_call.Gain.TheVariants as gain
-use Rattle.thp_places.specs.declared.page_call.Loss.TheVariants as loss
-use Rattle.thp_places.specs.declared.page_call.PageCall.{PageCall}
-use Rattle.thp_places.specs.declared.page_call.PageCall.TheVariants.{Gain, Loss}
+use Rattle.thp_model.specs.declared.page_call.Gain.TheVariants as gain
+use Rattle.thp_model.specs.declared.page_call.Loss.TheVariants as loss
+use Rattle.thp_model.specs.declared.page_call.PageCall.{PageCall}
+use Rattle.thp_model.specs.declared.page_call.PageCall.TheVariants.{Gain, Loss}
 use Rattle.thp_text.specs.declared.operands.BatchCall.{BatchCall}
 use Rattle.thp_text.specs.declared.operands.BatchCall.TheVariants as batch
 use Rattle.thp_text.specs.declared.operands.RangeCall.{RangeCall}

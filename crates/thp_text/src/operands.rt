@@ -7,7 +7,7 @@ use crate::fault::TextKind;
 use crate::script::{Command, Op};
 use crate::settings::Settings;
 use crate::words::{Words, number};
-use thp_places::{Gain, Loss, PageCall};
+use thp_model::{Gain, Loss, PageCall};
 
 /// The calls on a range of a page's subpages, behind whose name stand a node, the page and the range.
 #[derive(Clone, Copy)]

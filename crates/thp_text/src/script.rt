@@ -1,6 +1,6 @@
 //! Scripts as values.
 use crate::sequence::Sequence;
-use thp_places::PageCall;
+use thp_model::PageCall;
 
 /// A call on a node, with its operands.
 #[derive(Clone, Copy, Debug, PartialEq, Eq)]

@@ -17,8 +17,8 @@ use Rattle.thp_model.specs.History.{History, by}
 use Rattle.thp_model.specs.Places.{queue}
 use Rattle.thp_model.specs.Refusals.{Call, refusal}
 use Rattle.thp_model.specs.Refusals as call
-use Rattle.thp_places.specs.PageCalls.{page_call}
-use Rattle.thp_places.specs.declared.page_call.Done.{Done}
+use Rattle.thp_model.specs.PageCalls.{page_call}
+use Rattle.thp_model.specs.declared.page_call.Done.{Done}
 use Rattle.thp_node.specs.declared.answers.Tried.{Tried}
 use Rattle.thp_node.specs.declared.answers.BackReply.{BackReply}
 use Rattle.thp_node.specs.Batches.{BatchState, IsInFront, rest}

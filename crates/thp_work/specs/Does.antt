@@ -13,10 +13,10 @@ use Rattle.thp_model.specs.Places.{queue}
 use Rattle.thp_model.specs.Refusals.{Call, refusal}
 use Rattle.thp_model.specs.Refusals as call
 use Rattle.thp_model.specs.Runs.{take_events, split_next_events, put_back_events, next_page, rest_after, still_flying}
-use Rattle.thp_places.specs.PageCalls.{gain_what, loss_what, page_call}
-use Rattle.thp_places.specs.declared.page_call.Done.{Done}
-use Rattle.thp_places.specs.declared.page_call.PageCall.{PageCall}
-use Rattle.thp_places.specs.declared.page_call.PageCall.TheVariants as either
+use Rattle.thp_model.specs.PageCalls.{gain_what, loss_what, page_call}
+use Rattle.thp_model.specs.declared.page_call.Done.{Done}
+use Rattle.thp_model.specs.declared.page_call.PageCall.{PageCall}
+use Rattle.thp_model.specs.declared.page_call.PageCall.TheVariants as either
 use Rattle.thp_node.specs.Batches.{BatchState, rest, tried, back_reply}
 use Rattle.thp_text.specs.declared.script.Op.{Op}
 use Rattle.thp_text.specs.declared.script.Op.TheVariants as op

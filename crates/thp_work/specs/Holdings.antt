@@ -4,7 +4,7 @@ use Rattle.atomic_table.specs.Seated.{TableId}
 use Rattle.thp_model.specs.declared.events.Event.{Event}
 use Rattle.thp_model.specs.declared.refusal.Refusal.TheVariants.{OutOfMemory}
 use Rattle.thp_model.specs.Legal.{IsLegal}
-use Rattle.thp_places.specs.declared.page_call.Done.{Done}
+use Rattle.thp_model.specs.declared.page_call.Done.{Done}
 use Rattle.thp_node.specs.Batches.{BatchState, IsInFront}
 use Rattle.thp_cell.specs.declared.fault.CellFault.{CellFault}
 use Rattle.thp_cell.specs.declared.fault.CellFault.TheVariants.{Busy, Refused}

@@ -12,9 +12,8 @@ use crate::steps::Step;
 use std::alloc::{AllocError, Global};
 use std::marker::Model;
 use thp_cell::{CellFault, NodeCell, Pass};
-use thp_model::{PageId, Refusal};
+use thp_model::{PageCall, PageId, Refusal};
 use thp_node::{Batch, Done};
-use thp_places::PageCall;
 use thp_text::Op;
 
 /// A pass of one node, and for each of its callers at most one open batch.

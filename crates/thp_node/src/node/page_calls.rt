@@ -7,12 +7,11 @@ ghost use Rattle.thp_model.specs.Refusals as call;
 ghost use Rattle.thp_node.specs.Batches.{FrontsStay};
 ghost use Rattle.thp_node.specs.Calls.{Did, Refused};
 ghost use Rattle.thp_places.specs.Homes.{block_of};
-ghost use Rattle.thp_places.specs.PageCalls.{gain_call, loss_call, page_call, gain_what, loss_what};
+ghost use Rattle.thp_model.specs.PageCalls.{gain_call, loss_call, page_call, gain_what, loss_what};
 
 use crate::journal::Unsaid;
 use crate::node::Node;
-use thp_model::{PageId, Refusal, What};
-use thp_places::{Done, Gain, Loss, PageCall};
+use thp_model::{Done, Gain, Loss, PageCall, PageId, Refusal, What};
 
 impl Node {
     /// One more mapping of the whole page, by a PMD entry. Refused as `NoPage`, `IsSplit` and `TooMany`.

@@ -1,6 +1,6 @@
 use Rattle.std.proofs.Common.{refl}
-use Rattle.thp_places.specs.PageCalls.{gain_call, gain_what, loss_call, loss_what}
-use Rattle.thp_places.specs.declared.page_call.PageCall.TheVariants as either
+use Rattle.thp_model.specs.PageCalls.{gain_call, gain_what, loss_call, loss_what}
+use Rattle.thp_model.specs.declared.page_call.PageCall.TheVariants as either
 use Rattle.thp_text.specs.declared.script.Op.TheVariants as op
 use Rattle.thp_work.proofs.HoldingLaws.{held_stays, loss_done, unit_done}
 use Rattle.thp_work.proofs.node_pass.NodePass.call.Goals as goal

@@ -1,21 +1,17 @@
 -- What a call asks of one page: the call, its event, and what it does to the page.
-use Rattle.std.specs.Prelude.{ℕ, ◌^◌, List, Bool, not, ◌&&◌, nat_eq, nat_lt, if◌then◌else◌}
+use Rattle.std.specs.Prelude.{ℕ, List, Bool}
 use Rattle.thp_model.specs.declared.events.Outcome.{Outcome}
-use Rattle.thp_model.specs.declared.events.Outcome.TheVariants.{Freed, Queued, Stays}
 use Rattle.thp_model.specs.declared.events.What.{What}
 use Rattle.thp_model.specs.declared.events.What.TheVariants as what
 use Rattle.thp_model.specs.Pages.{PageState, WholeMapped, WholeUnmapped, RangeMapped, RangeUnmapped, PmdSplit, Pinned, RangeWritten, RangeZeroed}
-use Rattle.thp_model.specs.Counts.{is_freed}
 use Rattle.thp_model.specs.Refusals.{Call}
 use Rattle.thp_model.specs.Refusals as call
-use Rattle.thp_model.specs.Sets.{set_of}
-use Rattle.thp_page.specs.declared.page.Change.{Change}
-use Rattle.thp_places.specs.declared.page_call.Gain.{Gain}
-use Rattle.thp_places.specs.declared.page_call.Gain.TheVariants as gain
-use Rattle.thp_places.specs.declared.page_call.Loss.{Loss}
-use Rattle.thp_places.specs.declared.page_call.Loss.TheVariants as loss
-use Rattle.thp_places.specs.declared.page_call.PageCall.{PageCall}
-use Rattle.thp_places.specs.declared.page_call.PageCall.TheVariants as either
+use Rattle.thp_model.specs.declared.page_call.Gain.{Gain}
+use Rattle.thp_model.specs.declared.page_call.Gain.TheVariants as gain
+use Rattle.thp_model.specs.declared.page_call.Loss.{Loss}
+use Rattle.thp_model.specs.declared.page_call.Loss.TheVariants as loss
+use Rattle.thp_model.specs.declared.page_call.PageCall.{PageCall}
+use Rattle.thp_model.specs.declared.page_call.PageCall.TheVariants as either
 
 -- the call of the node
 abbrev pub gain_call : Gain → ℕ → Call
@@ -67,17 +63,3 @@ Loses loss.Unpin old new = Pinned new old
 abbrev pub gain_splits : Gain → ℕ
 gain_splits gain.SplitPmd = 1
 gain_splits g = 0
-
--- the outcome of a change, by the page after it
-abbrev pub outcome_by : PageState → Change → Bool → Bool → Outcome
-outcome_by new change closed nowhere =
-    if not change.used_left && nat_eq new.pins 0
-    then Freed
-    else
-    if not new.split && (change.unused && (change.used_left && (not closed && nowhere)))
-    then Queued
-    else Stays
-
--- the frames that a change gives back, by the page after it
-abbrev pub released_after : PageState → Change → Outcome → List Bool
-released_after new change o = if is_freed o && not new.split then set_of (λ i. nat_lt i (2 ^ new.order)) else change.released

@@ -1,0 +1,105 @@
+//! What a call asks of one page, as a value, and the event that it leaves.
+ghost use Rattle.std.specs.Prelude.{◌≡◌};
+ghost use Rattle.thp_model.specs.PageCalls.{gain_splits, gain_what, loss_what};
+
+use crate::events::{Outcome, PageId, What};
+use crate::sub_set::SubSet;
+
+/// What gives a page mappings or a pin, turns one mapping into smaller ones, or fills subpages. The page stays where it
+/// stands.
+#[derive(Clone, Copy, PartialEq, Eq, Debug)]
+pub enum Gain {
+    /// One more mapping of the whole page.
+    MapWhole,
+    /// One more mapping of each of the `count` subpages from `first` on.
+    MapSub { first: u32, count: u32 },
+    /// One mapping of the whole page becomes one of each subpage.
+    SplitPmd,
+    /// One more pin.
+    Pin,
+    /// Data into each of the `count` subpages from `first` on.
+    Write { first: u32, count: u32 },
+    /// Zeros into each of the `count` subpages from `first` on.
+    Zero { first: u32, count: u32 },
+}
+
+/// What takes mappings or a pin away. The page can be queued or freed by it.
+#[derive(Clone, Copy, PartialEq, Eq, Debug)]
+pub enum Loss {
+    /// One mapping of the whole page less.
+    UnmapWhole,
+    /// One mapping of each of the `count` subpages from `first` on less.
+    UnmapSub { first: u32, count: u32 },
+    /// One pin less.
+    Unpin,
+}
+
+/// A call about one page.
+#[derive(Clone, Copy, PartialEq, Eq, Debug)]
+pub enum PageCall {
+    Gain(Gain),
+    Loss(Loss),
+}
+
+/// What an unmap or an unpin did to its page, and the subpages whose frames it gave back.
+#[derive(Clone, Copy, PartialEq, Eq, Debug)]
+pub struct Done {
+    pub outcome: Outcome,
+    pub released: SubSet,
+}
+
+impl Gain {
+    /// The event of a page that gained this.
+    #[inline(always)]
+    pub fn what(self, page: PageId) -> What
+        ensures { result ≡ gain_what self page }
+    {
+        match self {
+            Gain::MapWhole => What::MapWhole { page },
+            Gain::MapSub { first, count } => What::MapSub { page, first, count },
+            Gain::SplitPmd => What::SplitPmd { page },
+            Gain::Pin => What::Pin { page },
+            Gain::Write { first, count } => What::Write { page, first, count },
+            Gain::Zero { first, count } => What::Zero { page, first, count },
+        }
+    }
+
+    /// How many PMD mappings it splits.
+    pub fn split_pmds(self) -> u32
+        ensures { result ≡ gain_splits self }
+    {
+        match self {
+            Gain::SplitPmd => 1,
+            _ => 0,
+        }
+    }
+}
+
+impl Loss {
+    /// The event of a page that lost this.
+    #[inline(always)]
+    pub fn what(self, page: PageId, done: &Done) -> What
+        ensures { result ≡ loss_what self page done.now.outcome done.now.released }
+    {
+        let Done { outcome, released } = *done;
+        match self {
+            Loss::UnmapWhole => What::UnmapWhole {
+                outcome,
+                page,
+                released,
+            },
+            Loss::UnmapSub { first, count } => What::UnmapSub {
+                outcome,
+                page,
+                first,
+                count,
+                released,
+            },
+            Loss::Unpin => What::Unpin {
+                outcome,
+                page,
+                released,
+            },
+        }
+    }
+}
