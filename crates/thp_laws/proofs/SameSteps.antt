@@ -21,11 +21,7 @@ use Rattle.thp_model.specs.Underused.{is_worth_split}
 use Rattle.thp_model.proofs.Alike.{alike, dropped_alike, flight_alike, worth_alike}
 use Rattle.thp_model.proofs.LegalSteps.{legal_front, legal_last}
 use Rattle.thp_model.proofs.OneAnswer.{one_answer}
-use Rattle.thp_model.specs.PageCalls.{gain_what, loss_what}
 use Rattle.thp_model.specs.declared.page_call.Done.{Done}
-use Rattle.thp_model.specs.declared.page_call.Loss.{Loss}
-use Rattle.thp_model.specs.declared.page_call.Loss.TheVariants as loss
-use Rattle.thp_model.specs.declared.page_call.PageCall.TheVariants as either
 use Rattle.thp_node.specs.Batches.{back_reply, tried}
 use Rattle.thp_node.specs.declared.answers.BackReply.{BackReply}
 use Rattle.thp_node.specs.declared.answers.Tried.TheVariants as try
@@ -93,18 +89,6 @@ loss_twice s h k c w batch own other answer reply after later e l m asks tells a
     done_reply : Done → Reaction
     done_reply d = Ok (replied.Done d)
 
--- a loss asks for the same, whatever becomes of its page
-asks_alike : (g : Loss) (p : ℕ) (o u : Outcome) (x y : List Bool) → asked (loss_what g p o x) ≡ asked (loss_what g p u y)
-asks_alike loss.UnmapWhole p o u x y = refl
-asks_alike (loss.UnmapSub first count) p o u x y = refl
-asks_alike loss.Unpin p o u x y = refl
-
--- and its event tells what did
-tells_alike : (g : Loss) (p : ℕ) (o u : Outcome) (x y : List Bool) → with_block 0 (loss_what g p o x) ≡ with_block 0 (loss_what g p u y) → (o ≡ u) × (x ≡ y)
-tells_alike loss.UnmapWhole p o u x y f = (cc, cc)
-tells_alike (loss.UnmapSub first count) p o u x y f = (cc, cc)
-tells_alike loss.Unpin p o u x y f = (cc, cc)
-
 -- a reply as an answer
 said : Reply → Reaction
 said r = Ok r
@@ -123,8 +107,15 @@ op_twice s h k c op.Alloc batch own other answer reply after later e l m a b =
     } where
       page : ℕ → Reaction
       page n = Ok (replied.Page n)
-op_twice s h k c (op.Page p (either.Gain g)) batch own other answer reply after later e l m a b = one_twice c (gain_what g p) batch own other answer reply after later a.0 b.0 a.1 b.1
-op_twice s h k c (op.Page p (either.Loss g)) batch own other answer reply after later e l m a b = loss_twice s h k c (loss_what g p) batch own other answer reply after later e l m (asks_alike g p) (tells_alike g p) a.0 b.0 a.1 b.1
+op_twice s h k c (op.MapWhole p) batch own other answer reply after later e l m a b = one_twice c (what.MapWhole p) batch own other answer reply after later a.0 b.0 a.1 b.1
+op_twice s h k c (op.UnmapWhole p) batch own other answer reply after later e l m a b = loss_twice s h k c (λ o set. what.UnmapWhole o p set) batch own other answer reply after later e l m (λ o u x y. refl) (λ o u x y f. (cc, cc)) a.0 b.0 a.1 b.1
+op_twice s h k c (op.Map first count p) batch own other answer reply after later e l m a b = one_twice c (what.MapSub p first count) batch own other answer reply after later a.0 b.0 a.1 b.1
+op_twice s h k c (op.Unmap first count p) batch own other answer reply after later e l m a b = loss_twice s h k c (λ o set. what.UnmapSub o p first count set) batch own other answer reply after later e l m (λ o u x y. refl) (λ o u x y f. (cc, cc)) a.0 b.0 a.1 b.1
+op_twice s h k c (op.Write first count p) batch own other answer reply after later e l m a b = one_twice c (what.Write p first count) batch own other answer reply after later a.0 b.0 a.1 b.1
+op_twice s h k c (op.Zero first count p) batch own other answer reply after later e l m a b = one_twice c (what.Zero p first count) batch own other answer reply after later a.0 b.0 a.1 b.1
+op_twice s h k c (op.SplitPmd p) batch own other answer reply after later e l m a b = one_twice c (what.SplitPmd p) batch own other answer reply after later a.0 b.0 a.1 b.1
+op_twice s h k c (op.Pin p) batch own other answer reply after later e l m a b = one_twice c (what.Pin p) batch own other answer reply after later a.0 b.0 a.1 b.1
+op_twice s h k c (op.Unpin p) batch own other answer reply after later e l m a b = loss_twice s h k c (λ o set. what.Unpin o p set) batch own other answer reply after later e l m (λ o u x y. refl) (λ o u x y f. (cc, cc)) a.0 b.0 a.1 b.1
 op_twice s h k c op.Close batch own other answer reply after later e l m a b = one_twice c what.Close batch own other answer reply after later a.0 b.0 a.1 b.1
 op_twice s h k c op.Count batch own other answer reply after later e l m a b =
     record { events = ap without_blocks (a.0.0 ∙ sym b.0.0); answers = a.0.1 ∙ ap counted ((alike h k e).queue s) ∙ sym b.0.1; batches = a.1 ∙ sym b.1 } where

@@ -1,14 +1,29 @@
 //! Scripts as values.
 use crate::sequence::Sequence;
-use thp_model::PageCall;
 
 /// A call on a node, with its operands.
 #[derive(Clone, Copy, Debug, PartialEq, Eq)]
 pub enum Op {
     /// Allocates a page.
     Alloc,
-    /// A call about one page.
-    Page { page: u64, call: PageCall },
+    /// Maps a page whole once more, by a PMD entry.
+    MapWhole { page: u64 },
+    /// Takes one mapping of the whole page away.
+    UnmapWhole { page: u64 },
+    /// Maps `count` subpages of a page once more by PTE entries, from subpage `first` on.
+    Map { first: u16, count: u16, page: u64 },
+    /// Takes one PTE mapping of each of `count` subpages of a page away, from subpage `first` on.
+    Unmap { first: u16, count: u16, page: u64 },
+    /// Writes to `count` subpages of a page, from subpage `first` on: they aren't zero-filled from then on.
+    Write { first: u16, count: u16, page: u64 },
+    /// Fills `count` subpages of a page with zeros, from subpage `first` on.
+    Zero { first: u16, count: u16, page: u64 },
+    /// Splits the PMD mapping of a page.
+    SplitPmd { page: u64 },
+    /// Pins a page once more.
+    Pin { page: u64 },
+    /// Takes one pin of a page away.
+    Unpin { page: u64 },
     /// Closes the node: nothing enters its queue from then on, and no page is allocated.
     Close,
     /// Lets the shrinker take up to `count` pages, try to split each, and put back the others.

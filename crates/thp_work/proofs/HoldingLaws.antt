@@ -17,7 +17,6 @@ use Rattle.thp_model.specs.History.{History, by}
 use Rattle.thp_model.specs.Places.{queue}
 use Rattle.thp_model.specs.Refusals.{Call, refusal}
 use Rattle.thp_model.specs.Refusals as call
-use Rattle.thp_model.specs.PageCalls.{page_call}
 use Rattle.thp_model.specs.declared.page_call.Done.{Done}
 use Rattle.thp_node.specs.declared.answers.Tried.{Tried}
 use Rattle.thp_node.specs.declared.answers.BackReply.{BackReply}
@@ -45,27 +44,67 @@ memory_last false why rest here later is = later is
 abbrev pub NotMemory : Option Refusal → Type 0
 NotMemory why = why ≡ Some OutOfMemory → ⊥
 
-never : (s : Shape) (h : History) (call : Call) → NotMemory (refusal s h call)
+never_alloc : (s : Shape) (h : History) → NotMemory (refusal s h call.alloc_page)
 unfolding refusal
-never s h call.alloc_page = memory_last _ Closed _ (λ e. cc) (memory_last _ NoBlock None (λ e. cc) (λ e. cc))
-never s h (call.map_whole p) = memory_last _ NoPage _ (λ e. cc) (memory_last _ IsSplit _ (λ e. cc) (memory_last _ TooMany None (λ e. cc) (λ e. cc)))
-never s h (call.unmap_whole p) = memory_last _ NoPage _ (λ e. cc) (memory_last _ IsSplit _ (λ e. cc) (memory_last _ NotMapped None (λ e. cc) (λ e. cc)))
-never s h (call.map_sub p first count) = memory_last _ NoPage _ (λ e. cc) (memory_last _ BadRange _ (λ e. cc) (memory_last _ Gone _ (λ e. cc) (memory_last _ TooMany None (λ e. cc) (λ e. cc))))
-never s h (call.unmap_sub p first count) = memory_last _ NoPage _ (λ e. cc) (memory_last _ BadRange _ (λ e. cc) (memory_last _ NotMapped None (λ e. cc) (λ e. cc)))
-never s h (call.split_pmd p) = memory_last _ NoPage _ (λ e. cc) (memory_last _ IsSplit _ (λ e. cc) (memory_last _ NotMapped None (λ e. cc) (λ e. cc)))
-never s h (call.pin p) = memory_last _ NoPage _ (λ e. cc) (memory_last _ IsSplit _ (λ e. cc) (memory_last _ TooMany None (λ e. cc) (λ e. cc)))
-never s h (call.unpin p) = memory_last _ NoPage _ (λ e. cc) (memory_last _ IsSplit _ (λ e. cc) (memory_last _ NotPinned None (λ e. cc) (λ e. cc)))
-never s h (call.write p first count) = memory_last _ NoPage _ (λ e. cc) (memory_last _ BadRange _ (λ e. cc) (memory_last _ IsSplit _ (λ e. cc) (memory_last _ NotMapped None (λ e. cc) (λ e. cc))))
-never s h (call.zero_fill p first count) = memory_last _ NoPage _ (λ e. cc) (memory_last _ BadRange _ (λ e. cc) (memory_last _ IsSplit _ (λ e. cc) (memory_last _ NotMapped None (λ e. cc) (λ e. cc))))
-never s h call.close = memory_last _ Closed None (λ e. cc) (λ e. cc)
-never s h (call.take c) = memory_last _ HasBatch None (λ e. cc) (λ e. cc)
-never s h (call.scan c) = memory_last _ HasBatch None (λ e. cc) (λ e. cc)
+never_alloc s h = memory_last _ Closed _ (λ e. cc) (memory_last _ NoBlock None (λ e. cc) (λ e. cc))
+
+never_map_whole : (s : Shape) (h : History) (p : ℕ) → NotMemory (refusal s h (call.map_whole p))
+unfolding refusal
+never_map_whole s h p = memory_last _ NoPage _ (λ e. cc) (memory_last _ IsSplit _ (λ e. cc) (memory_last _ TooMany None (λ e. cc) (λ e. cc)))
+
+never_unmap_whole : (s : Shape) (h : History) (p : ℕ) → NotMemory (refusal s h (call.unmap_whole p))
+unfolding refusal
+never_unmap_whole s h p = memory_last _ NoPage _ (λ e. cc) (memory_last _ IsSplit _ (λ e. cc) (memory_last _ NotMapped None (λ e. cc) (λ e. cc)))
+
+never_map : (s : Shape) (h : History) (p first count : ℕ) → NotMemory (refusal s h (call.map_sub p first count))
+unfolding refusal
+never_map s h p first count = memory_last _ NoPage _ (λ e. cc) (memory_last _ BadRange _ (λ e. cc) (memory_last _ Gone _ (λ e. cc) (memory_last _ TooMany None (λ e. cc) (λ e. cc))))
+
+never_unpin : (s : Shape) (h : History) (p : ℕ) → NotMemory (refusal s h (call.unpin p))
+unfolding refusal
+never_unpin s h p = memory_last _ NoPage _ (λ e. cc) (memory_last _ IsSplit _ (λ e. cc) (memory_last _ NotPinned None (λ e. cc) (λ e. cc)))
+
+never_split_pmd : (s : Shape) (h : History) (p : ℕ) → NotMemory (refusal s h (call.split_pmd p))
+unfolding refusal
+never_split_pmd s h p = memory_last _ NoPage _ (λ e. cc) (memory_last _ IsSplit _ (λ e. cc) (memory_last _ NotMapped None (λ e. cc) (λ e. cc)))
+
+never_unmap : (s : Shape) (h : History) (p first count : ℕ) → NotMemory (refusal s h (call.unmap_sub p first count))
+unfolding refusal
+never_unmap s h p first count = memory_last _ NoPage _ (λ e. cc) (memory_last _ BadRange _ (λ e. cc) (memory_last _ NotMapped None (λ e. cc) (λ e. cc)))
+
+never_write : (s : Shape) (h : History) (p first count : ℕ) → NotMemory (refusal s h (call.write p first count))
+unfolding refusal
+never_write s h p first count = memory_last _ NoPage _ (λ e. cc) (memory_last _ BadRange _ (λ e. cc) (memory_last _ IsSplit _ (λ e. cc) (memory_last _ NotMapped None (λ e. cc) (λ e. cc))))
+
+never_zero : (s : Shape) (h : History) (p first count : ℕ) → NotMemory (refusal s h (call.zero_fill p first count))
+unfolding refusal
+never_zero s h p first count = memory_last _ NoPage _ (λ e. cc) (memory_last _ BadRange _ (λ e. cc) (memory_last _ IsSplit _ (λ e. cc) (memory_last _ NotMapped None (λ e. cc) (λ e. cc))))
+
+never_pin : (s : Shape) (h : History) (p : ℕ) → NotMemory (refusal s h (call.pin p))
+unfolding refusal
+never_pin s h p = memory_last _ NoPage _ (λ e. cc) (memory_last _ IsSplit _ (λ e. cc) (memory_last _ TooMany None (λ e. cc) (λ e. cc)))
+
+never_close : (s : Shape) (h : History) → NotMemory (refusal s h call.close)
+unfolding refusal
+never_close s h = memory_last _ Closed None (λ e. cc) (λ e. cc)
+
+never_take : (s : Shape) (h : History) (c : ℕ) → NotMemory (refusal s h (call.take c))
+unfolding refusal
+never_take s h c = memory_last _ HasBatch None (λ e. cc) (λ e. cc)
 
 -- no step is refused at a history for want of memory
 never_op : (s : Shape) (h : History) (o : Op) → NotMemory (refusal_of_op s h o)
-never_op s h op.Alloc = never s h call.alloc_page
-never_op s h (op.Page p c) = never s h (page_call c p)
-never_op s h op.Close = never s h call.close
+never_op s h op.Alloc = never_alloc s h
+never_op s h (op.MapWhole p) = never_map_whole s h p
+never_op s h (op.UnmapWhole p) = never_unmap_whole s h p
+never_op s h (op.Map first count p) = never_map s h p first count
+never_op s h (op.Unmap first count p) = never_unmap s h p first count
+never_op s h (op.Write first count p) = never_write s h p first count
+never_op s h (op.Zero first count p) = never_zero s h p first count
+never_op s h (op.SplitPmd p) = never_split_pmd s h p
+never_op s h (op.Pin p) = never_pin s h p
+never_op s h (op.Unpin p) = never_unpin s h p
+never_op s h op.Close = never_close s h
 never_op s h op.Count = λ e. cc
 never_op s h (op.Scan n) = λ e. cc
 never_op s h (op.Take n) = λ e. cc
@@ -74,7 +113,7 @@ never_op s h op.PutBack = λ e. cc
 
 never_memory : (s : Shape) (h : History) (c : ℕ) (step : Step) → NotMemory (refusal_of s h c step)
 never_memory s h c (One o) = never_op s h o
-never_memory s h c (Take n) = never s h (call.take c)
+never_memory s h c (Take n) = never_take s h c
 never_memory s h c SplitNext = λ e. cc
 never_memory s h c PutBack = λ e. cc
 

@@ -13,10 +13,7 @@ use Rattle.thp_model.specs.Places.{queue}
 use Rattle.thp_model.specs.Refusals.{Call, refusal}
 use Rattle.thp_model.specs.Refusals as call
 use Rattle.thp_model.specs.Runs.{take_events, split_next_events, put_back_events, next_page, rest_after, still_flying}
-use Rattle.thp_model.specs.PageCalls.{gain_what, loss_what, page_call}
 use Rattle.thp_model.specs.declared.page_call.Done.{Done}
-use Rattle.thp_model.specs.declared.page_call.PageCall.{PageCall}
-use Rattle.thp_model.specs.declared.page_call.PageCall.TheVariants as either
 use Rattle.thp_node.specs.Batches.{BatchState, rest, tried, back_reply}
 use Rattle.thp_text.specs.declared.script.Op.{Op}
 use Rattle.thp_text.specs.declared.script.Op.TheVariants as op
@@ -45,7 +42,15 @@ open_of b = record { pages = b.pages; left = rest b }
 -- the refusal of a step of caller c at h: a try, a put-back and a count are never refused
 abbrev pub refusal_of_op : Shape → History → Op → Option Refusal
 refusal_of_op s h op.Alloc = refusal s h call.alloc_page
-refusal_of_op s h (op.Page p c) = refusal s h (page_call c p)
+refusal_of_op s h (op.MapWhole p) = refusal s h (call.map_whole p)
+refusal_of_op s h (op.UnmapWhole p) = refusal s h (call.unmap_whole p)
+refusal_of_op s h (op.Map first count p) = refusal s h (call.map_sub p first count)
+refusal_of_op s h (op.Unmap first count p) = refusal s h (call.unmap_sub p first count)
+refusal_of_op s h (op.Write first count p) = refusal s h (call.write p first count)
+refusal_of_op s h (op.Zero first count p) = refusal s h (call.zero_fill p first count)
+refusal_of_op s h (op.SplitPmd p) = refusal s h (call.split_pmd p)
+refusal_of_op s h (op.Pin p) = refusal s h (call.pin p)
+refusal_of_op s h (op.Unpin p) = refusal s h (call.unpin p)
 refusal_of_op s h op.Close = refusal s h call.close
 refusal_of_op s h _ = None
 
@@ -62,15 +67,18 @@ DoesOne c w own answer = (own ≡ by c w ∷ []) × (answer ≡ Ok reply.Unit)
 abbrev pub DoesLoss : ℕ → (Outcome → List Bool → What) → List Event → Reaction → Type 0
 DoesLoss c w own answer = (d : Done) × (own ≡ by c (w d.outcome d.released) ∷ []) × (answer ≡ Ok (reply.Done d))
 
--- caller c made this call of page p
-abbrev pub DoesCall : ℕ → ℕ → PageCall → List Event → Reaction → Type 0
-DoesCall c p (either.Gain g) own answer = DoesOne c (gain_what g p) own answer
-DoesCall c p (either.Loss l) own answer = DoesLoss c (loss_what l p) own answer
-
 -- the events and the answer of a step that isn't refused, of a command that is one call; a new page's block is free to choose
 abbrev pub DoesOp : Shape → History → ℕ → Op → List Event → Reaction → Type 0
 DoesOp s h c op.Alloc own answer = (block : ℕ) × (own ≡ by c (what.Alloc (allocations h) block) ∷ []) × (answer ≡ Ok (reply.Page (allocations h)))
-DoesOp s h c (op.Page p call) own answer = DoesCall c p call own answer
+DoesOp s h c (op.MapWhole p) own answer = DoesOne c (what.MapWhole p) own answer
+DoesOp s h c (op.UnmapWhole p) own answer = DoesLoss c (λ o set. what.UnmapWhole o p set) own answer
+DoesOp s h c (op.Map first count p) own answer = DoesOne c (what.MapSub p first count) own answer
+DoesOp s h c (op.Unmap first count p) own answer = DoesLoss c (λ o set. what.UnmapSub o p first count set) own answer
+DoesOp s h c (op.Write first count p) own answer = DoesOne c (what.Write p first count) own answer
+DoesOp s h c (op.Zero first count p) own answer = DoesOne c (what.Zero p first count) own answer
+DoesOp s h c (op.SplitPmd p) own answer = DoesOne c (what.SplitPmd p) own answer
+DoesOp s h c (op.Pin p) own answer = DoesOne c (what.Pin p) own answer
+DoesOp s h c (op.Unpin p) own answer = DoesLoss c (λ o set. what.Unpin o p set) own answer
 DoesOp s h c op.Close own answer = DoesOne c what.Close own answer
 DoesOp s h c op.Count own answer = (own ≡ []) × (answer ≡ Ok (reply.Count (length (queue s h))))
 DoesOp s h c _ own answer = ⊥

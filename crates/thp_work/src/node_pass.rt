@@ -12,7 +12,7 @@ use crate::steps::Step;
 use std::alloc::{AllocError, Global};
 use std::marker::Model;
 use thp_cell::{CellFault, NodeCell, Pass};
-use thp_model::{PageCall, PageId, Refusal};
+use thp_model::{PageId, Refusal};
 use thp_node::{Batch, Done};
 use thp_text::Op;
 
@@ -170,7 +170,33 @@ impl<'a> NodePass<'a> {
                 }
                 Err(fault) => Err(fault),
             },
-            Op::Page { page, call } => self.call(caller, page, call, reply),
+            Op::MapWhole { page } => {
+                unit(
+                    self.cell.map_whole(&mut self.pass, caller, PageId(page)),
+                    reply,
+                )
+            }
+            Op::UnmapWhole { page } => {
+                loss(
+                    self.cell.unmap_whole(&mut self.pass, caller, PageId(page)),
+                    reply,
+                )
+            }
+            Op::Map { first, count, page } => self.map(caller, page, first, count, reply),
+            Op::Unmap { first, count, page } => self.unmap(caller, page, first, count, reply),
+            Op::Write { first, count, page } => self.write(caller, page, first, count, reply),
+            Op::Zero { first, count, page } => self.zero(caller, page, first, count, reply),
+            Op::SplitPmd { page } => {
+                unit(
+                    self.cell.split_pmd(&mut self.pass, caller, PageId(page)),
+                    reply,
+                )
+            }
+            Op::Pin { page } => unit(self.cell.pin(&mut self.pass, caller, PageId(page)), reply),
+            Op::Unpin { page } => loss(
+                self.cell.unpin(&mut self.pass, caller, PageId(page)),
+                reply,
+            ),
             Op::Close => unit(self.cell.close(&mut self.pass, caller), reply),
             Op::Count => {
                 *reply = Reply::Count(self.cell.count(&mut self.pass));
@@ -183,21 +209,86 @@ impl<'a> NodePass<'a> {
         }
     }
 
-    fn call(
+    fn map(
         &mut self,
         caller: u32,
         page: u64,
-        call: PageCall,
+        first: u16,
+        count: u16,
         reply: &mut Reply,
     ) -> Result<(), CellFault>
         requires caller { HasCaller self.old.pass caller }
-        ensures { HeldDone caller (Step.One (Op.Page page call)) self.old self.new (answer_of result reply.new) }
+        ensures { HeldDone caller (Step.One (Op.Map first count page)) self.old self.new (answer_of result reply.new) }
     {
         let page = PageId(page);
-        match call {
-            PageCall::Gain(gain) => unit(self.cell.gain(&mut self.pass, caller, page, gain), reply),
-            PageCall::Loss(kind) => loss(self.cell.lose(&mut self.pass, caller, page, kind), reply),
-        }
+        let first = u32::from(first);
+        let count = u32::from(count);
+        unit(
+            self.cell
+                .map_sub(&mut self.pass, caller, page, first, count),
+            reply,
+        )
+    }
+
+    fn unmap(
+        &mut self,
+        caller: u32,
+        page: u64,
+        first: u16,
+        count: u16,
+        reply: &mut Reply,
+    ) -> Result<(), CellFault>
+        requires caller { HasCaller self.old.pass caller }
+        ensures { HeldDone caller (Step.One (Op.Unmap first count page)) self.old self.new (answer_of result reply.new) }
+    {
+        let page = PageId(page);
+        let first = u32::from(first);
+        let count = u32::from(count);
+        loss(
+            self.cell
+                .unmap_sub(&mut self.pass, caller, page, first, count),
+            reply,
+        )
+    }
+
+    fn write(
+        &mut self,
+        caller: u32,
+        page: u64,
+        first: u16,
+        count: u16,
+        reply: &mut Reply,
+    ) -> Result<(), CellFault>
+        requires caller { HasCaller self.old.pass caller }
+        ensures { HeldDone caller (Step.One (Op.Write first count page)) self.old self.new (answer_of result reply.new) }
+    {
+        let page = PageId(page);
+        let first = u32::from(first);
+        let count = u32::from(count);
+        unit(
+            self.cell.write(&mut self.pass, caller, page, first, count),
+            reply,
+        )
+    }
+
+    fn zero(
+        &mut self,
+        caller: u32,
+        page: u64,
+        first: u16,
+        count: u16,
+        reply: &mut Reply,
+    ) -> Result<(), CellFault>
+        requires caller { HasCaller self.old.pass caller }
+        ensures { HeldDone caller (Step.One (Op.Zero first count page)) self.old self.new (answer_of result reply.new) }
+    {
+        let page = PageId(page);
+        let first = u32::from(first);
+        let count = u32::from(count);
+        unit(
+            self.cell.zero(&mut self.pass, caller, page, first, count),
+            reply,
+        )
     }
 
     fn take(&mut self, caller: u32, count: u32, reply: &mut Reply) -> Result<(), CellFault>
