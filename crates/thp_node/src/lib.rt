@@ -23,4 +23,6 @@ mod node;
 pub use answers::{BackReply, Counters, NewFault, ScanReply, Tried};
 pub use batch::Batch;
 pub use node::Node;
-pub use thp_model::{Done, Gain, Loss};
+pub use thp_links::Queue;
+pub use thp_model::{Done, Event, Gain, Loss, Outcome, PageId, Refusal, Shape, SubSet, What};
+pub use thp_page::PageTable;

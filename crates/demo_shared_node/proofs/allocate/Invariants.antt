@@ -1,0 +1,6 @@
+use Rattle.std.proofs.Common.{◌≡◌}
+use Rattle.thp_cell.specs.Calls.{at_front}
+use Rattle.demo_shared_node.proofs.allocate.Given as goal
+
+abbrev pub invariant-loop : goal.invariant-loop
+invariant-loop l = l.pass ≡ at_front l.initial.pass l.pass.front
