@@ -1,7 +1,10 @@
 # make try:     runs the first script at once, without proving anything
 # make run:     proves the program and all that it stands on, builds it, and runs the first script
-# make install: puts the proved program and its man page below PREFIX (default /usr/local; DESTDIR as usual)
-# make test:    every check (all proofs from nothing, must-fail edits, tests, stored runs); ends in 'N passed, M failed'
+# make install: puts the proved program, its manual pages and completions below PREFIX (default /usr/local; DESTDIR as
+#               usual); make uninstall takes them away
+# make test:    every check (proofs from nothing, must-fail edits, tests, stored runs, examples, documents); ends in
+#               'N passed, M failed'. What a machine lacks is named and counted neither way, or as failed with STRICT=1
+# make outside: examples and documents alone; PROGRAM=path: by that program
 # make fuzz:    random scripts on the built program and on a plain reading of the model in Python: CASES=n SEED=s
 # make memory:  each growth of memory and each start of a thread refused in turn (wants Python 3 and a C compiler)
 # make bench:   times on large scripts, of single calls and of texts (docs/PROOFS.md has the figures)
@@ -12,20 +15,41 @@ SCRIPT = examples/first.script
 CASES ?= 2000
 SEED ?= 1
 
-.PHONY: try run install test fuzz memory bench
+.PHONY: try run install uninstall test outside toolchain fuzz memory bench
 
-try:
+# tells by a line where another toolchain is installed than everything was proved with
+toolchain:
+	@python3 tests/docs.py toolchain
+
+try: toolchain
 	@cd crates/thpsplit && rt try < ../../$(SCRIPT)
 
-run:
+run: toolchain
 	@cd crates/thpsplit && rt run < ../../$(SCRIPT)
 
-install: run
-	install -D -m 755 $(PROGRAM) $(DESTDIR)$(PREFIX)/bin/thpsplit
-	install -D -m 644 docs/thpsplit.1 $(DESTDIR)$(PREFIX)/share/man/man1/thpsplit.1
+# what is installed: its place below the prefix, and the file
+INSTALLED = bin/thpsplit=$(PROGRAM) share/man/man1/thpsplit.1=docs/thpsplit.1 share/man/man5/thpsplit.5=docs/thpsplit.5 \
+	share/bash-completion/completions/thpsplit=completions/thpsplit.bash \
+	share/zsh/site-functions/_thpsplit=completions/_thpsplit \
+	share/fish/vendor_completions.d/thpsplit.fish=completions/thpsplit.fish
 
-test:
-	@rt ci
+install: run
+	@for pair in $(INSTALLED); do \
+		case $$pair in bin/*) mode=755 ;; *) mode=644 ;; esac; \
+		install -D -m $$mode "$${pair#*=}" "$(DESTDIR)$(PREFIX)/$${pair%%=*}" && \
+		echo "$(DESTDIR)$(PREFIX)/$${pair%%=*}" || exit 1; \
+	done
+
+uninstall:
+	@for pair in $(INSTALLED); do rm -f "$(DESTDIR)$(PREFIX)/$${pair%%=*}"; done
+
+test: toolchain
+	@python3 tests/gate.py
+
+# PROGRAM on the command line names any program; without it the code as it stands is built by `rt try`
+outside:
+	@python3 tests/docs.py
+	@python3 tests/examples.py $(if $(filter command% environment%,$(origin PROGRAM)),$(PROGRAM))
 
 fuzz: run
 	@python3 tests/fuzz.py $(PROGRAM) --cases $(CASES) --seed $(SEED)

@@ -35,10 +35,20 @@ Commands:
   count NODE                    tell how many pages are queued
   close NODE                    close the node
 
+A command that can't be done is answered 'refused WORD' and changes nothing: no-page, bad-range, is-split, not-mapped, gone,
+not-pinned, too-many, closed, no-block, has-batch.
+
 With --check, a journal is read from standard input instead, and 'legal' or 'illegal line L' is written.
 
 Exit status:
   0  the report, this help or the version was written, or the journal is legal
   1  the journal is illegal
   2  the script, the journal or the command line is at fault
-  3  memory was refused, or a read or a write failed";
+  3  memory was refused, or a read or a write failed
+
+Told on standard error:
+  2  'thpsplit: line L: FAULT', of the first faulty line of the script or journal: bad-byte, cut, bad-word, bad-count,
+     bad-number, bad-set, bad-order; 'line 0: too-long' of more than 16 MiB. Lines end with a line feed alone: a tab or
+     a carriage return is a bad-byte.
+  2  'thpsplit: bad orders', 'thpsplit: bad underused', or what is wrong with the words of the command line
+  3  'thpsplit: out of memory', 'thpsplit: read failed', 'thpsplit: write failed'";

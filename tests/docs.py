@@ -1,0 +1,98 @@
+"""What the documents say of the tree is so: paths that they name, crates that they list, outputs that they show.
+
+    python3 tests/docs.py [toolchain]
+
+With the word `toolchain` one line tells where another toolchain is installed than everything was proved with.
+"""
+
+import re
+import shutil
+import subprocess
+import sys
+
+from examples import ROOT, beside, cases, shown
+from tally import Missing, Tally
+
+MOST_LINES = 120
+"""README.md is at most as long, in lines."""
+
+DOCUMENTS = ["README.md", "CONTRIBUTING.md", *(f"docs/{name}.md" for name in ("MAP", "MODEL", "PROVED", "TESTS"))]
+PATH = re.compile(r"`((?:crates|docs|tests|examples|bench)/[A-Za-z0-9_./*-]*)`")
+CRATE = re.compile(r"`((?:thp|tests|bench|demo)_[a-z_]+|thpsplit)`")
+
+
+def readme_is_short() -> str | None:
+    """README.md is within its lines."""
+    lines = len((ROOT / "README.md").read_text().splitlines())
+    return None if lines <= MOST_LINES else f"{lines} lines, where {MOST_LINES} may be"
+
+
+def paths_are_there(document: str) -> str | None:
+    """Each path that a document names is in the tree."""
+    named = PATH.findall((ROOT / document).read_text())
+    gone = sorted({path for path in named if not list(ROOT.glob(path.rstrip("/")))})
+    return f"names {', '.join(gone)}" if gone else None
+
+
+def crates_are_told() -> str | None:
+    """docs/PROVED.md tells of each crate of crates.txt, and its headings of no other."""
+    listed = set(re.findall(r"^(\w+)(?: \w+)*:", (ROOT / "crates.txt").read_text(), re.M))
+    text = (ROOT / "docs/PROVED.md").read_text()
+    heads = set(CRATE.findall("\n".join(re.findall(r"^\*\*(.*?)(?:\*\*|$)", text, re.M))))
+    missing = sorted(listed - set(CRATE.findall(text)))
+    other = sorted(heads - listed)
+    if missing or other:
+        return f"doesn't tell of {missing}, and tells of {other}"
+    return None
+
+
+def toolchain_is_told() -> str | None:
+    """The installed toolchain is the one that docs/PROVED.md names."""
+    if shutil.which("rt") is None:
+        raise Missing("rt isn't on the path")
+    version = subprocess.run(["rt", "version"], capture_output=True, text=True, check=False).stdout.strip()
+    kit, _, logic = version.partition(" ")
+    told = f"Proved with {kit} ({logic})."
+    return None if told in (ROOT / "docs/PROVED.md").read_text() else f"installed is {version}, and not the one that docs/PROVED.md names"
+
+
+def dialogues_are_true() -> str | None:
+    """What README.md shows of an example is what is stored of it."""
+    stored = {(tuple(beside(case, "args", "").split()), f"examples/{case.name}"): case for case in cases()}
+    for command, output in shown():
+        match = re.fullmatch(r"thpsplit(.*?) < (examples/\S+)(; echo \$\?)?", command)
+        if match is None:
+            continue
+        case = stored.get((tuple(match[1].split()), match[2]))
+        if case is None:
+            return f"`{command}` isn't an example"
+        status = beside(case, "status", "0\n") if match[3] else ""
+        wanted = beside(case, "stdout", "") + beside(case, "stderr", "") + status
+        if output != wanted:
+            return f"`{command}` shows {output!r} in place of {wanted!r}"
+    return None
+
+
+def main() -> None:
+    """Makes all tests, or tells of the toolchain alone."""
+    if sys.argv[1:] == ["toolchain"]:
+        try:
+            wrong = toolchain_is_told()
+        except Missing as missing:
+            wrong = str(missing)
+        if wrong:
+            print(f"toolchain: {wrong}")
+        return
+    tally = Tally()
+    tally.run("README.md is short", readme_is_short)
+    tally.run("README.md shows what is stored of the examples", dialogues_are_true)
+    tally.run("docs/PROVED.md tells of each crate", crates_are_told)
+    tally.run("docs/PROVED.md names the toolchain", toolchain_is_told)
+    for document in DOCUMENTS:
+        if (ROOT / document).exists():
+            tally.run(f"paths of {document}", lambda document=document: paths_are_there(document))
+    tally.end()
+
+
+if __name__ == "__main__":
+    main()

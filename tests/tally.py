@@ -1,0 +1,49 @@
+"""Tests from outside the proved part: a line for each, and their count."""
+
+import os
+import sys
+from collections.abc import Callable
+
+SKIPPED = 77
+"""The exit status of a script that can't test anything on this machine."""
+
+
+class Missing(Exception):
+    """This machine lacks what a test needs; the text names it."""
+
+
+class Tally:
+    """Runs tests one by one, tells each by a line, and counts them."""
+
+    def __init__(self) -> None:
+        self.passed = 0
+        self.failed = 0
+
+    def run(self, name: str, test: Callable[[], str | None]) -> None:
+        """Runs a test, which answers what is wrong, or None."""
+        try:
+            wrong = test()
+        except Missing as missing:
+            self.skip(name, str(missing))
+            return
+        if wrong is None:
+            self.passed += 1
+            print(f"{name}: passed", flush=True)
+        else:
+            self.failed += 1
+            print(f"{name}: failed: {wrong}", flush=True)
+
+    def skip(self, name: str, why: str) -> None:
+        """Names a test that can't be made here. It counts neither way, and as failed where STRICT=1 is set."""
+        if os.environ.get("STRICT") == "1":
+            self.failed += 1
+            print(f"{name}: failed: {why} (STRICT=1)", flush=True)
+        else:
+            print(f"{name}: skipped: {why}", flush=True)
+
+    def end(self) -> None:
+        """Tells the count, and ends the script: 0 where nothing failed, 77 where nothing was tested, else 1."""
+        print(f"{self.passed} passed, {self.failed} failed", flush=True)
+        if self.failed:
+            sys.exit(1)
+        sys.exit(0 if self.passed else SKIPPED)
