@@ -56,8 +56,7 @@ fuzz: run
 
 memory: run
 	@cd crates/tests_spoilt && rt test
-	@cd crates/tests_growth && rt test
-	@python3 tests/memory.py $(PROGRAM) crates/tests_spoilt/out/tests_spoilt_tests:memory:: crates/tests_growth/out/tests_growth_tests
+	@python3 tests/memory.py $(PROGRAM) crates/tests_spoilt/out/tests_spoilt_tests:memory::
 
 bench:
 	@bash bench/run

@@ -1,6 +1,0 @@
-use Rattle.std.proofs.Common.{◌≡◌}
-use Rattle.thp_cell.specs.Calls.{at_front}
-use Rattle.bench_work.proofs.nodes.new_cell.Given as goal
-
-abbrev pub invariant-loop-page : goal.invariant-loop-page
-invariant-loop-page l = l.pass ≡ at_front l.initial.pass l.pass.front

@@ -1,0 +1,65 @@
+//! Two threads that work side by side on one cell.
+ghost use Rattle.std.specs.Prelude.{◌≡◌};
+ghost use Rattle.thp_cell.specs.Views.{HasCaller};
+ghost use Rattle.thp_cell.specs.Calls.{at_front};
+
+use crate::threads::cells::cell_of;
+use std::process::Abort;
+use std::thread;
+use thp_cell::{NodeCell, Pass};
+use thp_model::{Event, PageId, What};
+
+// Allocates until 20 pages were answered, or gives up after 50,000,000 calls.
+fn allocate_20(cell: &NodeCell, pass: Pass, caller: u32) -> (Pass, u32)
+    requires cell { pass.cell ≡ cell.now }
+    requires caller { HasCaller pass caller }
+    ensures same { result.0 ≡ at_front pass result.0.front }
+{
+    let mut pass = pass;
+    let mut pages = 0;
+    for _ in 0..50_000_000 {
+        if pages == 20 {
+            break;
+        }
+        if let Ok(_) = cell.alloc_page(&mut pass, caller) {
+            pages += 1;
+        }
+    }
+    (pass, pages)
+}
+
+// The event is the allocation of this page by this caller.
+fn is_allocation(event: &Event, caller: u32, page: PageId) -> bool {
+    match event.what {
+        What::Alloc {
+            page: allocated,
+            block: _,
+        } => event.caller == caller && allocated == page,
+        _ => false,
+    }
+}
+
+// The events are 40 allocations, in the order of the pages' numbers, and 20 of them by caller 1.
+fn are_40_allocations(rt: &impl Abort, events: &[Event]) {
+    assert_eq!(rt; events.len(), 40);
+    assert_eq!(rt; events.iter().filter(|event| event.caller == 1).count(), 20);
+    for (number, event) in events.iter().enumerate() {
+        assert!(rt; is_allocation(event, event.caller, PageId(number as u64)));
+    }
+}
+
+#[test]
+fn two_threads_allocate(rt: HostRuntime) {
+    let (cell, pass) = cell_of(&rt, rt.alloc(), 64, 2);
+    let (a, b) = cell.split(pass, 1);
+    let shared = &cell;
+    let ((a, pages_of_a), (b, pages_of_b)) = thread::join(
+        &rt,
+        move || allocate_20(shared, a, 0),
+        move || allocate_20(shared, b, 1),
+    );
+    assert_eq!(rt; (pages_of_a, pages_of_b), (20, 20));
+    let pass = cell.join(a, b);
+    let node = cell.finish(pass);
+    are_40_allocations(&rt, node.journal());
+}

@@ -1,0 +1,343 @@
+//! Four threads with mixed calls on a shared node. Each keeps a log of what it was answered, which is to be its part of the
+//! journal, and the journal passes the check of a history.
+ghost use Rattle.std.specs.Prelude.{◌≡◌, ◌<◌, ◌≤◌, ◌+◌, IfSome};
+ghost use Rattle.std.specs.Thread.{IsSync};
+ghost use Rattle.thp_node.specs.Batches.{IsInFront};
+ghost use Rattle.thp_cell.specs.Views.{HasCaller, HasAll};
+ghost use Rattle.thp_cell.specs.Calls.{at_front, BatchesStay};
+
+use crate::threads::cells::cell_of;
+use std::alloc::Global;
+use std::process::Abort;
+use std::thread;
+use std::thread::Threads;
+use thp_cell::{NodeCell, Pass};
+use thp_check::check;
+use thp_model::{Event, Outcome, PageId, What};
+use thp_node::{BackReply, Batch, Tried};
+
+// The pass of a thread that is done, and what its calls were answered.
+type Logged = (Pass, Vec<Answer>);
+
+// What a call was answered, as far as the answer tells it.
+#[derive(Clone, Copy, PartialEq, Eq, Debug)]
+enum Answer {
+    Page(PageId),
+    PmdSplit(PageId),
+    Unmapped(PageId, Outcome),
+    Pinned(PageId),
+    Unpinned(PageId, Outcome),
+    Taken(PageId),
+    Split(PageId),
+    FoundPinned(PageId),
+    Returned,
+    Other,
+}
+
+// The answer that an event is.
+fn answer_of(what: What) -> Answer {
+    match what {
+        What::Alloc { page, block: _ } => Answer::Page(page),
+        What::SplitPmd { page } => Answer::PmdSplit(page),
+        What::UnmapSub {
+            page,
+            first: _,
+            count: _,
+            outcome,
+            released: _,
+        } => Answer::Unmapped(page, outcome),
+        What::Pin { page } => Answer::Pinned(page),
+        What::Unpin {
+            page,
+            outcome,
+            released: _,
+        } => Answer::Unpinned(page, outcome),
+        What::Taken { page } => Answer::Taken(page),
+        What::Split { page, released: _ } => Answer::Split(page),
+        What::Pinned { page } => Answer::FoundPinned(page),
+        What::Back { page: _ } | What::Dropped { page: _ } => Answer::Returned,
+        _ => Answer::Other,
+    }
+}
+
+// The answers are those of a caller's events, in order.
+fn is_part(events: &[Event], caller: u32, answers: &[Answer]) -> bool {
+    let mut rest = answers.iter();
+    for event in events {
+        if event.caller == caller {
+            match rest.next() {
+                Some(answer) => {
+                    if *answer != answer_of(event.what) {
+                        return false;
+                    }
+                }
+                None => return false,
+            }
+        }
+    }
+    rest.next().is_none()
+}
+
+// Adds an answer to a log. One that finds no memory is missed at the end.
+fn note(log: &mut Vec<Answer>, answer: Answer) {
+    let _ = log.push(answer);
+}
+
+// One call about the newest page of the caller, by turns; answers the newest page.
+fn change(
+    cell: &NodeCell,
+    pass: &mut Pass,
+    caller: u32,
+    turn: u32,
+    page: PageId,
+    log: &mut Vec<Answer>,
+) -> PageId
+    requires cell { pass.old.cell ≡ cell.now }
+    requires caller { HasCaller pass.old caller }
+    ensures same { pass.new ≡ at_front pass.old pass.new.front }
+    ensures batches { BatchesStay pass.old pass.new }
+{
+    match turn % 6 {
+        0 => {
+            if let Ok(page) = cell.alloc_page(pass, caller) {
+                note(log, Answer::Page(page));
+                return page;
+            }
+        }
+        1 => {
+            if let Ok(()) = cell.split_pmd(pass, caller, page) {
+                note(log, Answer::PmdSplit(page));
+            }
+        }
+        2 => {
+            if let Ok(()) = cell.pin(pass, caller, page) {
+                note(log, Answer::Pinned(page));
+            }
+        }
+        3 => {
+            if let Ok(done) = cell.unmap_sub(pass, caller, page, 0, 256) {
+                note(log, Answer::Unmapped(page, done.outcome));
+            }
+        }
+        4 => {
+            if let Ok(done) = cell.unpin(pass, caller, page) {
+                note(log, Answer::Unpinned(page, done.outcome));
+            }
+        }
+        _ => {
+            if let Ok(done) = cell.unmap_sub(pass, caller, page, 256, 256) {
+                note(log, Answer::Unmapped(page, done.outcome));
+            }
+        }
+    }
+    page
+}
+
+// One call of the shrinker: a take where the caller has no batch, else by turns a try or a put-back.
+fn shrink(
+    cell: &NodeCell,
+    pass: &mut Pass,
+    caller: u32,
+    turn: u32,
+    batch: Option<Batch>,
+    log: &mut Vec<Answer>,
+) -> Option<Batch>
+    requires cell { pass.old.cell ≡ cell.now }
+    requires caller { HasCaller pass.old caller }
+    requires own { IfSome batch (λ b. b.caller ≡ caller) }
+    requires front { IfSome batch (IsInFront pass.old.front) }
+    ensures same { pass.new ≡ at_front pass.old pass.new.front }
+    ensures own { IfSome result (λ b. b.caller ≡ caller) }
+    ensures front { IfSome result (IsInFront pass.new.front) }
+{
+    match batch {
+        None => take(cell, pass, caller, log),
+        Some(batch) => {
+            if turn % 4 == 3 {
+                put_back(cell, pass, batch, log)
+            } else {
+                Some(try_next(cell, pass, batch, log))
+            }
+        }
+    }
+}
+
+fn take(cell: &NodeCell, pass: &mut Pass, caller: u32, log: &mut Vec<Answer>) -> Option<Batch>
+    requires cell { pass.old.cell ≡ cell.now }
+    requires caller { HasCaller pass.old caller }
+    ensures same { pass.new ≡ at_front pass.old pass.new.front }
+    ensures own { IfSome result (λ b. b.caller ≡ caller) }
+    ensures front { IfSome result (IsInFront pass.new.front) }
+{
+    match cell.take(pass, caller, 3) {
+        Ok(batch) => {
+            for &page in batch.pages() {
+                note(log, Answer::Taken(page));
+            }
+            Some(batch)
+        }
+        Err(_) => None,
+    }
+}
+
+fn try_next(cell: &NodeCell, pass: &mut Pass, batch: Batch, log: &mut Vec<Answer>) -> Batch
+    requires cell { pass.old.cell ≡ cell.now }
+    requires caller { HasCaller pass.old batch.caller }
+    requires front { IsInFront pass.old.front batch }
+    ensures same { pass.new ≡ at_front pass.old pass.new.front }
+    ensures own { result.caller ≡ batch.caller }
+    ensures front { IsInFront pass.new.front result }
+{
+    let mut batch = batch;
+    if let Ok(tried) = cell.split_next(pass, &mut batch) {
+        for &page in batch.pages() {
+            if tried == Tried::Split(page) {
+                note(log, Answer::Split(page));
+            }
+            if tried == Tried::Pinned(page) {
+                note(log, Answer::FoundPinned(page));
+            }
+        }
+    }
+    batch
+}
+
+fn put_back(cell: &NodeCell, pass: &mut Pass, batch: Batch, log: &mut Vec<Answer>) -> Option<Batch>
+    requires cell { pass.old.cell ≡ cell.now }
+    requires caller { HasCaller pass.old batch.caller }
+    requires front { IsInFront pass.old.front batch }
+    ensures same { pass.new ≡ at_front pass.old pass.new.front }
+    ensures own { IfSome result (λ b. b.caller ≡ batch.caller) }
+    ensures front { IfSome result (IsInFront pass.new.front) }
+{
+    match cell.put_back(pass, batch) {
+        Ok(BackReply { back, dropped }) => {
+            for _ in 0..back {
+                note(log, Answer::Returned);
+            }
+            for _ in 0..dropped {
+                note(log, Answer::Returned);
+            }
+            None
+        }
+        Err((batch, _)) => Some(batch),
+    }
+}
+
+// The turns of one thread, and the log of its answers. A batch that it has at the end is abandoned.
+fn work(alloc: Global, cell: &NodeCell, pass: Pass, caller: u32) -> Logged
+    requires cell { pass.cell ≡ cell.now }
+    requires caller { HasCaller pass caller }
+    ensures same { result.0 ≡ at_front pass result.0.front }
+{
+    let mut pass = pass;
+    let mut log = Vec::new(alloc);
+    let mut page = PageId(0);
+    let mut batch = None;
+    for turn in 0..60_000 {
+        page = change(cell, &mut pass, caller, turn, page, &mut log);
+        batch = shrink(cell, &mut pass, caller, turn, batch, &mut log);
+    }
+    (pass, log)
+}
+
+// Two threads, with two callers that follow one another.
+fn work_in_pairs<R: Threads + Sync>(
+    rt: &R,
+    alloc: Global,
+    cell: &NodeCell,
+    left: Pass,
+    right: Pass,
+    caller: u32,
+) -> (Logged, Logged)
+    requires few { caller < 63 }
+    requires left_cell { left.cell ≡ cell.now }
+    requires right_cell { right.cell ≡ cell.now }
+    requires left { HasCaller left caller }
+    requires right { HasCaller right (caller + 1) }
+    ensures left { result.0.0 ≡ at_front left result.0.0.front }
+    ensures right { result.1.0 ≡ at_front right result.1.0.front }
+{
+    let next = caller + 1;
+    thread::join(
+        rt,
+        move || work(alloc, cell, left, caller),
+        move || work(alloc, cell, right, next),
+    )
+}
+
+// The passes of one caller each, of the pass that has all four.
+fn split_in_four(cell: &NodeCell, pass: Pass) -> ((Pass, Pass), (Pass, Pass))
+    requires cell { pass.cell ≡ cell.now }
+    requires all { HasAll pass }
+    requires four { pass.callers ≡ 4 }
+    ensures first { result.0.0 ≡ record pass { first = 0; end = 1 } }
+    ensures second { result.0.1 ≡ record pass { first = 1; end = 2 } }
+    ensures third { result.1.0 ≡ record pass { first = 2; end = 3 } }
+    ensures fourth { result.1.1 ≡ record pass { first = 3; end = 4 } }
+{
+    let (low, high) = cell.split(pass, 2);
+    (cell.split(low, 1), cell.split(high, 3))
+}
+
+// Four threads, with the callers 0 to 3.
+fn work_in_fours<R: Threads + Sync>(
+    rt: &R,
+    alloc: Global,
+    cell: &NodeCell,
+    a: Pass,
+    b: Pass,
+    c: Pass,
+    d: Pass,
+) -> ((Logged, Logged), (Logged, Logged))
+    requires first_cell { a.cell ≡ cell.now }
+    requires second_cell { b.cell ≡ cell.now }
+    requires third_cell { c.cell ≡ cell.now }
+    requires fourth_cell { d.cell ≡ cell.now }
+    requires first { HasCaller a 0 }
+    requires second { HasCaller b 1 }
+    requires third { HasCaller c 2 }
+    requires fourth { HasCaller d 3 }
+    ensures first { result.0.0.0 ≡ at_front a result.0.0.0.front }
+    ensures second { result.0.1.0 ≡ at_front b result.0.1.0.front }
+    ensures third { result.1.0.0 ≡ at_front c result.1.0.0.front }
+    ensures fourth { result.1.1.0 ≡ at_front d result.1.1.0.front }
+{
+    thread::join(
+        rt,
+        move || -> (Logged, Logged)
+            requires { IsSync R.row × (a.cell ≡ cell.now) × (b.cell ≡ cell.now) × HasCaller a 0 × HasCaller b 1 }
+            ensures { (result.0.0 ≡ at_front a result.0.0.front) × (result.1.0 ≡ at_front b result.1.0.front) }
+        { work_in_pairs(rt, alloc, cell, a, b, 0) },
+        move || -> (Logged, Logged)
+            requires { IsSync R.row × (c.cell ≡ cell.now) × (d.cell ≡ cell.now) × HasCaller c 2 × HasCaller d 3 }
+            ensures { (result.0.0 ≡ at_front c result.0.0.front) × (result.1.0 ≡ at_front d result.1.0.front) }
+        { work_in_pairs(rt, alloc, cell, c, d, 2) },
+    )
+}
+
+#[test]
+fn four_threads_mix_calls(rt: HostRuntime) {
+    let (cell, pass) = cell_of(&rt, rt.alloc(), 64, 4);
+    let ((a, b), (c, d)) = split_in_four(&cell, pass);
+    let (((a, of_a), (b, of_b)), ((c, of_c), (d, of_d))) = work_in_fours(
+        &rt,
+        rt.alloc(),
+        &cell,
+        a,
+        b,
+        c,
+        d,
+    );
+    let low = cell.join(a, b);
+    let high = cell.join(c, d);
+    let pass = cell.join(low, high);
+    let node = cell.finish(pass);
+    let events = node.journal();
+    assert_eq!(rt; check(rt.alloc(), node.shape(), events), Ok(()));
+    assert!(rt; is_part(events, 0, &of_a));
+    assert!(rt; is_part(events, 1, &of_b));
+    assert!(rt; is_part(events, 2, &of_c));
+    assert!(rt; is_part(events, 3, &of_d));
+    assert!(rt; events.iter().all(|event| event.caller < 4));
+}

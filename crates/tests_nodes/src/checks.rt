@@ -1,0 +1,6 @@
+//! Histories that are legal, and histories whose last event doesn't fit, worked out by hand.
+
+mod histories;
+mod legal;
+mod misfits;
+mod underused;

@@ -1,0 +1,54 @@
+//! Nodes that rows begin with, calls with their answers, and what rows look at in a node.
+ghost use Rattle.std.specs.Prelude.{◌<◌};
+ghost use Rattle.thp_node.specs.Batches.{FrontsStay};
+
+use std::alloc::Global;
+use std::process::Abort;
+use tests_steps::{Answer, Call, first_wrong, queued_node, queueing, shape_of};
+use thp_model::{PageId, Shape};
+use thp_node::Node;
+
+// A node of order 9 with these blocks.
+pub(crate) fn node_of(rt: &impl Abort, alloc: Global, blocks: u32) -> Node {
+    node_of_shape(rt, alloc, shape_of(blocks))
+}
+
+pub(crate) fn node_of_shape(rt: &impl Abort, alloc: Global, shape: Shape) -> Node {
+    Node::new(alloc, shape).expect(rt, "a node of this shape")
+}
+
+// A node of 16 blocks with this many pages, numbered from 0 on and all queued.
+pub(crate) fn node_with_queued(rt: &impl Abort, alloc: Global, pages: u64) -> Node {
+    queued_node(alloc, pages).expect(rt, "a node with queued pages")
+}
+
+// A caller makes these calls one after the other, each with its answer.
+pub(crate) fn expect(rt: &impl Abort, node: &mut Node, caller: u32, steps: &[(Call, Answer)])
+    requires { caller < 64 }
+    ensures { FrontsStay node.old.journal node.new.journal }
+{
+    assert_eq!(rt; first_wrong(node, caller, steps), None);
+}
+
+// The page of this number is allocated and queued.
+pub(crate) fn queue_page(rt: &impl Abort, node: &mut Node, page: PageId)
+    ensures { FrontsStay node.old.journal node.new.journal }
+{
+    expect(rt, node, 0, &queueing(page));
+}
+
+// How many pages the node's queue has.
+pub(crate) fn expect_queued(rt: &impl Abort, node: &Node, pages: u32) {
+    assert_eq!(rt; node.queue_len(), pages);
+}
+
+// How many frames the node's pages hold, and how many were given back.
+pub(crate) fn expect_frames(rt: &impl Abort, node: &Node, held: u128, given: u128) {
+    assert_eq!(rt; node.frames_held(), held);
+    assert_eq!(rt; node.frames_given(), given);
+}
+
+// How many events the node's journal has.
+pub(crate) fn event_count(node: &Node) -> usize {
+    node.journal().len()
+}

@@ -1,9 +1,0 @@
-use Rattle.std.proofs.Common.{◌≡◌, length}
-use Rattle.tests_report.proofs.answers.section.Given as goal
-
-abbrev pub invariant-loop-command : goal.invariant-loop-command
-invariant-loop-command g l =
-    record {
-      count : length l.answers.items ≡ l.command;
-      room : l.answers.room ≡ length l.replies;
-    }

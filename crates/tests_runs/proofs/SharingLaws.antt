@@ -1,0 +1,103 @@
+-- What is done on nodes that count as shared is done on the nodes.
+use Rattle.std.proofs.Common.{◌≡◌, ℕ, ◌+◌, ap, arith, inl, inr, List, [], Option, Some, None, Result, Ok, Err, refl}
+use Rattle.thp_model.specs.declared.events.Event.{Event}
+use Rattle.thp_model.specs.declared.refusal.Refusal.TheVariants.{OutOfMemory}
+use Rattle.thp_cell.specs.declared.fault.CellFault.{CellFault}
+use Rattle.thp_cell.specs.declared.fault.CellFault.TheVariants.{Busy, Refused}
+use Rattle.thp_text.specs.declared.script.Command.{Command}
+use Rattle.thp_sections.specs.declared.reply.Answer.{Answer}
+use Rattle.thp_sections.specs.declared.reply.Reply.{Reply}
+use Rattle.thp_sections.specs.declared.reply.Rest.{Rest}
+use Rattle.thp_sections.specs.declared.reply.Worked.{Worked}
+use Rattle.thp_sections.specs.declared.scanning.Begun.{Begun}
+use Rattle.thp_sections.specs.declared.steps.Step.{Step}
+use Rattle.thp_sections.specs.Does.{Open, Reaction}
+use Rattle.thp_sections.specs.Fronts.{Fronts, SameHolding, Moves, Answered, OutOf, IsBusy, StepDone, Goes, Grows}
+use Rattle.thp_sections.specs.Sections.{Made, Steps, Begins, Ends, WorksTo, Works}
+use Rattle.tests_runs.specs.Sharing.{shared, WasWorked}
+
+module _ (old new : Fronts) where
+  same_shared : SameHolding old new → SameHolding (shared old) (shared new)
+  same_shared s = record { cells = s.cells; nodes = s.nodes; shape = s.shape; callers = ap (λ n. n + 1) s.end; first = s.first; end = s.end }
+
+  moves_shared : (c n : ℕ) (others own : List Event) (after : Option Open) → Moves c n old new others own after → Moves c n (shared old) (shared new) others own after
+  moves_shared c n others own after m = record {
+    same = same_shared m.same;
+    by_others = m.by_others;
+    by_caller = m.by_caller;
+    front = m.front;
+    elsewhere = m.elsewhere;
+    legal = m.legal;
+    batch = m.batch;
+    other_batches = m.other_batches;
+  }
+
+  answered_shared : (c n : ℕ) (step : Step) (answer : Reaction) → Answered c n step old new answer → Answered c n step (shared old) (shared new) answer
+  answered_shared c n step answer a = record { others = a.others; own = a.own; after = a.after; moves = moves_shared c n a.others a.own a.after a.moves; does = a.does }
+
+  out_shared : (c n : ℕ) (step : Step) → OutOf c n step old new → OutOf c n step (shared old) (shared new)
+  out_shared c n step o = record { others = o.others; moves = moves_shared c n o.others [] (old.batches c n) o.moves; allowed = o.allowed }
+
+  pub goes_shared : (c : ℕ) → Goes c old new → Goes c (shared old) (shared new)
+  goes_shared c g = record {
+    same = same_shared g.same;
+    grown = g.grown;
+    others = λ d n has. g.others d n (record { low = has.low; high = has.high });
+    others_batches = g.others_batches;
+    legal = g.legal;
+  }
+
+-- nodes that are busy stay as they are
+pub busy_shared : (old new : Fronts) → new ≡ old → IsBusy (shared old) (shared new)
+busy_shared old new same = record { same = ap shared same; shared = λ all. absurd (omega (arith, all.high)) }
+
+pub step_shared : (old new : Fronts) (c n : ℕ) (step : Step) (r : Result Reply CellFault) → StepDone c n step old new r → StepDone c n step (shared old) (shared new) r
+step_shared old new c n step (Ok reply) d = answered_shared old new c n step (Ok reply) d
+step_shared old new c n step (Err Busy) d = busy_shared old new d.same
+step_shared old new c n step (Err (Refused OutOfMemory)) d = out_shared old new c n step d
+step_shared old new c n step (Err (Refused why)) d = answered_shared old new c n step (Err why) d
+
+-- what a section did on nodes that count as shared, it did on the nodes
+module _ (old new : Fronts) (c : ℕ) where
+  abbrev before : Fronts
+  before = record old { callers = new.callers }
+
+  grows_inside : Grows old (shared new) → Grows before new
+  grows_inside g = record { same = record { cells = g.same.cells; nodes = g.same.nodes; shape = g.same.shape; callers = refl }; grown = g.grown }
+
+  steps_inside : (ms : List Made) → Steps c old (shared new) ms → Steps c before new ms
+  steps_inside ms s = record { each = s.each; in_order = s.in_order; behind = s.behind; own = s.own; carries = s.carries; batches = s.batches }
+
+  begins_inside : (commands : List Command) (answers : List Answer) (begun : Begun) → Begins c old (shared new) commands answers begun → Begins c before new commands answers begun
+  begins_inside commands answers begun b = record {
+    turns = b.turns;
+    made = b.made;
+    grows = grows_inside b.grows;
+    steps = steps_inside _ b.steps;
+    each = b.each;
+    done = b.done;
+    answered = b.answered;
+    next = b.next;
+  }
+
+  ends_inside : (commands : List Command) (answers : List Answer) (back : ℕ) → Ends c old (shared new) commands answers back → Ends c before new commands answers back
+  ends_inside commands answers back e = record {
+    turns = e.turns;
+    closed = e.closed;
+    grows = grows_inside e.grows;
+    steps = steps_inside _ e.steps;
+    each = e.each;
+    each_closed = e.each_closed;
+    done = e.done;
+    answered = e.answered;
+    closes = e.closes;
+    count = e.count;
+  }
+
+  to_inside : (commands : List Command) (answers : List Answer) (rest : Option Rest) → WorksTo c old (shared new) commands answers rest → WorksTo c before new commands answers rest
+  to_inside commands answers None t = (t.0, ends_inside commands answers t.0 t.1, t.2)
+  to_inside commands answers (Some r) t =
+      (t.0, elim t.1 [ inl b ↦ inl (b.0, begins_inside commands answers _ b.1) | inr e ↦ inr (e.0, ends_inside commands answers r.steps e.1) ])
+
+  pub works_inside : (commands : List Command) (w : Worked) → Works c old (shared new) commands w → WasWorked c new commands w
+  works_inside commands w k = (before, record { to = to_inside commands w.answers.items w.rest k.to; room = k.room })

@@ -1,0 +1,53 @@
+//! Nodes that are busy at chosen calls.
+ghost use Rattle.std.specs.Prelude.{◌≡◌};
+ghost use Rattle.thp_sections.specs.Passes.{fronts_in};
+
+use thp_cell::CellFault;
+use thp_sections::{NodePasses, Reply, Step, Steps};
+
+/// Nodes that answer `Busy` to the calls from `from` on and before `to`, counted from 0 and anew after each `period`, and hand
+/// all others on.
+///
+/// They count as shared with another holder, since a holder of all callers is never busy.
+#[derive(Drop)]
+pub struct Stutter<'a> {
+    pub inner: NodePasses<'a>,
+    pub calls: u32,
+    pub from: u32,
+    pub to: u32,
+    pub period: u32,
+}
+
+impl<'a> Steps for Stutter<'a> {
+    ghost use Rattle.thp_sections.specs.Passes.{fronts_in};
+    ghost use Rattle.tests_runs.specs.Sharing.{shared};
+
+    ghost fronts = { λ s. shared (fronts_in s.inner) };
+
+    fn nodes(&self) -> u32 {
+        self.inner.nodes()
+    }
+
+    fn is_open(&self, caller: u32, node: u32) -> bool {
+        self.inner.is_open(caller, node)
+    }
+
+    fn step(
+        &mut self,
+        caller: u32,
+        node: u32,
+        step: Step,
+        reply: &mut Reply,
+    ) -> Result<(), CellFault> {
+        let call = self.calls;
+        self.calls = if call.wrapping_add(1) >= self.period {
+            0
+        } else {
+            call.wrapping_add(1)
+        };
+        if self.from <= call && call < self.to {
+            return Err(CellFault::Busy);
+        }
+        self.inner.step(caller, node, step, reply)
+    }
+}

@@ -1,0 +1,8 @@
+//! Whole runs of scripts, with reports known beforehand, checks of journals, devices that fail, and the program from its words
+//! on.
+
+mod checks;
+mod faults;
+mod programs;
+mod running;
+mod whole_runs;

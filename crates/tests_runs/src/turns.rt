@@ -1,0 +1,51 @@
+//! A gate that lets the commands of two workers through in turn.
+use std::sync::atomic::{AtomicU64, Ordering};
+use thp_sections::Gate;
+
+// A gate call is told by a bit: three of the worker that goes first, and then three of the other one.
+#[derive(Drop)]
+pub(crate) struct InTurns {
+    first: u32,
+    made: AtomicU64,
+    late: AtomicU64,
+}
+
+impl InTurns {
+    pub(crate) fn new(first: u32) -> InTurns {
+        InTurns {
+            first,
+            made: AtomicU64::new(0),
+            late: AtomicU64::new(0),
+        }
+    }
+
+    // All calls were made, and none went on before its turn.
+    pub(crate) fn held(&self) -> bool {
+        self.made.load(Ordering::SeqCst) == 63 && self.late.load(Ordering::SeqCst) == 0
+    }
+
+    // The bit of a gate call, and the bits of those calls of which one has to be made before it goes on.
+    fn bits(&self, worker: u32, index: u32) -> (u64, u64) {
+        match (worker == self.first, index) {
+            (true, 0) => (1, 1),
+            (true, 1) => (2, 16),
+            (true, _) => (4, 4),
+            (false, 0) => (8, 2),
+            (false, 1) => (16, 4),
+            (false, _) => (32, 32),
+        }
+    }
+}
+
+impl Gate for InTurns {
+    fn pass(&self, worker: u32, index: u32) {
+        let (own, wanted) = self.bits(worker, index);
+        let _before = self.made.fetch_or(own, Ordering::SeqCst);
+        for _ in 0..50_000_000u32 {
+            if self.made.load(Ordering::SeqCst) & wanted != 0 {
+                return;
+            }
+        }
+        self.late.store(1, Ordering::SeqCst);
+    }
+}

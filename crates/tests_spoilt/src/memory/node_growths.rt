@@ -1,0 +1,191 @@
+//! Each growth refused in turn: the tests pass with ample memory, and go on where a call answers that memory is wanting.
+//! Such a call changes nothing, and works at the second try.
+ghost use Rattle.std.specs.Prelude.{◌<◌, ◌≤◌};
+ghost use Rattle.thp_node.specs.Batches.{IsInFront, FrontsStay};
+
+use crate::memory::nodes::{expect_unchanged, node_at_last, view_of};
+use std::alloc::Global;
+use std::process::Abort;
+use tests_steps::{Answer, Call, STAYS, answer_of, first_wrong, queueing, shape_of};
+use thp_model::{PageId, Refusal, Shape};
+use thp_node::{BackReply, Batch, Node, ScanReply, Tried};
+
+// Makes these calls one after the other, each with its answer at the second try at the latest.
+fn expect_at_last(rt: &(impl Abort + Print), node: &mut Node, caller: u32, steps: &[(Call, Answer)])
+    requires { caller < 64 }
+    ensures { FrontsStay node.old.journal node.new.journal }
+{
+    for (place, &(call, want)) in steps.iter().enumerate() {
+        let before = view_of(node);
+        let first = answer_of(node, caller, call);
+        if first == Answer::Refused(Refusal::OutOfMemory) {
+            assert!(rt; view_of(node) == before);
+            assert_eq!(rt;
+                answer_of(node, caller, call),
+                want,
+                "step {place} again: {call:?}"
+            );
+        } else {
+            assert_eq!(rt; first, want, "step {place}: {call:?}");
+        }
+    }
+}
+
+fn scan_at_last(rt: &(impl Abort + Print), node: &mut Node) -> ScanReply {
+    let before = view_of(node);
+    match node.scan(3, 8) {
+        Ok(reply) => return reply,
+        Err(refusal) => expect_unchanged(rt, node, before, refusal, "Node::scan"),
+    }
+    match node.scan(3, 8) {
+        Ok(reply) => reply,
+        Err(_) => panic!(rt; "a scan was refused twice"),
+    }
+}
+
+fn take_at_last(rt: &(impl Abort + Print), node: &mut Node, n: u32) -> Batch
+    requires { n ≤ 128 }
+    ensures { IsInFront node.new.journal result }
+{
+    let before = view_of(node);
+    match node.take(0, n) {
+        Ok(batch) => return batch,
+        Err(refusal) => expect_unchanged(rt, node, before, refusal, "Node::take"),
+    }
+    match node.take(0, n) {
+        Ok(batch) => batch,
+        Err(_) => panic!(rt; "a take was refused twice"),
+    }
+}
+
+fn try_at_last(rt: &(impl Abort + Print), node: &mut Node, batch: &mut Batch) -> Tried
+    requires { IsInFront node.old.journal batch.old }
+    ensures { IsInFront node.new.journal batch.new }
+{
+    let before = view_of(node);
+    match node.split_next(batch) {
+        Ok(tried) => return tried,
+        Err(refusal) => expect_unchanged(rt, node, before, refusal, "Node::split_next"),
+    }
+    match node.split_next(batch) {
+        Ok(tried) => tried,
+        Err(_) => panic!(rt; "a try was refused twice"),
+    }
+}
+
+fn return_at_last(rt: &(impl Abort + Print), node: &mut Node, batch: Batch) -> BackReply
+    requires { IsInFront node.old.journal batch }
+{
+    let before = view_of(node);
+    let batch = match node.put_back(batch) {
+        Ok(reply) => return reply,
+        Err((batch, refusal)) => {
+            expect_unchanged(rt, node, before, refusal, "Node::put_back");
+            batch
+        }
+    };
+    match node.put_back(batch) {
+        Ok(reply) => reply,
+        Err(_) => panic!(rt; "a put-back was refused twice"),
+    }
+}
+
+// A page is queued and gets so many pins; then it is taken, tried and put back.
+fn put_back_after_pins(rt: &(impl Abort + Print), alloc: Global, pins: usize) {
+    let page = PageId(0);
+    let mut node = node_at_last(rt, alloc, shape_of(16));
+    expect_at_last(rt, &mut node, 0, &queueing(page));
+    for _pin in 0..pins {
+        expect_at_last(rt, &mut node, 0, &[(Call::Pin(page), Answer::Done)]);
+    }
+    let mut batch = take_at_last(rt, &mut node, 1);
+    let tried = try_at_last(rt, &mut node, &mut batch);
+    assert_eq!(rt; tried, Tried::Pinned(page));
+    assert_eq!(rt; node.journal().len(), pins.saturating_add(5));
+    let reply = return_at_last(rt, &mut node, batch);
+    assert_eq!(rt;
+        reply,
+        BackReply {
+            back: 1,
+            dropped: 0
+        }
+    );
+    assert_eq!(rt; node.queue_len(), 1);
+}
+
+// The growth that is refused falls into the put-back for some of these numbers of pins.
+#[test]
+fn put_back_without_memory(rt: HostRuntime) {
+    for pins in 1..65 {
+        put_back_after_pins(&rt, rt.alloc(), pins);
+    }
+}
+
+// A page is queued, and goes through every other call that needs no batch.
+fn calls_about_one_page(rt: &(impl Abort + Print), node: &mut Node, page: PageId) {
+    expect_at_last(rt, node, 0, &queueing(page));
+    expect_at_last(rt, node, 0, &[(Call::Pin(page), Answer::Done)]);
+    let steps = [
+        (Call::MapWhole(page), Answer::Done),
+        (Call::MapSub(page, 0, 2), Answer::Done),
+        (Call::UnmapWhole(page), STAYS),
+        (Call::Unpin(page), STAYS),
+        (Call::Write(page, 1, 3), Answer::Done),
+        (Call::Zero(page, 2, 1), Answer::Done),
+    ];
+    expect_at_last(rt, node, 1, &steps);
+}
+
+#[test]
+fn each_growth_refused(rt: HostRuntime) {
+    let shape = Shape {
+        blocks: 64,
+        order: 2,
+        underused: None,
+    };
+    let mut node = node_at_last(&rt, rt.alloc(), shape);
+    for number in 0..12 {
+        calls_about_one_page(&rt, &mut node, PageId(number));
+    }
+    expect_at_last(&rt, &mut node, 0, &[(Call::Pin(PageId(1)), Answer::Done)]);
+    let scan = scan_at_last(&rt, &mut node);
+    let scanned = ScanReply {
+        taken: 8,
+        split: 7,
+        pinned: 1,
+        back: 1,
+        dropped: 0,
+        used: 0,
+    };
+    assert_eq!(rt; scan, scanned);
+    let mut batch = take_at_last(&rt, &mut node, 128);
+    assert_eq!(rt; batch.pages().len(), 5);
+    let tried = try_at_last(&rt, &mut node, &mut batch);
+    assert_eq!(rt; tried, Tried::Split(PageId(8)));
+    let reply = return_at_last(&rt, &mut node, batch);
+    assert_eq!(rt;
+        reply,
+        BackReply {
+            back: 4,
+            dropped: 0
+        }
+    );
+    expect_at_last(&rt, &mut node, 0, &[(Call::Close, Answer::Done)]);
+    assert_eq!(rt; node.queue_len(), 4);
+}
+
+// A `reserve` that succeeds leaves room for what it was asked for.
+#[test]
+fn reserved_calls_want_no_memory(rt: HostRuntime) {
+    let mut node = node_at_last(&rt, rt.alloc(), shape_of(1));
+    if node.reserve(3).is_err() {
+        assert_eq!(rt; node.reserve(3), Ok(()));
+    }
+    let page = PageId(0);
+    let steps = [
+        (Call::Alloc, Answer::Page(page)),
+        (Call::Pin(page), Answer::Done),
+        (Call::Close, Answer::Done),
+    ];
+    assert_eq!(rt; first_wrong(&mut node, 0, &steps), None);
+}

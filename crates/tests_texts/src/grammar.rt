@@ -1,0 +1,5 @@
+//! Settings, words of a command line, lists, and scripts as the whole grammar reads them.
+
+mod lines;
+mod parts;
+mod scripts;

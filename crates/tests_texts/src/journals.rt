@@ -1,0 +1,5 @@
+//! Journals as text, of histories worked out by hand.
+
+mod histories;
+mod kinds;
+mod rows;

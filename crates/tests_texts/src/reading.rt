@@ -1,0 +1,6 @@
+//! Journal texts that are read and checked: first faults, worked rows, and texts cut at each place.
+
+mod blocks;
+mod faults;
+mod parts;
+mod rows;

@@ -1,0 +1,118 @@
+//! Answers of sections.
+use crate::reports::nodes::{empty_node, expect, small_node};
+use std::alloc::Global;
+use std::process::Abort;
+use thp_model::{Outcome, PageId, Refusal, SubSet};
+use thp_node::{BackReply, Done, ScanReply, Tried};
+use thp_sections::{AnswerLog, Reply, Section};
+use thp_text::Report;
+
+// The answers to the commands of a section, all on one node.
+fn section(
+    rt: &impl Abort,
+    alloc: Global,
+    worker: u32,
+    node: u32,
+    replies: &[Result<Reply, Refusal>],
+) -> Section {
+    let mut answers = AnswerLog::new(alloc, replies.len(), true).expect(rt, "room");
+    for (command, reply) in replies.iter().enumerate() {
+        let command = u32::try_from(command).expect(rt, "a few commands");
+        match reply {
+            Ok(reply) => answers.push(command, node, Ok(()), reply),
+            Err(refusal) => answers.push(command, node, Err(*refusal), &Reply::Unit),
+        }
+    }
+    Section { worker, answers }
+}
+
+fn done(outcome: Outcome, released: SubSet) -> Result<Reply, Refusal> {
+    Ok(Reply::Done(Done { outcome, released }))
+}
+
+fn scanned() -> Result<Reply, Refusal> {
+    Ok(Reply::Scan(ScanReply {
+        taken: 15,
+        split: 5,
+        pinned: 4,
+        back: 3,
+        dropped: 2,
+        used: 1,
+    }))
+}
+
+#[test]
+fn no_command_has_no_answer(rt: HostRuntime) {
+    let nodes = [empty_node(&rt, rt.alloc())];
+    let sections = [section(&rt, rt.alloc(), 0, 0, &[])];
+    expect(&rt, rt.alloc(), Report::Answers, &nodes, &sections, "");
+    expect(&rt, rt.alloc(), Report::Answers, &nodes, &[], "");
+}
+
+#[test]
+fn each_reply_has_its_words(rt: HostRuntime) {
+    let nodes = [empty_node(&rt, rt.alloc())];
+    let replies = [
+        Ok(Reply::Page(PageId(u64::MAX))),
+        Ok(Reply::Unit),
+        done(Outcome::Stays, SubSet::empty()),
+        done(Outcome::Queued, SubSet::range(3, 1)),
+        done(Outcome::Freed, SubSet::full(9)),
+        Ok(Reply::Count(4096)),
+        Ok(Reply::Taken(128)),
+        Ok(Reply::Tried(Tried::Split(PageId(7)))),
+        Ok(Reply::Tried(Tried::Pinned(PageId(80)))),
+        Ok(Reply::Tried(Tried::Used(PageId(900)))),
+        Ok(Reply::Tried(Tried::Done)),
+        Ok(Reply::Back(BackReply {
+            back: 12,
+            dropped: 34,
+        })),
+        Ok(Reply::NoBatch),
+    ];
+    let sections = [section(&rt, rt.alloc(), 0, 0, &replies)];
+    let want =
+        "0 1 page 18446744073709551615\n0 2 ok\n0 3 stays -\n0 4 queued 3\n0 5 freed 0-511\n0 6 count 4096\n0 7 taken 128\n0 8 split 7\n0 9 pinned 80\n0 10 used 900\n0 11 done\n0 12 back 12 dropped 34\n0 13 no-batch\n";
+    expect(&rt, rt.alloc(), Report::Answers, &nodes, &sections, want);
+}
+
+#[test]
+fn each_refusal_has_its_word(rt: HostRuntime) {
+    let nodes = [empty_node(&rt, rt.alloc())];
+    let replies = [
+        Err(Refusal::NoPage),
+        Err(Refusal::BadRange),
+        Err(Refusal::IsSplit),
+        Err(Refusal::NotMapped),
+        Err(Refusal::Gone),
+        Err(Refusal::NotPinned),
+        Err(Refusal::TooMany),
+        Err(Refusal::Closed),
+        Err(Refusal::NoBlock),
+        Err(Refusal::HasBatch),
+    ];
+    let sections = [section(&rt, rt.alloc(), 63, 0, &replies)];
+    let want =
+        "63 1 refused no-page\n63 2 refused bad-range\n63 3 refused is-split\n63 4 refused not-mapped\n63 5 refused gone\n63 6 refused not-pinned\n63 7 refused too-many\n63 8 refused closed\n63 9 refused no-block\n63 10 refused has-batch\n";
+    expect(&rt, rt.alloc(), Report::Answers, &nodes, &sections, want);
+}
+
+// Only the scans of node 1, whose switch is on, tell the pages found in use.
+#[test]
+fn sections_stand_in_order(rt: HostRuntime) {
+    let nodes = [empty_node(&rt, rt.alloc()), small_node(&rt, rt.alloc())];
+    let sections = [
+        section(
+            &rt,
+            rt.alloc(),
+            0,
+            0,
+            &[Ok(Reply::Page(PageId(0))), scanned()],
+        ),
+        section(&rt, rt.alloc(), 1, 1, &[scanned()]),
+        section(&rt, rt.alloc(), 2, 0, &[scanned(), Ok(Reply::Unit)]),
+    ];
+    let want =
+        "0 1 page 0\n0 2 taken 15 split 5 pinned 4 back 3 dropped 2\n1 1 taken 15 split 5 pinned 4 back 3 dropped 2 used 1\n2 1 taken 15 split 5 pinned 4 back 3 dropped 2\n2 2 ok\n";
+    expect(&rt, rt.alloc(), Report::Answers, &nodes, &sections, want);
+}
