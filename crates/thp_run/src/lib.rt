@@ -23,8 +23,8 @@ pub use thp_options::{Line, read_line};
 pub use thp_report::report_text;
 pub use thp_script_runs::{Ran, run_script};
 pub use thp_sections::{
-    Answer, AnswerLog, Gate, NoGate, NodePass, NodePasses, Passes, Reply, Rest, Section, Step, Steps,
-    Worked, run_range, run_workers, work, work_rest,
+    Answer, AnswerLog, Gate, NoGate, NodePass, NodePasses, Passes, Reply, Rest, Section, Step,
+    Steps, Worked, run_range, run_workers, work, work_rest,
 };
 pub use thp_text::{
     Command, Op, ReadFault, Report, Script, Sequence, Settings, TextKind, read_orders, read_script,
