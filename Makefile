@@ -15,7 +15,7 @@ SCRIPT = examples/first.script
 CASES ?= 2000
 SEED ?= 1
 
-.PHONY: try run install uninstall test outside toolchain fuzz memory bench
+.PHONY: try run install put uninstall test outside toolchain fuzz memory bench
 
 # tells by a line where another toolchain is installed than everything was proved with
 toolchain:
@@ -33,7 +33,10 @@ INSTALLED = bin/thpsplit=$(PROGRAM) share/man/man1/thpsplit.1=docs/thpsplit.1 sh
 	share/zsh/site-functions/_thpsplit=completions/_thpsplit \
 	share/fish/vendor_completions.d/thpsplit.fish=completions/thpsplit.fish
 
-install: run
+install: run put
+
+# puts the files into place, as they are
+put:
 	@for pair in $(INSTALLED); do \
 		case $$pair in bin/*) mode=755 ;; *) mode=644 ;; esac; \
 		install -D -m $$mode "$${pair#*=}" "$(DESTDIR)$(PREFIX)/$${pair%%=*}" && \
@@ -49,6 +52,7 @@ test: toolchain
 # PROGRAM on the command line names any program; without it the code as it stands is built by `rt try`
 outside:
 	@python3 tests/docs.py
+	@python3 tests/installed.py
 	@python3 tests/examples.py $(if $(filter command% environment%,$(origin PROGRAM)),$(PROGRAM))
 
 fuzz: run

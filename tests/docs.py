@@ -16,6 +16,12 @@ from tally import Missing, Tally
 MOST_LINES = 120
 """README.md is at most as long, in lines."""
 
+NAMING = ["MAP", "MODEL", "PROVED"]
+"""Those of docs/ that cite names of the code and of the definitions."""
+
+FOREIGN = {"transhuge", "admin", "guide", "split_huge_page", "cargo", "rustc"}
+"""Words of other projects, which our tree needn't name."""
+
 DOCUMENTS = ["README.md", "CONTRIBUTING.md", *(f"docs/{name}.md" for name in ("MAP", "MODEL", "PROVED", "TESTS"))]
 PATH = re.compile(r"`((?:crates|docs|tests|examples|bench)/[A-Za-z0-9_./*-]*)`")
 CRATE = re.compile(r"`((?:thp|tests|bench|demo)_[a-z_]+|thpsplit)`")
@@ -44,6 +50,25 @@ def crates_are_told() -> str | None:
     if missing or other:
         return f"doesn't tell of {missing}, and tells of {other}"
     return None
+
+
+def words_of_tree() -> set[str]:
+    """Each word that code, definitions, proofs and scripts write, and the names of their files."""
+    words: set[str] = set()
+    code = [path for path in ROOT.glob("crates/*/**/*") if path.relative_to(ROOT).parts[2] in ("src", "specs", "proofs", "must-fail")]
+    scripts = [*ROOT.glob("tests/*"), *ROOT.glob("bench/*"), *ROOT.glob("examples/*"), ROOT / "Makefile", ROOT / "crates.txt"]
+    for path in code + scripts:
+        words.update(re.findall(r"\w+", str(path.relative_to(ROOT))))
+        if path.is_file():
+            words.update(re.findall(r"\w+", path.read_text(errors="replace")))
+    return words
+
+
+def names_are_there(document: str, words: set[str]) -> str | None:
+    """Each name in backticks of four letters or more stands somewhere in the tree."""
+    told = re.findall(r"`([^`\n]+)`", (ROOT / "docs" / f"{document}.md").read_text())
+    gone = sorted({word for text in told for word in re.findall(r"[A-Za-z_]\w{3,}", text)} - words - FOREIGN)
+    return f"names {', '.join(gone)}" if gone else None
 
 
 def toolchain_is_told() -> str | None:
@@ -91,6 +116,9 @@ def main() -> None:
     for document in DOCUMENTS:
         if (ROOT / document).exists():
             tally.run(f"paths of {document}", lambda document=document: paths_are_there(document))
+    words = words_of_tree()
+    for document in NAMING:
+        tally.run(f"names of docs/{document}.md", lambda document=document: names_are_there(document, words))
     tally.end()
 
 

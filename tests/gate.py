@@ -9,7 +9,7 @@ import sys
 from pathlib import Path
 
 ROOT = Path(__file__).resolve().parent.parent
-OUTSIDE = ["tests/docs.py", "tests/examples.py"]
+OUTSIDE = ["tests/docs.py", "tests/installed.py", "tests/examples.py"]
 COUNT = re.compile(r"(\d+) passed, (\d+) failed$")
 
 

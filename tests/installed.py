@@ -1,0 +1,97 @@
+"""What `make install` puts into place goes by `make uninstall`; manual pages and completions are sound.
+
+    python3 tests/installed.py
+
+A stand-in takes the place of the built program, so nothing is proved or built here.
+"""
+
+import re
+import shutil
+import subprocess
+import tempfile
+from pathlib import Path
+
+from tally import Missing, Tally
+
+ROOT = Path(__file__).resolve().parent.parent
+PAGES = ["docs/thpsplit.1", "docs/thpsplit.5"]
+COMPLETIONS = {"bash": "completions/thpsplit.bash", "zsh": "completions/_thpsplit", "fish": "completions/thpsplit.fish"}
+PUT = 6
+"""How many files are put into place."""
+
+
+def make(target: str, folder: Path) -> str | None:
+    """What is wrong where `make` puts files below a folder, or takes them away; or None."""
+    words = ["make", "-s", target, "PREFIX=/usr", f"DESTDIR={folder}/root", f"PROGRAM={folder}/program"]
+    done = subprocess.run(words, cwd=ROOT, capture_output=True, text=True, check=False)
+    return None if done.returncode == 0 else f"make {target}: {done.stderr.strip()}"
+
+
+def below(folder: Path) -> list[str]:
+    """The files below a folder."""
+    return sorted(str(path.relative_to(folder)) for path in folder.rglob("*") if path.is_file())
+
+
+def puts_and_takes_away() -> str | None:
+    """All files are put; when they are taken away another's file stays, and nothing else is left."""
+    with tempfile.TemporaryDirectory() as name:
+        folder = Path(name)
+        root = folder / "root"
+        (folder / "program").write_text("#!/bin/sh\n")
+        (root / "usr/bin").mkdir(parents=True)
+        (root / "usr/bin/another").touch()
+        wrong = make("put", folder)
+        if wrong:
+            return wrong
+        count = len(below(root)) - 1
+        wrong = make("uninstall", folder)
+        left = below(root)
+    if wrong:
+        return wrong
+    if count != PUT:
+        return f"{count} files were put, not {PUT}"
+    return None if left == ["usr/bin/another"] else f"left: {', '.join(left)}"
+
+
+def page_is_sound(page: str) -> str | None:
+    """A manual page gives no warning."""
+    if shutil.which("groff") is None:
+        raise Missing("groff isn't there")
+    done = subprocess.run(["groff", "-man", "-Tascii", "-ww", "-z", page], cwd=ROOT, capture_output=True, text=True, check=False)
+    return done.stderr.strip() or None
+
+
+def options_are_told(path: str) -> str | None:
+    """Each option of the command line stands in the file, and no other. In fish's form an option is `-l NAME`."""
+    source = (ROOT / "crates/thp_options/src/options.rt").read_text()
+    wanted = set(re.findall(r'\.long\("([a-z]+)"\)', source)) | {"help", "version"}
+    text = (ROOT / path).read_text().replace("\\-", "-")
+    told = set(re.findall(r"--([a-z]+)", text)) | set(re.findall(r" -l ([a-z]+)", text))
+    if told == wanted:
+        return None
+    return f"lacks {sorted(wanted - told)}, and has {sorted(told - wanted)}"
+
+
+def reads_as(shell: str, path: str) -> str | None:
+    """A shell reads its completions."""
+    if shutil.which(shell) is None:
+        raise Missing(f"{shell} isn't there")
+    done = subprocess.run([shell, "-n", path], cwd=ROOT, capture_output=True, text=True, check=False)
+    return None if done.returncode == 0 and not done.stderr else done.stderr.strip() or f"status {done.returncode}"
+
+
+def main() -> None:
+    """Makes all tests."""
+    tally = Tally()
+    tally.run("make install and uninstall", puts_and_takes_away)
+    for page in PAGES:
+        tally.run(f"no warning in {page}", lambda page=page: page_is_sound(page))
+    for path in [PAGES[0], *COMPLETIONS.values()]:
+        tally.run(f"options in {path}", lambda path=path: options_are_told(path))
+    for shell, path in COMPLETIONS.items():
+        tally.run(f"syntax of {path}", lambda shell=shell, path=path: reads_as(shell, path))
+    tally.end()
+
+
+if __name__ == "__main__":
+    main()
