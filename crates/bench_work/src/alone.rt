@@ -12,7 +12,7 @@ use anyhow::{Context, Result};
 use std::alloc::{AllocError, Global};
 use std::time::{Clock, CpuClock};
 use thp_cell::{NodeCell, Pass};
-use thp_model::{Gain, Loss, PageCall, PageId};
+use thp_model::PageId;
 use thp_work::{NoGate, NodePasses, Op, Reply, Step, Steps, work};
 
 /// Rounds on a bare node.
@@ -36,16 +36,8 @@ pub(crate) fn by_steps<R: Clock + CpuClock + AllocGlobal>(rt: &R, rounds: u32) -
     let watch = Watch::start(rt)?;
     let mut done = 0u64;
     for _round in 0..rounds {
-        let pin = PageCall::Gain(Gain::Pin);
-        let unpin = PageCall::Loss(Loss::Unpin);
-        done = done.saturating_add(step(&mut passes, Op::Page { page: 0, call: pin }));
-        done = done.saturating_add(step(
-            &mut passes,
-            Op::Page {
-                page: 0,
-                call: unpin,
-            },
-        ));
+        done = done.saturating_add(step(&mut passes, Op::Pin { page: 0 }));
+        done = done.saturating_add(step(&mut passes, Op::Unpin { page: 0 }));
     }
     watch.stop(rt, done, 0)
 }

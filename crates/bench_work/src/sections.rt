@@ -3,7 +3,6 @@ ghost use Rattle.std.specs.Prelude.{◌≡◌, ◌≤◌, ◌<◌, All, IfOk, le
 ghost use Rattle.thp_work.specs.Halves.{IsSection};
 
 use std::alloc::{AllocError, Global};
-use thp_model::{Gain, Loss, PageCall};
 use thp_work::{Command, Op, Worked};
 
 /// A section of rounds on this page of one of the nodes.
@@ -22,17 +21,11 @@ pub(crate) fn section(
     for _round in 0..rounds {
         commands.push(Command {
             node,
-            op: Op::Page {
-                page,
-                call: PageCall::Gain(Gain::Pin),
-            },
+            op: Op::Pin { page },
         })?;
         commands.push(Command {
             node,
-            op: Op::Page {
-                page,
-                call: PageCall::Loss(Loss::Unpin),
-            },
+            op: Op::Unpin { page },
         })?;
     }
     Ok(commands)

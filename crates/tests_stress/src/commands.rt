@@ -1,5 +1,5 @@
 //! What a command's answer says of its events.
-use thp_model::{Gain, Loss, PageCall, PageId, Refusal, What};
+use thp_model::{PageId, Refusal, What};
 use thp_text::Op;
 use thp_work::Reply;
 
@@ -8,20 +8,41 @@ pub(crate) fn event_of(op: Op, reply: Reply) -> Option<What> {
     match (op, reply) {
         (Op::Alloc, Reply::Page(page)) => Some(What::Alloc { page, block: 0 }),
         (Op::Close, Reply::Unit) => Some(What::Close),
-        (
-            Op::Page {
-                page,
-                call: PageCall::Gain(gain),
-            },
-            Reply::Unit,
-        ) => Some(gain.what(PageId(page))),
-        (
-            Op::Page {
-                page,
-                call: PageCall::Loss(loss),
-            },
-            Reply::Done(done),
-        ) => Some(loss.what(PageId(page), &done)),
+        (Op::MapWhole { page }, Reply::Unit) => Some(What::MapWhole { page: PageId(page) }),
+        (Op::SplitPmd { page }, Reply::Unit) => Some(What::SplitPmd { page: PageId(page) }),
+        (Op::Pin { page }, Reply::Unit) => Some(What::Pin { page: PageId(page) }),
+        (Op::Map { first, count, page }, Reply::Unit) => Some(What::MapSub {
+            page: PageId(page),
+            first: u32::from(first),
+            count: u32::from(count),
+        }),
+        (Op::Write { first, count, page }, Reply::Unit) => Some(What::Write {
+            page: PageId(page),
+            first: u32::from(first),
+            count: u32::from(count),
+        }),
+        (Op::Zero { first, count, page }, Reply::Unit) => Some(What::Zero {
+            page: PageId(page),
+            first: u32::from(first),
+            count: u32::from(count),
+        }),
+        (Op::UnmapWhole { page }, Reply::Done(done)) => Some(What::UnmapWhole {
+            outcome: done.outcome,
+            page: PageId(page),
+            released: done.released,
+        }),
+        (Op::Unpin { page }, Reply::Done(done)) => Some(What::Unpin {
+            outcome: done.outcome,
+            page: PageId(page),
+            released: done.released,
+        }),
+        (Op::Unmap { first, count, page }, Reply::Done(done)) => Some(What::UnmapSub {
+            outcome: done.outcome,
+            page: PageId(page),
+            first: u32::from(first),
+            count: u32::from(count),
+            released: done.released,
+        }),
         _ => None,
     }
 }
@@ -36,39 +57,47 @@ pub(crate) fn without_block(what: What) -> What {
 
 // Whether a command of this kind may be refused so. Want of memory is no answer of a run.
 pub(crate) fn may_refuse(op: Op, refusal: Refusal) -> bool {
-    match op {
-        Op::Alloc => matches!(refusal, Refusal::Closed | Refusal::NoBlock),
-        Op::Close => refusal == Refusal::Closed,
-        Op::Take { .. } | Op::Scan { .. } => refusal == Refusal::HasBatch,
-        Op::Page { call, .. } => refusal == Refusal::NoPage || may_refuse_call(call, refusal),
-        Op::Count | Op::SplitNext | Op::PutBack => false,
+    match refusal {
+        Refusal::OutOfMemory => false,
+        Refusal::Closed => matches!(op, Op::Alloc | Op::Close),
+        Refusal::NoBlock => matches!(op, Op::Alloc),
+        Refusal::HasBatch => matches!(op, Op::Take { .. } | Op::Scan { .. }),
+        Refusal::NotPinned => matches!(op, Op::Unpin { .. }),
+        Refusal::Gone => matches!(op, Op::Map { .. }),
+        Refusal::BadRange => is_of_range(op),
+        Refusal::NotMapped => takes_a_mapping(op),
+        Refusal::TooMany => matches!(op, Op::MapWhole { .. } | Op::Map { .. } | Op::Pin { .. }),
+        Refusal::IsSplit => is_of_page(op) && !matches!(op, Op::Map { .. } | Op::Unmap { .. }),
+        Refusal::NoPage => is_of_page(op),
     }
 }
 
-// The same of a call of a page that there is.
-fn may_refuse_call(call: PageCall, refusal: Refusal) -> bool {
-    match call {
-        PageCall::Gain(Gain::MapWhole | Gain::Pin) => {
-            matches!(refusal, Refusal::IsSplit | Refusal::TooMany)
-        }
-        PageCall::Gain(Gain::SplitPmd) | PageCall::Loss(Loss::UnmapWhole) => {
-            matches!(refusal, Refusal::IsSplit | Refusal::NotMapped)
-        }
-        PageCall::Gain(Gain::MapSub { .. }) => {
-            matches!(
-                refusal,
-                Refusal::BadRange | Refusal::Gone | Refusal::TooMany
-            )
-        }
-        PageCall::Gain(Gain::Write { .. } | Gain::Zero { .. }) => {
-            matches!(
-                refusal,
-                Refusal::BadRange | Refusal::IsSplit | Refusal::NotMapped
-            )
-        }
-        PageCall::Loss(Loss::UnmapSub { .. }) => {
-            matches!(refusal, Refusal::BadRange | Refusal::NotMapped)
-        }
-        PageCall::Loss(Loss::Unpin) => { matches!(refusal, Refusal::IsSplit | Refusal::NotPinned) }
-    }
+fn is_of_range(op: Op) -> bool {
+    matches!(
+        op,
+        Op::Map { .. } | Op::Unmap { .. } | Op::Write { .. } | Op::Zero { .. }
+    )
+}
+
+fn takes_a_mapping(op: Op) -> bool {
+    matches!(
+        op,
+        Op::UnmapWhole { .. }
+            | Op::SplitPmd { .. }
+            | Op::Unmap { .. }
+            | Op::Write { .. }
+            | Op::Zero { .. }
+    )
+}
+
+fn is_of_page(op: Op) -> bool {
+    is_of_range(op)
+        || matches!(
+            op,
+            Op::MapWhole { .. }
+                | Op::UnmapWhole { .. }
+                | Op::SplitPmd { .. }
+                | Op::Pin { .. }
+                | Op::Unpin { .. }
+        )
 }

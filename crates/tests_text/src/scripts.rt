@@ -1,6 +1,5 @@
 //! Scripts as the whole grammar reads them: sections of workers, all commands, and first faults.
 use std::alloc::Global;
-use thp_model::{Gain, PageCall};
 use thp_text::{Command, Op, ReadFault, Report, Settings, TextKind, read_script};
 
 /// The first fault of a script by line and kind, `None` where it has none.
@@ -55,9 +54,10 @@ fn sections_and_all_commands(rt: HostRuntime) {
     }];
     assert!(rt; script.setup.as_slice() == setup.as_slice());
     let ops = [
-        Op::Page {
+        Op::Map {
+            first: 3,
+            count: 4,
             page: 7,
-            call: PageCall::Gain(Gain::MapSub { first: 3, count: 4 }),
         },
         Op::Count,
         Op::Take { count: 8 },

@@ -9,7 +9,7 @@ use crate::stutter::Stutter;
 use std::alloc::Global;
 use std::process::Abort;
 use thp_cell::{CellFault, NodeCell, Pass};
-use thp_model::{Gain, Loss, PageCall, Shape};
+use thp_model::Shape;
 use thp_node::Node;
 use thp_work::{
     Answer, AnswerLog, Command, NoGate, NodePass, NodePasses, Op, Reply, Step, Steps, Worked, work,
@@ -124,14 +124,12 @@ fn queue(rt: &impl Abort, passes: &mut NodePasses<'_>, page: u64)
     ensures two { OfTwo (fronts_in passes.new) }
 {
     assert!(rt; matches!(step(passes, 0, Step::One(Op::Alloc)), Ok(Reply::Page(_))));
-    let split = Step::One(Op::Page {
-        page,
-        call: PageCall::Gain(Gain::SplitPmd),
-    });
+    let split = Step::One(Op::SplitPmd { page });
     assert!(rt; matches!(step(passes, 0, split), Ok(Reply::Unit)));
-    let unmap = Step::One(Op::Page {
+    let unmap = Step::One(Op::Unmap {
+        first: 0,
+        count: 1,
         page,
-        call: PageCall::Loss(Loss::UnmapSub { first: 0, count: 1 }),
     });
     assert!(rt; matches!(step(passes, 0, unmap), Ok(Reply::Done(_))));
 }
@@ -143,10 +141,7 @@ fn queue_two(rt: &impl Abort, passes: &mut NodePasses<'_>)
 {
     queue(rt, passes, 0);
     queue(rt, passes, 1);
-    let pin = Step::One(Op::Page {
-        page: 1,
-        call: PageCall::Gain(Gain::Pin),
-    });
+    let pin = Step::One(Op::Pin { page: 1 });
     assert!(rt; matches!(step(passes, 0, pin), Ok(Reply::Unit)));
 }
 
