@@ -7,7 +7,7 @@ use anyhow::{Context, Result};
 use std::alloc::{AllocError, Global};
 use std::env::{self, Env};
 use std::time::CpuClock;
-use thp_blocks::with_least_blocks;
+use thp_least_blocks::with_least_blocks;
 use thp_model::{Event, Outcome, PageId, Shape, SubSet, What};
 
 // The fewest blocks that are measured, and the most that a node has.

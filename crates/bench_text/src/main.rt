@@ -10,9 +10,9 @@ mod scripts;
 use anyhow::{Context, Result};
 use std::env::{self, Env};
 use std::time::{CpuClock, Duration};
-use thp_journal::{NodeHistory, journal_text};
+use thp_journal_reader::{check_text, read_journal};
+use thp_journal_writer::{NodeHistory, journal_text};
 use thp_model::{Event, Shape};
-use thp_read::{check_text, read_journal};
 use thp_text::{Report, Settings, read_script};
 
 // The shape of the node whose journal is written.

@@ -1,6 +1,6 @@
 -- What the holder of the passes of one node has.
 use Rattle.std.specs.Prelude.{◌≡◌}
-use Rattle.thp_work.specs.Fronts.{Fronts}
+use Rattle.thp_sections.specs.Fronts.{Fronts}
 
 -- one node, and callers 0 and 1
 pub record OfTwo (f : Fronts) : Type 0 where

@@ -1,8 +1,8 @@
 //! Rounds of one thread, which has all callers.
 ghost use Rattle.std.specs.Prelude.{◌≡◌, ◌≤◌, IfOk};
 ghost use Rattle.thp_cell.specs.Views.{HasAll};
-ghost use Rattle.thp_work.specs.Does.{IsPlain};
-ghost use Rattle.thp_work.specs.Passes.{fronts_in};
+ghost use Rattle.thp_sections.specs.Does.{IsPlain};
+ghost use Rattle.thp_sections.specs.Passes.{fronts_in};
 ghost use Rattle.bench_work.specs.Ready.{OfTwo};
 
 use crate::nodes::{new_cell, new_node, with_node};
@@ -13,7 +13,7 @@ use std::alloc::{AllocError, Global};
 use std::time::{Clock, CpuClock};
 use thp_cell::{NodeCell, Pass};
 use thp_model::PageId;
-use thp_work::{NoGate, NodePasses, Op, Reply, Step, Steps, work};
+use thp_sections::{NoGate, NodePasses, Op, Reply, Step, Steps, work};
 
 /// Rounds on a bare node.
 pub(crate) fn on_node<R: Clock + CpuClock + AllocGlobal>(rt: &R, rounds: u32) -> Result<Times> {

@@ -1,13 +1,13 @@
 //! Nodes for rounds.
 ghost use Rattle.std.specs.Prelude.{◌≡◌, ◌+◌, ◌<◌, [], IfOk, IfSome, length};
 ghost use Rattle.thp_cell.specs.Views.{HasAll};
-ghost use Rattle.thp_work.specs.Passes.{Agree};
+ghost use Rattle.thp_sections.specs.Passes.{Agree};
 
 use std::alloc::{AllocError, Global};
 use thp_cell::{NodeCell, Pass};
 use thp_model::Shape;
 use thp_node::Node;
-use thp_work::NodePass;
+use thp_sections::NodePass;
 
 /// A node with room for every worker's page.
 pub(crate) fn new_node(alloc: Global) -> Option<Node>

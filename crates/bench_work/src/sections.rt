@@ -1,9 +1,9 @@
 //! Sections of rounds.
 ghost use Rattle.std.specs.Prelude.{◌≡◌, ◌≤◌, ◌<◌, All, IfOk, length};
-ghost use Rattle.thp_work.specs.Halves.{IsSection};
+ghost use Rattle.thp_sections.specs.Halves.{IsSection};
 
 use std::alloc::{AllocError, Global};
-use thp_work::{Command, Op, Worked};
+use thp_sections::{Command, Op, Worked};
 
 /// A section of rounds on this page of one of the nodes.
 pub(crate) fn section(

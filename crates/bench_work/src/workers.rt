@@ -1,6 +1,6 @@
 //! Rounds of workers, each on a thread of its own.
 ghost use Rattle.std.specs.Prelude.{◌≡◌, ◌+◌, ◌≤◌, ◌<◌, length};
-ghost use Rattle.thp_work.specs.Passes.{Agree};
+ghost use Rattle.thp_sections.specs.Passes.{Agree};
 
 use crate::nodes::{new_cell, with_node};
 use crate::sections::{answered, sections};
@@ -8,7 +8,7 @@ use crate::times::{Times, Watch};
 use anyhow::{Context, Result};
 use std::thread::Threads;
 use std::time::{Clock, CpuClock};
-use thp_work::{NoGate, NodePass, NodePasses, run_workers};
+use thp_sections::{NoGate, NodePass, NodePasses, run_workers};
 
 /// Workers on one node.
 pub(crate) fn on_one_node<R: Clock + CpuClock + AllocGlobal + Threads + Sync>(

@@ -2,7 +2,7 @@
 
 use std::alloc::Global;
 use std::process::Abort;
-use thp_journal::{NodeHistory, journal_text};
+use thp_journal_writer::{NodeHistory, journal_text};
 use thp_model::{Event, Outcome, PageId, Shape, SubSet, What};
 
 pub(crate) const ZERO: PageId = PageId(0);

@@ -2,7 +2,7 @@
 use crate::histories::{
     ONE, ZERO, by, expect_text, expect_texts, large, queued, small, split, unmap,
 };
-use thp_journal::NodeHistory;
+use thp_journal_writer::NodeHistory;
 use thp_model::{Outcome, PageId, SubSet, What};
 
 // The kinds that no worked row has, by several callers.

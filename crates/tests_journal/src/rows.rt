@@ -3,7 +3,7 @@ use crate::histories::{
     ONE, TWO, ZERO, alloc_page, by, expect_text, expect_texts, large, queued, small, split,
     split_pmd, taken, unmap,
 };
-use thp_journal::NodeHistory;
+use thp_journal_writer::NodeHistory;
 use thp_model::{Outcome, SubSet, What};
 
 #[test]

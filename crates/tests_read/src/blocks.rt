@@ -1,6 +1,6 @@
 //! The blocks that a reader gives the pages of a journal.
+use thp_journal_reader::{NodeJournal, read_journal};
 use thp_model::{Event, What};
-use thp_read::{NodeJournal, read_journal};
 
 /// The block of the allocation at a place, `None` where no allocation stands there.
 fn block_at(node: &NodeJournal, place: usize) -> Option<u32> {

@@ -1,6 +1,6 @@
 //! The first faults of journal texts, by line and kind.
 use std::alloc::Global;
-use thp_read::check_text;
+use thp_journal_reader::check_text;
 use thp_text::{MAX_INPUT, ReadFault, Report, Settings, TextKind, read_script};
 
 /// The first fault of a text by line and kind, `None` where it has none.

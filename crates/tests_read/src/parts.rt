@@ -2,7 +2,7 @@
 ghost use Rattle.std.specs.Prelude.{◌<◌};
 
 use std::alloc::Global;
-use thp_read::{JournalReader, check_journals};
+use thp_journal_reader::{JournalReader, check_journals};
 use thp_text::{ReadFault, TextKind};
 
 /// The first illegal line of a text that comes in parts of so many bytes.

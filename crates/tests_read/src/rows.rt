@@ -1,6 +1,6 @@
 //! Journals of worked rows, and whether they are legal.
 use std::alloc::Global;
-use thp_read::check_text;
+use thp_journal_reader::check_text;
 
 /// The answer of the check: no line where the text is legal. `None` where the text is at fault.
 fn answer(alloc: Global, text: &[u8]) -> Option<Option<u32>> {

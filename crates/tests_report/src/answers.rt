@@ -4,8 +4,8 @@ use std::alloc::Global;
 use std::process::Abort;
 use thp_model::{Outcome, PageId, Refusal, SubSet};
 use thp_node::{BackReply, Done, ScanReply, Tried};
+use thp_sections::{AnswerLog, Reply, Section};
 use thp_text::Report;
-use thp_work::{AnswerLog, Reply, Section};
 
 // The answers to the commands of a section, all on one node.
 fn section(

@@ -4,8 +4,8 @@ use std::process::Abort;
 use thp_model::{PageId, Shape};
 use thp_node::Node;
 use thp_report::report_text;
+use thp_sections::Section;
 use thp_text::{Report, Settings};
-use thp_work::Section;
 
 // A node of 16 blocks of order 9 whose shrinker looks for partly mapped pages alone.
 pub(crate) fn empty_node(rt: &impl Abort, alloc: Global) -> Node {

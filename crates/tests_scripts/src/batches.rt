@@ -1,7 +1,7 @@
 //! Rows of open batches in sections.
 use crate::runs::{Said, are_answers, events_on, ran, settings_of};
 use thp_model::{Outcome, Refusal};
-use thp_work::NoGate;
+use thp_sections::NoGate;
 
 #[test]
 fn freed_from_a_batch_and_block_reused(rt: HostRuntime) {

@@ -4,8 +4,8 @@ use std::alloc::Global;
 use std::process::Abort;
 use std::sync::atomic::{AtomicU64, Ordering};
 use std::thread::Threads;
-use thp_scripts::Ran;
-use thp_work::Gate;
+use thp_script_runs::Ran;
+use thp_sections::Gate;
 
 // Lets the commands of two workers through in turn. A gate call is told by a bit: three of the worker that goes first, and
 // then three of the other one.

@@ -4,9 +4,9 @@ use std::process::Abort;
 use std::thread::Threads;
 use thp_model::{Outcome, PageId, Refusal};
 use thp_node::{BackReply, ScanReply, Tried};
-use thp_scripts::{Ran, run_script};
+use thp_script_runs::{Ran, run_script};
+use thp_sections::{Answer, Gate, Reply};
 use thp_text::{Report, Settings, read_script};
-use thp_work::{Answer, Gate, Reply};
 
 // An answer, as far as rows tell it.
 #[derive(Clone, Copy, PartialEq, Eq, Debug)]

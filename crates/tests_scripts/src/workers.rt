@@ -1,7 +1,7 @@
 //! Rows of workers on one node and on a node each.
 use crate::runs::{Said, are_answers, ran, settings_of};
-use thp_scripts::Ran;
-use thp_work::NoGate;
+use thp_script_runs::Ran;
+use thp_sections::NoGate;
 
 // So many nodes and sections came out of the run.
 fn has(ran: &Ran, nodes: usize, sections: usize) -> bool {

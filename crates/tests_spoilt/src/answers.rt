@@ -3,7 +3,7 @@ use crate::devices::{LARGE, Source};
 use crate::passages::pass;
 use std::alloc::Global;
 use std::thread::Threads;
-use thp_read::check_text;
+use thp_journal_reader::check_text;
 use thp_run::{ReadFault, RunFault, Settings, TextKind, read_script};
 
 /// The first fault of a text: its line and its kind.

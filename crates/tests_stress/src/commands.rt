@@ -1,7 +1,7 @@
 //! What a command's answer says of its events.
 use thp_model::{PageId, Refusal, What};
+use thp_sections::Reply;
 use thp_text::Op;
-use thp_work::Reply;
 
 // The event that a command of one call left, by its answer. Blocks aren't told.
 pub(crate) fn event_of(op: Op, reply: Reply) -> Option<What> {

@@ -6,9 +6,9 @@ use std::sync::atomic::{AtomicU32, Ordering};
 use std::thread;
 use std::thread::Threads;
 use std::time::{Clock, Duration};
-use thp_scripts::{Ran, run_script};
+use thp_script_runs::{Ran, run_script};
+use thp_sections::Gate;
 use thp_text::{Report, Script, Settings, read_script};
-use thp_work::Gate;
 
 // Lets workers do their commands one at a time, each two of them at most before another's, if they are to take turns at
 // all. Who waits long goes on.

@@ -10,7 +10,7 @@ use std::thread::Threads;
 use std::time::Clock;
 use thp_check::check;
 use thp_node::Node;
-use thp_scripts::Ran;
+use thp_script_runs::Ran;
 use thp_text::{Script, Settings};
 
 // What the events of each node add up to.

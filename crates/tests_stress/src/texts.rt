@@ -2,12 +2,12 @@
 use crate::commands::without_block;
 use crate::tallies::Tally;
 use std::alloc::{AllocError, Global};
+use thp_journal_reader::{NodeJournal, check_text, read_journal};
 use thp_model::{Event, Outcome, PageId, Refusal, SubSet};
 use thp_node::{BackReply, Node, ScanReply, Tried};
-use thp_read::{NodeJournal, check_text, read_journal};
 use thp_report::report_text;
+use thp_sections::{Reply, Section};
 use thp_text::{Report, Settings};
-use thp_work::{Reply, Section};
 
 // The report of this kind.
 fn report_of(

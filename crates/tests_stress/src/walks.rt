@@ -6,8 +6,8 @@ use crate::tallies::Tally;
 use std::alloc::Global;
 use thp_model::Refusal;
 use thp_node::{Node, ScanReply, Tried};
+use thp_sections::{AnswerLog, Reply, Section};
 use thp_text::{Command, Op};
-use thp_work::{AnswerLog, Reply, Section};
 
 // A caller on a node: the events that aren't explained yet, and the open batch.
 #[derive(Drop)]

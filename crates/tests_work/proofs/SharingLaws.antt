@@ -5,15 +5,15 @@ use Rattle.thp_model.specs.declared.refusal.Refusal.TheVariants.{OutOfMemory}
 use Rattle.thp_cell.specs.declared.fault.CellFault.{CellFault}
 use Rattle.thp_cell.specs.declared.fault.CellFault.TheVariants.{Busy, Refused}
 use Rattle.thp_text.specs.declared.script.Command.{Command}
-use Rattle.thp_work.specs.declared.reply.Answer.{Answer}
-use Rattle.thp_work.specs.declared.reply.Reply.{Reply}
-use Rattle.thp_work.specs.declared.reply.Rest.{Rest}
-use Rattle.thp_work.specs.declared.reply.Worked.{Worked}
-use Rattle.thp_work.specs.declared.scanning.Begun.{Begun}
-use Rattle.thp_work.specs.declared.steps.Step.{Step}
-use Rattle.thp_work.specs.Does.{Open, Reaction}
-use Rattle.thp_work.specs.Fronts.{Fronts, SameHolding, Moves, Answered, OutOf, IsBusy, StepDone, Goes, Grows}
-use Rattle.thp_work.specs.Sections.{Made, Steps, Begins, Ends, WorksTo, Works}
+use Rattle.thp_sections.specs.declared.reply.Answer.{Answer}
+use Rattle.thp_sections.specs.declared.reply.Reply.{Reply}
+use Rattle.thp_sections.specs.declared.reply.Rest.{Rest}
+use Rattle.thp_sections.specs.declared.reply.Worked.{Worked}
+use Rattle.thp_sections.specs.declared.scanning.Begun.{Begun}
+use Rattle.thp_sections.specs.declared.steps.Step.{Step}
+use Rattle.thp_sections.specs.Does.{Open, Reaction}
+use Rattle.thp_sections.specs.Fronts.{Fronts, SameHolding, Moves, Answered, OutOf, IsBusy, StepDone, Goes, Grows}
+use Rattle.thp_sections.specs.Sections.{Made, Steps, Begins, Ends, WorksTo, Works}
 use Rattle.tests_work.specs.Sharing.{shared, WasWorked}
 
 module _ (old new : Fronts) where

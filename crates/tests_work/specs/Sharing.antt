@@ -1,9 +1,9 @@
 -- Nodes that are busy at chosen calls count as shared with one caller more.
 use Rattle.std.specs.Prelude.{◌≡◌, ℕ, ◌+◌, List}
 use Rattle.thp_text.specs.declared.script.Command.{Command}
-use Rattle.thp_work.specs.declared.reply.Worked.{Worked}
-use Rattle.thp_work.specs.Fronts.{Fronts}
-use Rattle.thp_work.specs.Sections.{Works}
+use Rattle.thp_sections.specs.declared.reply.Worked.{Worked}
+use Rattle.thp_sections.specs.Fronts.{Fronts}
+use Rattle.thp_sections.specs.Sections.{Works}
 
 -- one caller more than the holder has, so that it never has all
 abbrev pub shared : Fronts → Fronts

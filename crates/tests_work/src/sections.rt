@@ -1,8 +1,8 @@
 //! Sections on one node of two callers, from its making on.
 ghost use Rattle.std.specs.Prelude.{◌≡◌, ◌<◌, ◌^◌, All, length};
-ghost use Rattle.thp_work.specs.Does.{IsStep};
-ghost use Rattle.thp_work.specs.Passes.{fronts_in};
-ghost use Rattle.thp_work.specs.Sections.{IsCommandFor};
+ghost use Rattle.thp_sections.specs.Does.{IsStep};
+ghost use Rattle.thp_sections.specs.Passes.{fronts_in};
+ghost use Rattle.thp_sections.specs.Sections.{IsCommandFor};
 ghost use Rattle.tests_work.specs.Sharing.{OfTwo, WasWorked};
 
 use crate::stutter::Stutter;
@@ -11,7 +11,7 @@ use std::process::Abort;
 use thp_cell::{CellFault, NodeCell, Pass};
 use thp_model::Shape;
 use thp_node::Node;
-use thp_work::{
+use thp_sections::{
     Answer, AnswerLog, Command, NoGate, NodePass, NodePasses, Op, Reply, Step, Steps, Worked, work,
     work_rest,
 };

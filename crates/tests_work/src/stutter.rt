@@ -1,9 +1,9 @@
 //! Nodes that are busy at chosen calls.
 ghost use Rattle.std.specs.Prelude.{◌≡◌};
-ghost use Rattle.thp_work.specs.Passes.{fronts_in};
+ghost use Rattle.thp_sections.specs.Passes.{fronts_in};
 
 use thp_cell::CellFault;
-use thp_work::{NodePasses, Reply, Step, Steps};
+use thp_sections::{NodePasses, Reply, Step, Steps};
 
 /// Nodes that answer `Busy` to the calls from `from` on and before `to`, counted from 0 and anew after each `period`, and hand
 /// all others on.
@@ -19,7 +19,7 @@ pub struct Stutter<'a> {
 }
 
 impl<'a> Steps for Stutter<'a> {
-    ghost use Rattle.thp_work.specs.Passes.{fronts_in};
+    ghost use Rattle.thp_sections.specs.Passes.{fronts_in};
     ghost use Rattle.tests_work.specs.Sharing.{shared};
 
     ghost fronts = { λ s. shared (fronts_in s.inner) };

@@ -9,9 +9,9 @@ use Rattle.thp_model.specs.Places.{is_taking, takes_by}
 use Rattle.thp_model.proofs.FlightLaws.{flight_none}
 use Rattle.thp_model.proofs.Pushes.{is_taking_push}
 use Rattle.thp_page.specs.Slots.{slot_at}
-use Rattle.thp_places.specs.Homes.{block_of}
-use Rattle.thp_places.proofs.Starting.{few_events}
-use Rattle.thp_places.proofs.Starting.{node_none}
+use Rattle.thp_live_pages.specs.Homes.{block_of}
+use Rattle.thp_live_pages.proofs.Starting.{few_events}
+use Rattle.thp_live_pages.proofs.Starting.{node_none}
 use Rattle.thp_check.specs.declared.replay.Replay.{Replay}
 use Rattle.thp_check.specs.Flights.{FlightsState, blocks_in}
 use Rattle.thp_check.specs.Meanings.{Keeps, Means, is_taker}

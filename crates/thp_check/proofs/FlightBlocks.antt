@@ -9,11 +9,11 @@ use Rattle.thp_model.specs.Counts.{is_freed}
 use Rattle.thp_model.specs.FlightSteps.{flight_by}
 use Rattle.thp_model.specs.Places.{has_page, no_pages, flight, without}
 use Rattle.thp_model.proofs.Bools.{by_bool}
-use Rattle.thp_places.specs.Homes.{block_of}
+use Rattle.thp_live_pages.specs.Homes.{block_of}
 use Rattle.thp_model.specs.PageCalls.{gain_what, loss_what}
-use Rattle.thp_places.proofs.Homing.{block_push, block_stays}
-use Rattle.thp_places.proofs.Keeping.{blocks_same, blocks_without}
-use Rattle.thp_places.proofs.Standings.{has_not}
+use Rattle.thp_live_pages.proofs.Homing.{block_push, block_stays}
+use Rattle.thp_live_pages.proofs.Keeping.{blocks_same, blocks_without}
+use Rattle.thp_live_pages.proofs.Standings.{has_not}
 use Rattle.thp_model.specs.declared.page_call.Gain.{Gain}
 use Rattle.thp_model.specs.declared.page_call.Gain.TheVariants as gain
 use Rattle.thp_model.specs.declared.page_call.Loss.{Loss}

@@ -24,13 +24,13 @@ use Rattle.thp_model.specs.declared.page_call.Gain.{Gain}
 use Rattle.thp_model.specs.declared.page_call.Gain.TheVariants as gain
 use Rattle.thp_model.specs.declared.page_call.Loss.{Loss}
 use Rattle.thp_model.specs.declared.page_call.Loss.TheVariants as loss
-use Rattle.thp_places.specs.Holding.{IsSlot}
-use Rattle.thp_places.specs.Homes.{standing_of}
+use Rattle.thp_live_pages.specs.Holding.{IsSlot}
+use Rattle.thp_live_pages.specs.Homes.{standing_of}
 use Rattle.thp_model.specs.PageCalls.{gain_call, loss_call, gain_what, loss_what}
-use Rattle.thp_places.specs.PlacesState.{PlacesState, Lost, batch_of, left_by}
-use Rattle.thp_places.proofs.Homing.{Homed}
-use Rattle.thp_places.proofs.PageEvents.{ByOutcome, by_outcome, tallies_loss, outcome_told}
-use Rattle.thp_places.proofs.Standings.{standing_flying}
+use Rattle.thp_live_pages.specs.PlacesState.{PlacesState, Lost, batch_of, left_by}
+use Rattle.thp_live_pages.proofs.Homing.{Homed}
+use Rattle.thp_live_pages.proofs.PageEvents.{ByOutcome, by_outcome, tallies_loss, outcome_told}
+use Rattle.thp_live_pages.proofs.Standings.{standing_flying}
 use Rattle.thp_check.specs.Flights.{flight_left}
 
 -- what the fitting event of a gain says

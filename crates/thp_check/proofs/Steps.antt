@@ -23,14 +23,14 @@ use Rattle.thp_model.proofs.Pushes.{count_same, count_more, some_same, some_even
 use Rattle.thp_page.specs.Slots.{slot_at, HoldsPage}
 use Rattle.thp_page.specs.Table.{Slot}
 use Rattle.thp_model.specs.declared.page_call.Done.{Done}
-use Rattle.thp_places.specs.PlacesState.{PlacesState, AtSlot, Edits, Lost, Placed}
-use Rattle.thp_places.specs.Holding.{IsNode}
-use Rattle.thp_places.proofs.Admitting.{Found, found, not_live}
-use Rattle.thp_places.proofs.Closing.{allowed_alloc, allowed_close, next_is_new}
-use Rattle.thp_places.proofs.Homing.{Homed, legal_homed, block_push, block_taken}
-use Rattle.thp_places.proofs.Keeping.{block_other}
-use Rattle.thp_places.proofs.ListEvents.{placed_fits, placed_node, closed_node}
-use Rattle.thp_places.proofs.PageEvents.{slot_is, refusal_is, refusal_gone, gained, LossFits, loss_fits, lost_node}
+use Rattle.thp_live_pages.specs.PlacesState.{PlacesState, AtSlot, Edits, Lost, Placed}
+use Rattle.thp_live_pages.specs.Holding.{IsNode}
+use Rattle.thp_live_pages.proofs.Admitting.{Found, found, not_live}
+use Rattle.thp_live_pages.proofs.Closing.{allowed_alloc, allowed_close, next_is_new}
+use Rattle.thp_live_pages.proofs.Homing.{Homed, legal_homed, block_push, block_taken}
+use Rattle.thp_live_pages.proofs.Keeping.{block_other}
+use Rattle.thp_live_pages.proofs.ListEvents.{placed_fits, placed_node, closed_node}
+use Rattle.thp_live_pages.proofs.PageEvents.{slot_is, refusal_is, refusal_gone, gained, LossFits, loss_fits, lost_node}
 use Rattle.thp_model.specs.declared.page_call.Gain.{Gain}
 use Rattle.thp_model.specs.declared.page_call.Gain.TheVariants as gain
 use Rattle.thp_model.specs.declared.page_call.Loss.{Loss}

@@ -23,17 +23,17 @@ use Rattle.thp_page.specs.declared.standing.Standing.{Standing}
 use Rattle.thp_page.specs.declared.standing.Standing.TheVariants.{Nowhere, Queued, Batch}
 use Rattle.thp_page.specs.Slots.{slot_at, HoldsPage}
 use Rattle.thp_page.specs.Table.{Slot}
-use Rattle.thp_places.specs.PlacesState.{AtSlot, PlacesState, Edits, IsElsewhere, Lost, TakesFirst, left_by}
-use Rattle.thp_places.specs.Flying.{IsFlyingAt}
-use Rattle.thp_places.specs.Holding.{IsSlot}
-use Rattle.thp_places.specs.Homes.{block_of, standing_of}
-use Rattle.thp_places.proofs.Admitting.{Found, found, not_live, flies_not_there, flies_nowhere}
-use Rattle.thp_places.proofs.Homing.{Homed, legal_homed, block_push}
-use Rattle.thp_places.proofs.Keeping.{blocks_same, blocks_pushed}
-use Rattle.thp_places.proofs.ListEvents.{first_is, taken_fits, taken_node, in_flight, flying_live, flying_whole, split_fits, split_node, pinned_fits, pinned_node, used_fits, used_node, back_fits, back_node, dropped_node}
-use Rattle.thp_places.proofs.Worth.{worth_is}
-use Rattle.thp_places.proofs.PageEvents.{slot_is}
-use Rattle.thp_places.proofs.Standings.{standing_queued, standing_flying}
+use Rattle.thp_live_pages.specs.PlacesState.{AtSlot, PlacesState, Edits, IsElsewhere, Lost, TakesFirst, left_by}
+use Rattle.thp_live_pages.specs.Flying.{IsFlyingAt}
+use Rattle.thp_live_pages.specs.Holding.{IsSlot}
+use Rattle.thp_live_pages.specs.Homes.{block_of, standing_of}
+use Rattle.thp_live_pages.proofs.Admitting.{Found, found, not_live, flies_not_there, flies_nowhere}
+use Rattle.thp_live_pages.proofs.Homing.{Homed, legal_homed, block_push}
+use Rattle.thp_live_pages.proofs.Keeping.{blocks_same, blocks_pushed}
+use Rattle.thp_live_pages.proofs.ListEvents.{first_is, taken_fits, taken_node, in_flight, flying_live, flying_whole, split_fits, split_node, pinned_fits, pinned_node, used_fits, used_node, back_fits, back_node, dropped_node}
+use Rattle.thp_live_pages.proofs.Worth.{worth_is}
+use Rattle.thp_live_pages.proofs.PageEvents.{slot_is}
+use Rattle.thp_live_pages.proofs.Standings.{standing_queued, standing_flying}
 use Rattle.thp_model.specs.declared.page_call.Done.{Done}
 use Rattle.thp_model.specs.declared.page_call.Loss.{Loss}
 use Rattle.thp_check.specs.declared.replay.Replay.{Replay}

@@ -7,8 +7,8 @@ use Rattle.thp_model.specs.History.{History, by}
 use Rattle.thp_model.specs.Counts.{allocations, is_closed}
 use Rattle.thp_model.specs.Places.{flight, is_taking}
 use Rattle.thp_model.specs.Legal.{Fits}
-use Rattle.thp_places.specs.Holding.{IsNode}
-use Rattle.thp_places.specs.Homes.{block_of}
+use Rattle.thp_live_pages.specs.Holding.{IsNode}
+use Rattle.thp_live_pages.specs.Homes.{block_of}
 use Rattle.thp_check.specs.Flights.{blocks_in}
 use Rattle.thp_check.specs.declared.replay.Replay.{Replay}
 

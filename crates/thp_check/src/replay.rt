@@ -3,16 +3,16 @@ ghost use Rattle.std.specs.Prelude.{◌≡◌, ◌<◌, ◌≤◌, ◌+◌, ◌^
 ghost use Rattle.thp_model.specs.Pages.{is_worth};
 ghost use Rattle.thp_model.specs.Places.{no_pages, takes_by};
 ghost use Rattle.thp_page.specs.Slots.{slot_at};
-ghost use Rattle.thp_places.specs.Flying.{IsFlyingAt};
+ghost use Rattle.thp_live_pages.specs.Flying.{IsFlyingAt};
 ghost use Rattle.thp_model.specs.PageCalls.{gain_what, loss_what};
-ghost use Rattle.thp_places.specs.PlacesState.{AtSlot};
+ghost use Rattle.thp_live_pages.specs.PlacesState.{AtSlot};
 ghost use Rattle.thp_check.specs.Flights.{blocks_in};
 ghost use Rattle.thp_check.specs.Meanings.{is_taker};
 
 use crate::flights::Flights;
 use std::alloc::{AllocError, Global};
+use thp_live_pages::Places;
 use thp_model::{Done, Event, Gain, Loss, Outcome, PageCall, PageId, Shape, SubSet, What};
-use thp_places::Places;
 
 // The state after the events so far. Once an event didn't fit it may be any.
 #[derive(Drop)]

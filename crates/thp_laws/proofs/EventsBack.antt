@@ -17,24 +17,24 @@ use Rattle.thp_text.specs.Lines.{is_empty, is_printable}
 use Rattle.thp_text.specs.Readings.{◌>>=◌}
 use Rattle.thp_text.specs.Words.{Text, words_of}
 use Rattle.thp_text.proofs.NumberLaws.{number_of-decimal}
-use Rattle.thp_journal.specs.EventLines as written
-use Rattle.thp_journal.specs.EventLines.{event_words, outcome_word, what_words}
-use Rattle.thp_journal.specs.SetTexts.{set_text}
-use Rattle.thp_read.specs.declared.event_word.EventWord.{EventWord}
-use Rattle.thp_read.specs.declared.event_word.EventWord.TheVariants as word
-use Rattle.thp_read.specs.declared.event_word.LossWord.{LossWord}
-use Rattle.thp_read.specs.declared.event_word.LossWord.TheVariants as loss
-use Rattle.thp_read.specs.declared.event_word.PageWord.{PageWord}
-use Rattle.thp_read.specs.declared.event_word.PageWord.TheVariants as page
-use Rattle.thp_read.specs.declared.event_word.RangeWord.{RangeWord}
-use Rattle.thp_read.specs.declared.event_word.RangeWord.TheVariants as range
-use Rattle.thp_read.specs.declared.line.Line.TheVariants.{Happened}
-use Rattle.thp_read.specs.declared.version.Version.{Version}
-use Rattle.thp_read.specs.declared.version.Version.TheVariants.{Plain, Orders, Underused}
-use Rattle.thp_read.specs.EventLines.{caller_number, page_number, range_number, page_event, range_event, loss_event, unmap_event, split_event, close_event, outcome_and_word, event_by, event_of}
-use Rattle.thp_read.specs.EventWords.{common_word, later_word, event_word, outcome_of, page_what, range_what, loss_what}
-use Rattle.thp_read.specs.JournalLines as read
-use Rattle.thp_read.specs.JournalLines.{line_by, by_words}
+use Rattle.thp_journal_writer.specs.EventLines as written
+use Rattle.thp_journal_writer.specs.EventLines.{event_words, outcome_word, what_words}
+use Rattle.thp_journal_writer.specs.SetTexts.{set_text}
+use Rattle.thp_journal_reader.specs.declared.event_word.EventWord.{EventWord}
+use Rattle.thp_journal_reader.specs.declared.event_word.EventWord.TheVariants as word
+use Rattle.thp_journal_reader.specs.declared.event_word.LossWord.{LossWord}
+use Rattle.thp_journal_reader.specs.declared.event_word.LossWord.TheVariants as loss
+use Rattle.thp_journal_reader.specs.declared.event_word.PageWord.{PageWord}
+use Rattle.thp_journal_reader.specs.declared.event_word.PageWord.TheVariants as page
+use Rattle.thp_journal_reader.specs.declared.event_word.RangeWord.{RangeWord}
+use Rattle.thp_journal_reader.specs.declared.event_word.RangeWord.TheVariants as range
+use Rattle.thp_journal_reader.specs.declared.line.Line.TheVariants.{Happened}
+use Rattle.thp_journal_reader.specs.declared.version.Version.{Version}
+use Rattle.thp_journal_reader.specs.declared.version.Version.TheVariants.{Plain, Orders, Underused}
+use Rattle.thp_journal_reader.specs.EventLines.{caller_number, page_number, range_number, page_event, range_event, loss_event, unmap_event, split_event, close_event, outcome_and_word, event_by, event_of}
+use Rattle.thp_journal_reader.specs.EventWords.{common_word, later_word, event_word, outcome_of, page_what, range_what, loss_what}
+use Rattle.thp_journal_reader.specs.JournalLines as read
+use Rattle.thp_journal_reader.specs.JournalLines.{line_by, by_words}
 use Rattle.thp_laws.specs.Tellable.{HasSmallNumbers, IsOfVersion, IsTellable}
 use Rattle.thp_laws.proofs.PlainWords.{decimal_plain, is_plain, line_printable, no_number, none_empty, words_back}
 use Rattle.thp_laws.proofs.SetsBack.{set_back, set_plain}

@@ -12,17 +12,17 @@ use Rattle.thp_model.specs.BlockLaws.{event_with, with_block, with_least_blocks,
 use Rattle.thp_model.specs.History.{History, by}
 use Rattle.thp_text.specs.Scripts.{Fault}
 use Rattle.thp_text.specs.Words.{lines_of}
-use Rattle.thp_journal.specs.declared.version.Version.{Version as Written}
-use Rattle.thp_journal.specs.EventLines as written
-use Rattle.thp_journal.specs.EventLines.{event_words}
-use Rattle.thp_journal.specs.Journals as journal
-use Rattle.thp_journal.specs.Journals.{Journal, version_of, lines_of_node, journal_lines, journal_text}
-use Rattle.thp_read.specs.declared.line.Line.{Line}
-use Rattle.thp_read.specs.declared.line.Line.TheVariants.{End}
-use Rattle.thp_read.specs.declared.place.Place.TheVariants.{Start}
-use Rattle.thp_read.specs.declared.version.Version.{Version}
-use Rattle.thp_read.specs.Journals as reading
-use Rattle.thp_read.specs.Journals.{node_journal, nodes_of, journals_with, journals_of}
+use Rattle.thp_journal_writer.specs.declared.version.Version.{Version as Written}
+use Rattle.thp_journal_writer.specs.EventLines as written
+use Rattle.thp_journal_writer.specs.EventLines.{event_words}
+use Rattle.thp_journal_writer.specs.Journals as journal
+use Rattle.thp_journal_writer.specs.Journals.{Journal, version_of, lines_of_node, journal_lines, journal_text}
+use Rattle.thp_journal_reader.specs.declared.line.Line.{Line}
+use Rattle.thp_journal_reader.specs.declared.line.Line.TheVariants.{End}
+use Rattle.thp_journal_reader.specs.declared.place.Place.TheVariants.{Start}
+use Rattle.thp_journal_reader.specs.declared.version.Version.{Version}
+use Rattle.thp_journal_reader.specs.Journals as reading
+use Rattle.thp_journal_reader.specs.Journals.{node_journal, nodes_of, journals_with, journals_of}
 use Rattle.thp_laws.specs.Tellable.{read_version, IsTellable, IsToldJournal}
 use Rattle.thp_laws.specs.ReadBack.{nodes_from}
 use Rattle.thp_laws.proofs.EventsBack.{event_plain}

@@ -13,10 +13,10 @@ use Rattle.thp_model.specs.Underused.{shrinks_underused}
 use Rattle.thp_model.specs.UnderusedLaws.{finds_used}
 use Rattle.thp_model.proofs.PartlyStands.{none_used}
 use Rattle.thp_model.proofs.SomeEvents.{some_passes}
-use Rattle.thp_journal.specs.declared.version.Version.TheVariants as writing
-use Rattle.thp_journal.specs.Journals.{Journal, has_order_9, is_access, tells_underused, version_of}
-use Rattle.thp_read.specs.declared.version.Version.{Version}
-use Rattle.thp_read.specs.declared.version.Version.TheVariants.{Plain, Orders, Underused}
+use Rattle.thp_journal_writer.specs.declared.version.Version.TheVariants as writing
+use Rattle.thp_journal_writer.specs.Journals.{Journal, has_order_9, is_access, tells_underused, version_of}
+use Rattle.thp_journal_reader.specs.declared.version.Version.{Version}
+use Rattle.thp_journal_reader.specs.declared.version.Version.TheVariants.{Plain, Orders, Underused}
 use Rattle.thp_laws.specs.Tellable.{read_version, IsOfVersion, IsToldShape}
 
 -- the version has a line for each event, and tells the shape

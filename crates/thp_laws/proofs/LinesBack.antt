@@ -10,18 +10,18 @@ use Rattle.thp_model.specs.History.{History}
 use Rattle.thp_text.specs.Readings.{◌>>=◌}
 use Rattle.thp_text.specs.Lines.{fault_behind}
 use Rattle.thp_text.specs.Words.{Text}
-use Rattle.thp_journal.specs.declared.version.Version.{Version as Written}
-use Rattle.thp_journal.specs.EventLines as written
-use Rattle.thp_journal.specs.Journals as journal
-use Rattle.thp_journal.specs.Journals.{Journal, version_of, lines_of_node, journal_lines}
-use Rattle.thp_read.specs.declared.line.Line.{Line}
-use Rattle.thp_read.specs.declared.line.Line.TheVariants.{Head, Node, Happened, End}
-use Rattle.thp_read.specs.declared.place.Place.{Place}
-use Rattle.thp_read.specs.declared.place.Place.TheVariants.{Start, Inside, Ended}
-use Rattle.thp_read.specs.declared.version.Version.{Version}
-use Rattle.thp_read.specs.JournalLines as read
-use Rattle.thp_read.specs.JournalLines.{line_in, may_stand, place_after, version_at}
-use Rattle.thp_read.specs.Journals as reading
+use Rattle.thp_journal_writer.specs.declared.version.Version.{Version as Written}
+use Rattle.thp_journal_writer.specs.EventLines as written
+use Rattle.thp_journal_writer.specs.Journals as journal
+use Rattle.thp_journal_writer.specs.Journals.{Journal, version_of, lines_of_node, journal_lines}
+use Rattle.thp_journal_reader.specs.declared.line.Line.{Line}
+use Rattle.thp_journal_reader.specs.declared.line.Line.TheVariants.{Head, Node, Happened, End}
+use Rattle.thp_journal_reader.specs.declared.place.Place.{Place}
+use Rattle.thp_journal_reader.specs.declared.place.Place.TheVariants.{Start, Inside, Ended}
+use Rattle.thp_journal_reader.specs.declared.version.Version.{Version}
+use Rattle.thp_journal_reader.specs.JournalLines as read
+use Rattle.thp_journal_reader.specs.JournalLines.{line_in, may_stand, place_after, version_at}
+use Rattle.thp_journal_reader.specs.Journals as reading
 use Rattle.thp_laws.specs.Tellable.{read_version, IsTellable, IsToldJournal}
 use Rattle.thp_laws.proofs.EventsBack.{event_line_back}
 use Rattle.thp_laws.proofs.NodesBack.{end_line_back, node_line_back, version_line_back}

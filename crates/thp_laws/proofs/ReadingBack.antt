@@ -10,15 +10,15 @@ use Rattle.thp_model.specs.History.{History}
 use Rattle.thp_model.specs.Legal.{IsLegal}
 use Rattle.thp_model.proofs.LeastBlocks.{least_same, legal_with_least}
 use Rattle.thp_text.specs.Words.{Text}
-use Rattle.thp_journal.specs.declared.version.Version.{Version as Written}
-use Rattle.thp_journal.specs.EventLines as written
-use Rattle.thp_journal.specs.Journals as journal
-use Rattle.thp_journal.specs.Journals.{Journal, version_of, lines_of_node, journal_lines, journal_text}
-use Rattle.thp_read.specs.declared.journals.Journals.{Journals}
-use Rattle.thp_read.specs.declared.journals.NodeJournal.{NodeJournal}
-use Rattle.thp_read.specs.Answers.{IsLegalNode, TellsIllegal}
-use Rattle.thp_read.specs.declared.version.Version.{Version}
-use Rattle.thp_read.specs.Journals.{node_journal}
+use Rattle.thp_journal_writer.specs.declared.version.Version.{Version as Written}
+use Rattle.thp_journal_writer.specs.EventLines as written
+use Rattle.thp_journal_writer.specs.Journals as journal
+use Rattle.thp_journal_writer.specs.Journals.{Journal, version_of, lines_of_node, journal_lines, journal_text}
+use Rattle.thp_journal_reader.specs.declared.journals.Journals.{Journals}
+use Rattle.thp_journal_reader.specs.declared.journals.NodeJournal.{NodeJournal}
+use Rattle.thp_journal_reader.specs.Answers.{IsLegalNode, TellsIllegal}
+use Rattle.thp_journal_reader.specs.declared.version.Version.{Version}
+use Rattle.thp_journal_reader.specs.Journals.{node_journal}
 use Rattle.thp_laws.specs.ReadBack.{IsJournal, IsSameNode, nodes_from, with_lines, TextsAreReadBack, TextsAreCalledLegal, NothingElseChanges, WhatIsReadIsLegal}
 use Rattle.thp_laws.specs.Tellable.{read_version, IsTellable, IsToldJournal}
 use Rattle.thp_laws.proofs.JournalsBack.{text_back}

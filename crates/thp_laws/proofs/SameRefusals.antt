@@ -19,7 +19,7 @@ use Rattle.thp_model.specs.declared.page_call.PageCall.{PageCall}
 use Rattle.thp_model.specs.declared.page_call.PageCall.TheVariants as either
 use Rattle.thp_text.specs.declared.script.Op.{Op}
 use Rattle.thp_text.specs.declared.script.Op.TheVariants as op
-use Rattle.thp_work.specs.Does.{refusal_of_op}
+use Rattle.thp_sections.specs.Does.{refusal_of_op}
 use Rattle.thp_laws.proofs.Atoms.{same_allocated, same_closed, same_freed, same_maps, same_pins, same_split, same_unmapped, same_unmaps, same_unpins, same_whole}
 
 -- a test that fails at both or at neither

@@ -5,7 +5,7 @@ use Rattle.std.specs.List.{AllZip, flat_map}
 use Rattle.std.proofs.lemmas.Bool.{cases_lt}
 use Rattle.thp_model.specs.declared.shape.Shape.{Shape}
 use Rattle.thp_model.specs.BlockLaws.{SameButBlocks}
-use Rattle.thp_journal.specs.Journals.{Journal}
+use Rattle.thp_journal_writer.specs.Journals.{Journal}
 use Rattle.thp_laws.specs.SameTotals.{IsSameJournal}
 use Rattle.thp_laws.proofs.WithoutBlocks.{one_text}
 use Rattle.thp_node.specs.NodeState.{NodeState}
@@ -18,10 +18,10 @@ use Rattle.thp_text.specs.declared.settings.Report.{Report}
 use Rattle.thp_text.specs.declared.settings.Report.TheVariants as report
 use Rattle.thp_text.specs.declared.settings.Settings.{Settings}
 use Rattle.thp_text.specs.Scripts.{script_of}
-use Rattle.thp_work.specs.declared.reply.Section.{Section}
-use Rattle.thp_scripts.specs.NewNodes.{AreNodesFor, histories_of, journal_in, shapes_of}
-use Rattle.thp_scripts.specs.NewNodes as nodes
-use Rattle.thp_scripts.specs.Runs.{IsRun}
+use Rattle.thp_sections.specs.declared.reply.Section.{Section}
+use Rattle.thp_script_runs.specs.NewNodes.{AreNodesFor, histories_of, journal_in, shapes_of}
+use Rattle.thp_script_runs.specs.NewNodes as nodes
+use Rattle.thp_script_runs.specs.Runs.{IsRun}
 use Rattle.thp_laws.specs.OneRun.{IsSameRun, IsSameSection}
 use Rattle.thp_laws.proofs.WorkersApart.{one_run, some_at}
 use Rattle.thp_laws.specs.OneReport.{WorkersApartHaveOneReport, WorkersApartWriteOneText}

@@ -31,10 +31,10 @@ use Rattle.thp_node.specs.declared.answers.BackReply.{BackReply}
 use Rattle.thp_node.specs.declared.answers.Tried.TheVariants as try
 use Rattle.thp_text.specs.declared.script.Op.{Op}
 use Rattle.thp_text.specs.declared.script.Op.TheVariants as op
-use Rattle.thp_work.specs.declared.reply.Reply.{Reply}
-use Rattle.thp_work.specs.declared.reply.Reply.TheVariants as replied
-use Rattle.thp_work.specs.declared.steps.Step.TheVariants.{One, Take, SplitNext, PutBack}
-use Rattle.thp_work.specs.Does.{Does, DoesLoss, DoesOne, DoesOp, Nothing, Open, Reaction, Unless, refusal_of_op}
+use Rattle.thp_sections.specs.declared.reply.Reply.{Reply}
+use Rattle.thp_sections.specs.declared.reply.Reply.TheVariants as replied
+use Rattle.thp_sections.specs.declared.steps.Step.TheVariants.{One, Take, SplitNext, PutBack}
+use Rattle.thp_sections.specs.Does.{Does, DoesLoss, DoesOne, DoesOp, Nothing, Open, Reaction, Unless, refusal_of_op}
 use Rattle.thp_laws.specs.OneStep.{IsSameStep, StepsHaveOneAnswer}
 use Rattle.thp_laws.proofs.SameRefusals.{op_alike, take_alike}
 

@@ -11,13 +11,13 @@ use Rattle.thp_node.specs.declared.answers.Tried.TheVariants as tried
 use Rattle.thp_text.specs.declared.script.Command.{Command}
 use Rattle.thp_text.specs.declared.script.Op.{Op}
 use Rattle.thp_text.specs.declared.script.Op.TheVariants as op
-use Rattle.thp_work.specs.declared.reply.Answer.{Answer}
-use Rattle.thp_work.specs.declared.reply.Reply.TheVariants as reply
-use Rattle.thp_work.specs.declared.steps.Step.TheVariants.{Take}
-use Rattle.thp_work.specs.Does.{Open, Reaction}
-use Rattle.thp_work.specs.Sections.{IsTurn, Made, Turn, answers_from, batches_after, command_of, steps_of, told_by, with_batch}
-use Rattle.thp_work.specs.Turns.{IsPage, ScanDone, ScanRefused, Told, TurnsOut, counted, first_step, gave_back, took, try_told}
-use Rattle.thp_work.proofs.StepLaws.{batches_after-append}
+use Rattle.thp_sections.specs.declared.reply.Answer.{Answer}
+use Rattle.thp_sections.specs.declared.reply.Reply.TheVariants as reply
+use Rattle.thp_sections.specs.declared.steps.Step.TheVariants.{Take}
+use Rattle.thp_sections.specs.Does.{Open, Reaction}
+use Rattle.thp_sections.specs.Sections.{IsTurn, Made, Turn, answers_from, batches_after, command_of, steps_of, told_by, with_batch}
+use Rattle.thp_sections.specs.Turns.{IsPage, ScanDone, ScanRefused, Told, TurnsOut, counted, first_step, gave_back, took, try_told}
+use Rattle.thp_sections.proofs.StepLaws.{batches_after-append}
 use Rattle.thp_laws.proofs.SideBySide.{Pair, next_alike, pair_on}
 
 -- a step on node n

@@ -14,8 +14,8 @@ use Rattle.thp_text.specs.Readings.{◌>>=◌}
 use Rattle.thp_text.specs.Lines.{is_empty}
 use Rattle.thp_text.specs.Words.{Text, number_of, pieces_at}
 use Rattle.thp_text.proofs.NumberLaws.{number_of-decimal}
-use Rattle.thp_journal.specs.SetTexts.{Run, with_number, runs_from, run_text, runs_text, set_text}
-use Rattle.thp_read.specs.SetTexts.{covers_number, set_with, subpage_number, longer_run, run_of_numbers, run_of, run_from, runs_of, set_of_text}
+use Rattle.thp_journal_writer.specs.SetTexts.{Run, with_number, runs_from, run_text, runs_text, set_text}
+use Rattle.thp_journal_reader.specs.SetTexts.{covers_number, set_with, subpage_number, longer_run, run_of_numbers, run_of, run_from, runs_of, set_of_text}
 use Rattle.thp_laws.proofs.Splitting.{all_append, all_joined, cut_once, is_without, joined, single}
 use Rattle.thp_laws.proofs.PlainWords.{decimal_plain, decimal_without, is_plain, is_solid, plain_solid}
 

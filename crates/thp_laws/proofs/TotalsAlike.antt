@@ -18,10 +18,10 @@ use Rattle.thp_model.proofs.Alike.{Alike, Blind, alike, count_alike, held_alike}
 use Rattle.thp_model.proofs.LeastBlocks.{least_same, without_blocks_push}
 use Rattle.thp_model.proofs.SumsBelow.{sum_below-ext}
 use Rattle.thp_text.specs.Scripts.{Fault}
-use Rattle.thp_journal.specs.Journals.{Journal}
-use Rattle.thp_read.specs.declared.journals.Journals.{Journals}
-use Rattle.thp_read.specs.declared.journals.NodeJournal.{NodeJournal}
-use Rattle.thp_read.specs.Journals.{journals_of, node_journal}
+use Rattle.thp_journal_writer.specs.Journals.{Journal}
+use Rattle.thp_journal_reader.specs.declared.journals.Journals.{Journals}
+use Rattle.thp_journal_reader.specs.declared.journals.NodeJournal.{NodeJournal}
+use Rattle.thp_journal_reader.specs.Journals.{journals_of, node_journal}
 use Rattle.thp_laws.specs.ReadBack.{nodes_from, with_lines}
 use Rattle.thp_laws.specs.SameTotals.{IsSameJournal, HaveSameTotals, OneTextIsOfOneRun, OneTextHasOneTotal}
 use Rattle.thp_laws.proofs.ReadingBack.{all_read_back}

@@ -9,11 +9,11 @@ use Rattle.thp_model.specs.declared.shape.Shape.{Shape}
 use Rattle.thp_model.specs.BlockLaws.{event_with, with_block, without_blocks}
 use Rattle.thp_model.specs.History.{History}
 use Rattle.thp_model.proofs.Alike.{Blind, some_alike}
-use Rattle.thp_journal.specs.declared.version.Version.{Version as Written}
-use Rattle.thp_journal.specs.declared.version.Version.TheVariants as writing
-use Rattle.thp_journal.specs.EventLines.{event_line, event_words, what_words, line_of}
-use Rattle.thp_journal.specs.Journals as journal
-use Rattle.thp_journal.specs.Journals.{Journal, has_order_9, is_access, journal_lines, journal_text, lines_of_node, tells_underused, version_of}
+use Rattle.thp_journal_writer.specs.declared.version.Version.{Version as Written}
+use Rattle.thp_journal_writer.specs.declared.version.Version.TheVariants as writing
+use Rattle.thp_journal_writer.specs.EventLines.{event_line, event_words, what_words, line_of}
+use Rattle.thp_journal_writer.specs.Journals as journal
+use Rattle.thp_journal_writer.specs.Journals.{Journal, has_order_9, is_access, journal_lines, journal_text, lines_of_node, tells_underused, version_of}
 use Rattle.std.specs.Fmt.{decimal}
 use Rattle.thp_laws.specs.SameTotals.{IsSameJournal, NoBlockShows}
 

@@ -12,10 +12,10 @@ use Rattle.thp_model.specs.BlockLaws.{SameButBlocks}
 use Rattle.thp_model.specs.History.{History, events_of}
 use Rattle.thp_text.specs.declared.script.Command.{Command}
 use Rattle.thp_text.specs.declared.script.Script.{Script}
-use Rattle.thp_work.specs.declared.reply.Answer.{Answer}
-use Rattle.thp_work.specs.declared.reply.Section.{Section}
-use Rattle.thp_work.specs.Sections.{Made, steps_of}
-use Rattle.thp_scripts.specs.Runs.{IsAnswered, IsRun, IsSection, no_batches, sections_of}
+use Rattle.thp_sections.specs.declared.reply.Answer.{Answer}
+use Rattle.thp_sections.specs.declared.reply.Section.{Section}
+use Rattle.thp_sections.specs.Sections.{Made, steps_of}
+use Rattle.thp_script_runs.specs.Runs.{IsAnswered, IsRun, IsSection, no_batches, sections_of}
 use Rattle.thp_laws.specs.OneRun.{AreApart, HasOneWorker, IsSameSection, OneWorkerHasOneRun, WorkersApartHaveOneRun}
 use Rattle.thp_laws.proofs.SameSections.{none_elsewhere, same_answers, same_nodes, section_among, section_walk}
 use Rattle.thp_laws.proofs.SideBySide.{Pair}

@@ -6,8 +6,8 @@ use Rattle.thp_model.specs.BlockLaws.{SameButBlocks}
 use Rattle.thp_model.specs.History.{History}
 use Rattle.thp_text.specs.declared.script.Command.{Command}
 use Rattle.thp_text.specs.declared.script.Script.{Script}
-use Rattle.thp_work.specs.declared.reply.Section.{Section}
-use Rattle.thp_scripts.specs.Runs.{IsRun}
+use Rattle.thp_sections.specs.declared.reply.Section.{Section}
+use Rattle.thp_script_runs.specs.Runs.{IsRun}
 
 -- no two workers have commands on one node
 abbrev pub AreApart : Script → Type 0

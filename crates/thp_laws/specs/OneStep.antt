@@ -5,8 +5,8 @@ use Rattle.thp_model.specs.declared.shape.Shape.{Shape}
 use Rattle.thp_model.specs.BlockLaws.{SameButBlocks}
 use Rattle.thp_model.specs.History.{History}
 use Rattle.thp_model.specs.Legal.{IsLegal}
-use Rattle.thp_work.specs.declared.steps.Step.{Step}
-use Rattle.thp_work.specs.Does.{Does, Open, Reaction}
+use Rattle.thp_sections.specs.declared.steps.Step.{Step}
+use Rattle.thp_sections.specs.Does.{Does, Open, Reaction}
 
 -- two steps did and answered the same, but for blocks
 pub record IsSameStep (own other : List Event) (answer reply : Reaction) (after later : Option Open) : Type 0 where

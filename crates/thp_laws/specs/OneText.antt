@@ -1,6 +1,6 @@
 -- Journals and totals as texts.
 use Rattle.std.specs.Prelude.{◌≡◌, List}
-use Rattle.thp_journal.specs.Journals.{Journal, journal_text}
+use Rattle.thp_journal_writer.specs.Journals.{Journal, journal_text}
 use Rattle.thp_laws.specs.ReadBack.{AreTellable}
 use Rattle.thp_report.specs.Totals.{totals_text}
 

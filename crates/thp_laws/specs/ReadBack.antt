@@ -5,11 +5,11 @@ use Rattle.thp_model.specs.declared.events.Event.{Event}
 use Rattle.thp_model.specs.BlockLaws.{SameButBlocks}
 use Rattle.thp_model.specs.Legal.{IsLegal}
 use Rattle.thp_model.specs.Shapes.{IsShape}
-use Rattle.thp_journal.specs.Journals.{Journal, journal_text}
-use Rattle.thp_read.specs.declared.journals.Journals.{Journals}
-use Rattle.thp_read.specs.declared.journals.NodeJournal.{NodeJournal}
-use Rattle.thp_read.specs.Answers.{TellsIllegal}
-use Rattle.thp_read.specs.Journals.{journals_of, node_journal}
+use Rattle.thp_journal_writer.specs.Journals.{Journal, journal_text}
+use Rattle.thp_journal_reader.specs.declared.journals.Journals.{Journals}
+use Rattle.thp_journal_reader.specs.declared.journals.NodeJournal.{NodeJournal}
+use Rattle.thp_journal_reader.specs.Answers.{TellsIllegal}
+use Rattle.thp_journal_reader.specs.Journals.{journals_of, node_journal}
 
 -- what happened on a node is legal, and its callers are numbered below 64
 pub record IsJournal (journal : Journal) : Type 0 where

@@ -6,7 +6,7 @@ use Rattle.thp_model.specs.Counters.{thp_split_page, thp_split_page_failed, thp_
 use Rattle.thp_model.specs.Counts.{allocations}
 use Rattle.thp_model.specs.Frames.{frames_given, frames_held}
 use Rattle.thp_model.specs.Places.{queue}
-use Rattle.thp_journal.specs.Journals.{Journal, journal_text}
+use Rattle.thp_journal_writer.specs.Journals.{Journal, journal_text}
 use Rattle.thp_laws.specs.ReadBack.{AreTellable}
 
 -- the same node, with the same events but for their blocks

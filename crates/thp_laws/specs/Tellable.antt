@@ -6,11 +6,11 @@ use Rattle.thp_model.specs.declared.events.What.{What}
 use Rattle.thp_model.specs.declared.events.What.TheVariants.{Alloc, MapWhole, UnmapWhole, MapSub, UnmapSub, SplitPmd, Pin, Unpin, Write, Zero, Taken, Split, Pinned, Used, Back, Dropped, Close}
 use Rattle.thp_model.specs.declared.shape.Shape.{Shape}
 use Rattle.thp_model.specs.Shapes.{IsShape}
-use Rattle.thp_journal.specs.Journals.{Journal}
-use Rattle.thp_journal.specs.declared.version.Version.{Version as Written}
-use Rattle.thp_journal.specs.declared.version.Version.TheVariants as writing
-use Rattle.thp_read.specs.declared.version.Version.{Version}
-use Rattle.thp_read.specs.declared.version.Version.TheVariants.{Plain, Orders, Underused}
+use Rattle.thp_journal_writer.specs.Journals.{Journal}
+use Rattle.thp_journal_writer.specs.declared.version.Version.{Version as Written}
+use Rattle.thp_journal_writer.specs.declared.version.Version.TheVariants as writing
+use Rattle.thp_journal_reader.specs.declared.version.Version.{Version}
+use Rattle.thp_journal_reader.specs.declared.version.Version.TheVariants.{Plain, Orders, Underused}
 
 -- the numbers of a range of subpages fit an operand
 abbrev pub IsSmallRange : ℕ → ℕ → ℕ → Type 0

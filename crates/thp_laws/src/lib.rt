@@ -1,7 +1,7 @@
 //! The laws above the program: what follows from what its parts say, as contracts of functions that do nothing.
 //!
-//! `journals`: what is written of legal histories is read back; the text of a journal is defined in `thp_journal`, the grammar
-//! that reads it in `thp_read`, and here the two are said to agree. `runs`: what is done follows from what is asked for.
+//! `journals`: what is written of legal histories is read back; the text of a journal is defined in `thp_journal_writer`, the grammar
+//! that reads it in `thp_journal_reader`, and here the two are said to agree. `runs`: what is done follows from what is asked for.
 //! `reports`: so what is written does, and a journal's text decides the totals.
 #![tactic(auto)]
 

@@ -23,11 +23,11 @@ use Rattle.thp_model.proofs.TakeRuns.{more_taken, take_events_more}
 use Rattle.thp_node.specs.declared.answers.Tried.{Tried}
 use Rattle.thp_node.specs.declared.answers.Tried.TheVariants as answer
 use Rattle.thp_node.specs.Batches.{tried}
-use Rattle.thp_places.specs.PlacesState.{PlacesState, AtSlot, Edits}
+use Rattle.thp_live_pages.specs.PlacesState.{PlacesState, AtSlot, Edits}
 use Rattle.thp_node.specs.Calls.{Did}
-use Rattle.thp_places.specs.Flying.{IsFlyingAt, IsUnpinnedAt}
-use Rattle.thp_places.specs.Holding.{IsNode, IsSlot}
-use Rattle.thp_places.specs.Homes.{block_of}
+use Rattle.thp_live_pages.specs.Flying.{IsFlyingAt, IsUnpinnedAt}
+use Rattle.thp_live_pages.specs.Holding.{IsNode, IsSlot}
+use Rattle.thp_live_pages.specs.Homes.{block_of}
 use Rattle.thp_node.specs.NodeState.{NodeState}
 use Rattle.thp_node.specs.Takings.{Took}
 use Rattle.thp_page.specs.declared.standing.Standing.{Standing}
@@ -35,11 +35,11 @@ use Rattle.thp_page.specs.declared.standing.Standing.TheVariants.{Nowhere, Queue
 use Rattle.thp_page.specs.Slots.{slot_at}
 use Rattle.thp_page.specs.Table.{Slot, Table}
 use Rattle.thp_node.proofs.CallLemmas.{did_none, did_then}
-use Rattle.thp_places.proofs.Admitting.{Found}
-use Rattle.thp_places.proofs.Homing.{Homed, legal_homed}
-use Rattle.thp_places.proofs.ListEvents.{flying_whole, split_fits, split_node, pinned_fits, pinned_node, used_fits, used_node}
-use Rattle.thp_places.proofs.PageEvents.{slot_is}
-use Rattle.thp_places.proofs.Standings.{batch_has}
+use Rattle.thp_live_pages.proofs.Admitting.{Found}
+use Rattle.thp_live_pages.proofs.Homing.{Homed, legal_homed}
+use Rattle.thp_live_pages.proofs.ListEvents.{flying_whole, split_fits, split_node, pinned_fits, pinned_node, used_fits, used_node}
+use Rattle.thp_live_pages.proofs.PageEvents.{slot_is}
+use Rattle.thp_live_pages.proofs.Standings.{batch_has}
 
 -- the node once its journal has recorded an event
 pub node_recorded : (s t : Shape) (k h : History) (e : Event) (b : PlacesState) → s ≡ t → k ≡ h ++ e ∷ [] → IsNode t (h ++ e ∷ []) b.table b.queue → IsNode s k b.table b.queue

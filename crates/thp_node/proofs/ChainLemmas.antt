@@ -14,10 +14,10 @@ use Rattle.thp_page.specs.Table.{Slot, Table}
 use Rattle.thp_page.proofs.TableSlots.{slot_at-inside}
 use Rattle.thp_model.specs.declared.page_call.Done.{Done}
 use Rattle.thp_model.specs.declared.page_call.Loss.{Loss}
-use Rattle.thp_places.specs.FreeChains.{IsFreeChain, Relinks}
-use Rattle.thp_places.specs.PlacesState.{PlacesState, Edits, HasFree, Lost, slot_after, queue_after}
-use Rattle.thp_places.proofs.FreeChains.{free_chain_kept, not_free}
-use Rattle.thp_places.proofs.Relinking.{edited_slot, taken}
+use Rattle.thp_live_pages.specs.FreeChains.{IsFreeChain, Relinks}
+use Rattle.thp_live_pages.specs.PlacesState.{PlacesState, Edits, HasFree, Lost, slot_after, queue_after}
+use Rattle.thp_live_pages.proofs.FreeChains.{free_chain_kept, not_free}
+use Rattle.thp_live_pages.proofs.Relinking.{edited_slot, taken}
 use Rattle.thp_node.specs.Chaining.{HasChain}
 
 -- another block stands as it did

@@ -21,8 +21,8 @@ use Rattle.thp_model.proofs.Kept.{frames_kept}
 use Rattle.thp_model.proofs.OnePlace.{times_flight, has_times, once_flies}
 use Rattle.thp_model.proofs.Sizes.{few_subpages}
 use Rattle.thp_model.proofs.Standing.{times, flying, pages, times-cons, flying-cons, first_has, legal_sound}
-use Rattle.thp_places.specs.Homes.{flier}
-use Rattle.thp_places.proofs.Starting.{few_events}
+use Rattle.thp_live_pages.specs.Homes.{flier}
+use Rattle.thp_live_pages.proofs.Starting.{few_events}
 use Rattle.thp_node.specs.Journals.{leaves_of, left_by, joins_of, one_for}
 
 -- each page had 512 frames at most to give back

@@ -13,17 +13,17 @@ use Rattle.thp_page.specs.Slots.{slot_at}
 use Rattle.thp_model.specs.declared.page_call.Done.{Done}
 use Rattle.thp_model.specs.declared.page_call.Loss.{Loss}
 use Rattle.thp_model.specs.declared.page_call.Loss.TheVariants as loss
-use Rattle.thp_places.specs.PlacesState.{PlacesState}
-use Rattle.thp_places.specs.Holding.{IsNode, Fills}
-use Rattle.thp_places.specs.Homes.{block_of, flier}
-use Rattle.thp_places.specs.FreeChains.{Relinks}
+use Rattle.thp_live_pages.specs.PlacesState.{PlacesState}
+use Rattle.thp_live_pages.specs.Holding.{IsNode, Fills}
+use Rattle.thp_live_pages.specs.Homes.{block_of, flier}
+use Rattle.thp_live_pages.specs.FreeChains.{Relinks}
 use Rattle.thp_node.specs.declared.journal.Unsaid.TheVariants.{FreedFrom}
 use Rattle.thp_node.specs.Chaining.{LostChained}
 use Rattle.thp_node.specs.Journals.{unsaid_of}
 use Rattle.thp_model.specs.PageCalls.{loss_call, loss_what}
-use Rattle.thp_places.proofs.Admitting.{Found, at_home}
-use Rattle.thp_places.proofs.Homing.{legal_homed}
-use Rattle.thp_places.proofs.PageEvents.{LossFits, loss_fits, loss_left, lost_node}
+use Rattle.thp_live_pages.proofs.Admitting.{Found, at_home}
+use Rattle.thp_live_pages.proofs.Homing.{legal_homed}
+use Rattle.thp_live_pages.proofs.PageEvents.{LossFits, loss_fits, loss_left, lost_node}
 
 -- a node whose links alone changed
 pub node_relinked : (s : Shape) (h : History) (old new : PlacesState) (n : ℕ) → Relinks old new n → IsNode s h old.table old.queue → IsNode s h new.table new.queue

@@ -22,7 +22,7 @@ use Rattle.thp_node.specs.declared.journal.Tally.{Tally}
 use Rattle.thp_node.specs.declared.journal.Unsaid.{Unsaid}
 use Rattle.thp_node.specs.Journals.{HasFlightRoom, IsJournal, leaves_of, unsaid_of, leaves_by, pmds_by, splits_as_underused, joins_of, one_for, frames_of, CanJoin, CanLeave, HasCountRoom, Counts}
 use Rattle.thp_node.proofs.JournalLemmas.{few_frames_given, flight_moves, leaves_one}
-use Rattle.thp_places.proofs.Starting.{few_events}
+use Rattle.thp_live_pages.proofs.Starting.{few_events}
 
 zeros : (n c : ℕ) → slice_index_or {A = ℕ} (replicate n 0) c 0 ≡ 0
 zeros zero c = refl

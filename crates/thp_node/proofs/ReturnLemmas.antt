@@ -22,21 +22,21 @@ use Rattle.thp_page.specs.declared.standing.Standing.TheVariants.{Nowhere, Queue
 use Rattle.thp_page.specs.Table.{Slot}
 use Rattle.thp_page.specs.Table.{Table}
 use Rattle.thp_page.specs.Slots.{slot_at}
-use Rattle.thp_places.specs.PlacesState.{PlacesState, Edits, AtSlot}
+use Rattle.thp_live_pages.specs.PlacesState.{PlacesState, Edits, AtSlot}
 use Rattle.thp_node.specs.Batches.{BatchState, IsInFront, back_reply}
 use Rattle.thp_node.specs.declared.answers.BackReply.{BackReply}
 use Rattle.thp_node.specs.Calls.{Did}
-use Rattle.thp_places.specs.Flying.{IsFlyingAt}
-use Rattle.thp_places.specs.Holding.{IsNode}
-use Rattle.thp_places.specs.Homes.{block_of, block_after}
+use Rattle.thp_live_pages.specs.Flying.{IsFlyingAt}
+use Rattle.thp_live_pages.specs.Holding.{IsNode}
+use Rattle.thp_live_pages.specs.Homes.{block_of, block_after}
 use Rattle.thp_node.specs.NodeState.{NodeState}
 use Rattle.thp_node.specs.Returning.{BeginsIn, return_first, OneBack}
-use Rattle.thp_places.proofs.Admitting.{Found, at_home}
+use Rattle.thp_live_pages.proofs.Admitting.{Found, at_home}
 use Rattle.thp_node.proofs.BatchRuns.{partly_there}
 use Rattle.thp_node.proofs.CallLemmas.{did_then}
-use Rattle.thp_places.proofs.Homing.{legal_homed, block_push}
-use Rattle.thp_places.proofs.ListEvents.{back_node, dropped_node}
-use Rattle.thp_places.proofs.Standings.{standing_flying}
+use Rattle.thp_live_pages.proofs.Homing.{legal_homed, block_push}
+use Rattle.thp_live_pages.proofs.ListEvents.{back_node, dropped_node}
+use Rattle.thp_live_pages.proofs.Standings.{standing_flying}
 
 abbrev pub the_reply : ℕ → ℕ → BackReply
 the_reply b d = record { back = b; dropped = d }

@@ -6,11 +6,11 @@ use Rattle.thp_model.specs.Counts.{is_live}
 use Rattle.thp_model.specs.Legal.{IsLegal}
 use Rattle.thp_page.specs.Slots.{HoldsPage}
 use Rattle.thp_page.specs.Table.{Slot, Table}
-use Rattle.thp_places.specs.Holding.{IsNode, HasBlock}
-use Rattle.thp_places.specs.Homes.{LiesWherePlaced}
+use Rattle.thp_live_pages.specs.Holding.{IsNode, HasBlock}
+use Rattle.thp_live_pages.specs.Homes.{LiesWherePlaced}
 use Rattle.thp_node.specs.NodeState.{NodeState}
-use Rattle.thp_places.proofs.Admitting.{Found, at_home}
-use Rattle.thp_places.proofs.Homing.{Homed, Lies, legal_homed, live_block}
+use Rattle.thp_live_pages.proofs.Admitting.{Found, at_home}
+use Rattle.thp_live_pages.proofs.Homing.{Homed, Lies, legal_homed, live_block}
 
 -- each live page stands in its block
 pub live_has_block : (s : Shape) (h : History) (t : Table) (q : List ℕ) → IsNode s h t q → (p : ℕ) → is_live h p ≡ true → HasBlock t p

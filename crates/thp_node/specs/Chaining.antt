@@ -5,8 +5,8 @@ use Rattle.thp_page.specs.Table.{Slot, Table}
 use Rattle.thp_page.specs.Slots.{slot_at}
 use Rattle.thp_model.specs.declared.page_call.Done.{Done}
 use Rattle.thp_model.specs.declared.page_call.Loss.{Loss}
-use Rattle.thp_places.specs.FreeChains.{IsFreeChain, Relinks}
-use Rattle.thp_places.specs.PlacesState.{PlacesState, Lost, Placed}
+use Rattle.thp_live_pages.specs.FreeChains.{IsFreeChain, Relinks}
+use Rattle.thp_live_pages.specs.PlacesState.{PlacesState, Lost, Placed}
 
 -- the chain has all blocks without a page, and no other
 pub record HasChain (t : Table) (f : List ℕ) : Type 0 where

@@ -15,7 +15,7 @@ use Rattle.thp_model.specs.Counters.{is_page_split, is_failed_try, queues, thp_s
 use Rattle.thp_model.specs.Frames.{frames_given}
 use Rattle.thp_model.specs.Places.{flights, flight}
 use Rattle.thp_model.specs.Legal.{IsLegal}
-use Rattle.thp_places.specs.Homes.{flier}
+use Rattle.thp_live_pages.specs.Homes.{flier}
 use Rattle.thp_node.specs.declared.answers.Counters.{Counters}
 use Rattle.thp_node.specs.declared.journal.Tally.{Tally}
 use Rattle.thp_node.specs.declared.journal.Unsaid.{Unsaid}

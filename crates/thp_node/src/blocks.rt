@@ -7,15 +7,15 @@ ghost use Rattle.thp_model.specs.Pages.{page_refusal, gives_frames, is_worth, Pa
 ghost use Rattle.thp_page.specs.Slots.{slot_at, HoldsPage};
 ghost use Rattle.thp_page.specs.Table.{Slot};
 ghost use Rattle.thp_model.specs.PageCalls.{gain_call, loss_call, page_call, Gains};
-ghost use Rattle.thp_places.specs.PlacesState.{AtSlot, Edits, TakesFirst, HasFree};
+ghost use Rattle.thp_live_pages.specs.PlacesState.{AtSlot, Edits, TakesFirst, HasFree};
 ghost use Rattle.thp_node.specs.Chaining.{LostChained, PlacesFresh};
 
 use std::alloc::{AllocError, Global};
 use std::marker::Model;
 use thp_links::{FreeChain, Queue};
+use thp_live_pages::Places;
 use thp_model::{Done, Gain, Loss, Outcome, PageCall, PageId, Refusal, Shape, SubSet};
 use thp_page::{PageTable, Standing};
-use thp_places::Places;
 
 // The pages of a node by block, with its queue, and the chain of its free blocks, which stands in the same links.
 //
@@ -27,7 +27,7 @@ pub(crate) struct Blocks {
 }
 
 impl Model for Blocks {
-    ghost use Rattle.thp_places.specs.PlacesState.{PlacesState};
+    ghost use Rattle.thp_live_pages.specs.PlacesState.{PlacesState};
     ghost use Rattle.thp_node.specs.Chaining.{HasChain};
 
     ghost Value = { PlacesState };

@@ -11,7 +11,7 @@
 //!
 //! For callers' proofs: `journal` ensures the laws of `specs/JournalLaws.antt`, which `proofs/JournalFacts` has for every legal
 //! history. What `put_back` requires of its batch is ensured by `take` and handed on by every call, clauses `front`, `fronts`
-//! and `older`; `proofs/Fronts` says the same of histories that grow. The pages with their places are `thp_places`'.
+//! and `older`; `proofs/Fronts` says the same of histories that grow. The pages with their places are `thp_live_pages`'.
 #![tactic(auto)]
 
 mod answers;

@@ -7,8 +7,8 @@ ghost use Rattle.thp_model.specs.Frames.{frames_given, frames_held};
 ghost use Rattle.thp_model.specs.Legal.{IsLegal};
 ghost use Rattle.thp_model.specs.Places.{queue};
 ghost use Rattle.thp_page.specs.Slots.{slot_at};
-ghost use Rattle.thp_places.specs.Holding.{Fills, HasBlock};
-ghost use Rattle.thp_places.specs.Homes.{block_of, LiesWherePlaced};
+ghost use Rattle.thp_live_pages.specs.Holding.{Fills, HasBlock};
+ghost use Rattle.thp_live_pages.specs.Homes.{block_of, LiesWherePlaced};
 ghost use Rattle.thp_node.specs.JournalLaws.{StandsOnce, StandsWhole, TakesOldest, LeavesFreedAlone, AllocatesOnce, NothingEnters, HasFramesOnce, KeepsFrames, HoldsWhileLive, LivesApart, OthersFree, FlightsGoOn, QueueGoesOn, NoneIsUnderused};
 ghost use Rattle.thp_node.specs.Journals.{counters_of};
 
@@ -39,7 +39,7 @@ pub struct Node {
 
 impl Model for Node {
     ghost use Rattle.thp_node.specs.NodeState.{NodeState};
-    ghost use Rattle.thp_places.specs.Holding.{IsNode};
+    ghost use Rattle.thp_live_pages.specs.Holding.{IsNode};
 
     ghost Value = { NodeState };
 

@@ -15,7 +15,7 @@ use Rattle.thp_model.specs.Sets.{set_size, sum_below, count_below}
 use Rattle.thp_model.specs.Shapes.{subpages}
 use Rattle.thp_model.proofs.Alike.{Alike, Blind, alike, count_alike, held_alike}
 use Rattle.thp_model.proofs.SumsBelow.{sum_below-ext}
-use Rattle.thp_journal.specs.Journals.{Journal}
+use Rattle.thp_journal_writer.specs.Journals.{Journal}
 use Rattle.thp_report.specs.Laws.{bare}
 use Rattle.thp_report.specs.Totals.{number_line, nine_lines, underused_line, totals_from, totals_text}
 

@@ -1,6 +1,6 @@
 -- What totals don't tell.
 use Rattle.std.specs.Prelude.{◌≡◌, List, map}
-use Rattle.thp_journal.specs.Journals.{Journal}
+use Rattle.thp_journal_writer.specs.Journals.{Journal}
 use Rattle.thp_model.specs.BlockLaws.{without_blocks}
 use Rattle.thp_report.specs.Totals.{totals_text}
 

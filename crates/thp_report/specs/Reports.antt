@@ -1,13 +1,13 @@
 -- The report of a run as text.
 use Rattle.std.specs.Prelude.{ℕ, List, map}
-use Rattle.thp_journal.specs.Journals.{Journal, journal_text}
+use Rattle.thp_journal_writer.specs.Journals.{Journal, journal_text}
 use Rattle.thp_model.specs.declared.shape.Shape.{Shape}
 use Rattle.thp_node.specs.NodeState.{NodeState}
 use Rattle.thp_report.specs.Answers.{answers_text}
 use Rattle.thp_report.specs.Totals.{totals_text}
 use Rattle.thp_text.specs.declared.settings.Report.{Report}
 use Rattle.thp_text.specs.declared.settings.Report.TheVariants as report
-use Rattle.thp_work.specs.declared.reply.Section.{Section}
+use Rattle.thp_sections.specs.declared.reply.Section.{Section}
 
 -- what reports tell of a node: its shape, and what happened on it
 abbrev pub told_of : NodeState → Journal

@@ -1,16 +1,16 @@
 //! The answers to commands as text.
 ghost use Rattle.std.specs.Prelude.{◌≡◌, ◌+◌, ◌++◌, ◌∷◌, [], OnOk, IfOk, codes, map};
 ghost use Rattle.std.specs.Fmt.{decimal};
-ghost use Rattle.thp_journal.specs.EventLines.{line_of};
-ghost use Rattle.thp_journal.specs.Journals.{ended};
+ghost use Rattle.thp_journal_writer.specs.EventLines.{line_of};
+ghost use Rattle.thp_journal_writer.specs.Journals.{ended};
 ghost use Rattle.thp_report.specs.Answers.{refusal_word, tried_words, back_words, scan_words, used_words, reply_words, looks, answer_line, section_text, answers_text as text_of};
 ghost use Rattle.thp_report.specs.Reports.{shape_of};
 
 use std::alloc::{AllocError, Global};
-use thp_journal::{put, put_number, put_outcome};
+use thp_journal_writer::{put, put_number, put_outcome};
 use thp_model::Refusal;
 use thp_node::{Node, ScanReply, Tried};
-use thp_work::{Answer, Reply, Section};
+use thp_sections::{Answer, Reply, Section};
 
 /// The answers of the sections, in order, a line for each.
 #[tactic(auto, unfolding(crate::specs::Answers::answers_text))]

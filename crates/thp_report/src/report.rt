@@ -1,15 +1,15 @@
 //! The report of a run.
 ghost use Rattle.std.specs.Prelude.{◌≡◌, IfOk, map};
-ghost use Rattle.thp_journal.specs.Journals.{journal_text as journals_told};
+ghost use Rattle.thp_journal_writer.specs.Journals.{journal_text as journals_told};
 ghost use Rattle.thp_report.specs.Reports.{told_of, report_of};
 
 use crate::answers::answers_text;
 use crate::totals::totals_text;
 use std::alloc::{AllocError, Global};
-use thp_journal::{NodeHistory, journal_text};
+use thp_journal_writer::{NodeHistory, journal_text};
 use thp_node::Node;
+use thp_sections::Section;
 use thp_text::{Report, Settings};
-use thp_work::Section;
 
 /// The report that the settings ask for, of nodes that are numbered from 0 on and of the answers to the sections' commands.
 ///

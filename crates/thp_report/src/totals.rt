@@ -6,7 +6,7 @@ ghost use Rattle.thp_report.specs.Reports.{told_of};
 
 use itoa::Buffer;
 use std::alloc::{AllocError, Global};
-use thp_journal::put;
+use thp_journal_writer::put;
 use thp_node::Node;
 
 /// The totals of the nodes, in order.

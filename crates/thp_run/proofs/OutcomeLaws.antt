@@ -2,7 +2,7 @@
 use Rattle.std.proofs.Common.{◌≡◌, ℕ, Bool, List, Option, Ok, Err, inl, inr}
 use Rattle.std.specs.Prelude.{Result}
 use Rattle.clap.specs.Words.{kind_of}
-use Rattle.thp_line.specs.declared.line.Line.{Line}
+use Rattle.thp_options.specs.declared.line.Line.{Line}
 use Rattle.thp_text.specs.declared.fault.TextKind.{TextKind}
 use Rattle.thp_run.specs.Outcomes.{ended_by, Answers, Device, Does, IsEndedAs, IsToldAs, Served, WasAnswered}
 use Rattle.thp_run.specs.declared.ending.ProgramFault.{ProgramFault}

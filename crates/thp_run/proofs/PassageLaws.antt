@@ -10,7 +10,7 @@ use Rattle.thp_text.specs.declared.settings.Settings.{Settings}
 use Rattle.thp_text.specs.Scripts.{Fault, TellsFault, script_of}
 use Rattle.thp_text.specs.declared.fault.TextKind.TheVariants.{TooLong}
 use Rattle.thp_text.proofs.ScriptLaws.{too_long}
-use Rattle.thp_read.specs.Journals.{journals_of}
+use Rattle.thp_journal_reader.specs.Journals.{journals_of}
 use Rattle.thp_run.specs.declared.fault.RunFault.{RunFault}
 use Rattle.thp_run.specs.declared.fault.RunFault.TheVariants.{Write}
 use Rattle.thp_run.specs.Devices.{IsInputOf, WritesFront}

@@ -1,7 +1,7 @@
 -- The settings that a command line asks for.
 use Rattle.std.specs.Prelude.{◌≡◌, ◌++◌, ℕ, List, drop, replicate, Option, Some, None, Result, Ok, Err}
 use Rattle.std.specs.Borrow.{Bor}
-use Rattle.thp_line.specs.declared.line.Line.{Line}
+use Rattle.thp_options.specs.declared.line.Line.{Line}
 use Rattle.thp_text.specs.declared.settings.Settings.{Settings}
 use Rattle.thp_text.specs.NumberLists.{orders_in, thresholds_in}
 use Rattle.thp_text.specs.Settings.{AreOrdersFor, AreThresholdsFor}

@@ -18,8 +18,8 @@ use Rattle.thp_run.specs.declared.ending.WordsFault.{WordsFault}
 use Rattle.thp_run.specs.declared.ending.WordsFault.TheVariants as words
 use Rattle.thp_run.specs.declared.fault.RunFault.{RunFault}
 use Rattle.thp_run.specs.declared.fault.RunFault.TheVariants.{Text, OutOfMemory, Read, Write}
-use Rattle.thp_line.specs.declared.line.Line.{Line}
-use Rattle.thp_line.specs.CommandLine.{FailsAsWords, HoldsWords}
+use Rattle.thp_options.specs.declared.line.Line.{Line}
+use Rattle.thp_options.specs.CommandLine.{FailsAsWords, HoldsWords}
 use Rattle.thp_run.specs.Choices.{HasBadOrders, HasOnlyBadThresholds, IsSettingsOf}
 use Rattle.thp_run.specs.Devices.{WritesFront}
 use Rattle.thp_run.specs.Programs.{RunEnds}

@@ -2,9 +2,9 @@
 use Rattle.std.specs.Prelude.{◌≡◌, ℕ, Bool, List, map, Option, Result, Ok, Err}
 use Rattle.thp_node.specs.NodeState.{NodeState}
 use Rattle.thp_report.specs.Reports.{report_of, told_of}
-use Rattle.thp_scripts.specs.NewNodes.{histories_of, shapes_of, AreNodesFor}
-use Rattle.thp_scripts.specs.Runs.{IsRun}
-use Rattle.thp_work.specs.declared.reply.Section.{Section}
+use Rattle.thp_script_runs.specs.NewNodes.{histories_of, shapes_of, AreNodesFor}
+use Rattle.thp_script_runs.specs.Runs.{IsRun}
+use Rattle.thp_sections.specs.declared.reply.Section.{Section}
 use Rattle.thp_text.specs.declared.script.Script.{Script}
 use Rattle.thp_text.specs.declared.settings.Settings.{Settings}
 use Rattle.thp_text.specs.Scripts.{script_of}

@@ -1,9 +1,9 @@
 -- What a check of a journal reads and writes.
 use Rattle.std.specs.Prelude.{◌≡◌, ◌++◌, ℕ, Bool, true, false, All, List, [], ◌∷◌, Option, Some, None, Result, Ok, Err, codes}
 use Rattle.std.specs.Fmt.{decimal}
-use Rattle.thp_read.specs.declared.journals.Journals.{Journals}
-use Rattle.thp_read.specs.Answers.{CanBeLegal, TellsIllegal}
-use Rattle.thp_read.specs.Journals.{journals_of}
+use Rattle.thp_journal_reader.specs.declared.journals.Journals.{Journals}
+use Rattle.thp_journal_reader.specs.Answers.{CanBeLegal, TellsIllegal}
+use Rattle.thp_journal_reader.specs.Journals.{journals_of}
 use Rattle.thp_run.specs.declared.fault.RunFault.{RunFault}
 use Rattle.thp_run.specs.Passages.{Ends}
 

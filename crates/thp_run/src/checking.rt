@@ -7,7 +7,7 @@ use crate::fault::RunFault;
 use crate::watched::Watched;
 use std::alloc::{AllocError, Global};
 use std::io::{Read, Write};
-use thp_read::check_journals;
+use thp_journal_reader::check_journals;
 
 /// The line that tells whether a journal is legal, by the line of its first illegal event.
 #[tactic(auto, unfolding(crate::specs::Verdicts::verdict_text))]

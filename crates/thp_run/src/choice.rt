@@ -1,10 +1,10 @@
 //! The settings that a command line asks for.
 ghost use Rattle.std.specs.Prelude.{◌≡◌, ◌++◌, IfSome, IfNone, None, drop, replicate};
-ghost use Rattle.thp_line.specs.CommandLine.{IsLineWithinLimits};
+ghost use Rattle.thp_options.specs.CommandLine.{IsLineWithinLimits};
 ghost use Rattle.thp_run.specs.Choices.{Chooses, HasBadOrders, HasBadThresholds, HasOrders, HasThresholds};
 
 use crate::ending::ProgramFault;
-use thp_line::Line;
+use thp_options::Line;
 use thp_text::{Settings, read_orders, read_underused};
 
 /// The line's numbers and report as settings.

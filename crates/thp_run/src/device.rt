@@ -3,8 +3,8 @@ ghost use Rattle.std.specs.Prelude.{◌≡◌, [], ℕ, List, true, false, IfSom
 ghost use Rattle.std.specs.Io.KnownBytes.{Appends};
 ghost use Rattle.thp_run.specs.Devices.{IsInputOf, WritesFront};
 ghost use Rattle.thp_run.specs.RunFaults.{IsReadingFault};
-ghost use Rattle.thp_read.specs.Journals.{journals_of};
-ghost use Rattle.thp_read.specs.Parts.{told_with};
+ghost use Rattle.thp_journal_reader.specs.Journals.{journals_of};
+ghost use Rattle.thp_journal_reader.specs.Parts.{told_with};
 ghost use Rattle.thp_text.specs.Parts.{spelled_with};
 ghost use Rattle.thp_text.specs.Scripts.{script_of};
 
@@ -12,7 +12,7 @@ use crate::fault::RunFault;
 use crate::watched::Watched;
 use std::alloc::Global;
 use std::io::{Read, Write};
-use thp_read::JournalReader;
+use thp_journal_reader::JournalReader;
 use thp_text::{MAX_INPUT, ScriptReader, Settings};
 
 /// How many bytes one read may give.

@@ -16,9 +16,9 @@ pub use ending::{Ending, ProgramFault, WordsFault};
 pub use fault::RunFault;
 pub use program::run_program;
 pub use running::run;
-pub use thp_line::{Line, read_line};
+pub use thp_options::{Line, read_line};
+pub use thp_sections::{Gate, NoGate};
 pub use thp_text::{
     Command, Op, ReadFault, Report, Script, Sequence, Settings, TextKind, read_script,
 };
-pub use thp_work::{Gate, NoGate};
 pub use watched::Watched;

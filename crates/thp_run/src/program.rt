@@ -1,7 +1,7 @@
 //! The program: from the words of its command line to its exit status.
 ghost use Rattle.std.specs.Prelude.{◌≡◌, IfOk, false, map, string_bytes};
 ghost use Rattle.clap.specs.Words.{kind_of};
-ghost use Rattle.thp_line.specs.CommandLine.{IsLineWithinLimits};
+ghost use Rattle.thp_options.specs.CommandLine.{IsLineWithinLimits};
 ghost use Rattle.thp_run.specs.Outcomes.{given_words, is_request, Answers, Does, Finishes, IsShown, Served};
 
 use crate::checking::check_run;
@@ -17,8 +17,8 @@ use clap::error::ErrorKind;
 use std::alloc::{AllocError, Global};
 use std::io::{Read, Write};
 use std::thread::Threads;
-use thp_line::{Line, read_line};
-use thp_work::NoGate;
+use thp_options::{Line, read_line};
+use thp_sections::NoGate;
 
 /// The words as texts.
 fn texts_of<'a>(alloc: Global, words: &'a [String]) -> Result<Vec<&'a str>, AllocError>

@@ -10,9 +10,9 @@ use std::alloc::{AllocError, Global};
 use std::io::{Read, Write};
 use std::thread::Threads;
 use thp_report::report_text;
-use thp_scripts::run_script;
+use thp_script_runs::run_script;
+use thp_sections::Gate;
 use thp_text::{Script, Settings};
-use thp_work::Gate;
 
 /// The report of a run of the script.
 fn report_of<T: Threads + Sync, G: Gate + Sync>(

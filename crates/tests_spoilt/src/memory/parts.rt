@@ -3,14 +3,14 @@ use crate::memory::devices::tell;
 use crate::memory::runs::{JOURNAL, SCRIPT};
 use std::alloc::Global;
 use std::process::Abort;
-use thp_blocks::LeastBlocks;
 use thp_check::{CheckFault, check};
-use thp_journal::{NodeHistory, journal_text};
-use thp_line::read_line;
+use thp_journal_reader::{check_text, read_journal};
+use thp_journal_writer::{NodeHistory, journal_text};
+use thp_least_blocks::LeastBlocks;
+use thp_live_pages::Places;
 use thp_model::{Event, PageId, Shape, What};
+use thp_options::read_line;
 use thp_page::PageTable;
-use thp_places::Places;
-use thp_read::{check_text, read_journal};
 use thp_text::{ReadFault, Report, Settings, read_script};
 
 const SHAPE: Shape = Shape {

@@ -9,7 +9,7 @@ ghost use Rattle.thp_model.specs.Refusals as call;
 ghost use Rattle.thp_model.specs.Runs.{take_events, split_next_events, put_back_events, scan_events, next_page, rest_after, still_flying, try_event, return_event};
 ghost use Rattle.thp_node.specs.Batches.{rest, tried, IsInFront, FrontsStay, OtherFrontsStay, OlderAreInFront};
 ghost use Rattle.thp_node.specs.Calls.{Did, Refused};
-ghost use Rattle.thp_places.specs.Homes.{block_of};
+ghost use Rattle.thp_live_pages.specs.Homes.{block_of};
 
 use crate::answers::{BackReply, ScanReply, Tried};
 use crate::batch::Batch;
@@ -21,8 +21,8 @@ impl Node {
     ghost use Rattle.thp_model.specs.Pages.{is_worth};
     ghost use Rattle.thp_model.specs.Underused.{is_worth_split};
     ghost use Rattle.thp_page.specs.Slots.{slot_at};
-    ghost use Rattle.thp_places.specs.Flying.{IsFlyingAt, IsUnpinnedAt};
-    ghost use Rattle.thp_places.specs.PlacesState.{AtSlot};
+    ghost use Rattle.thp_live_pages.specs.Flying.{IsFlyingAt, IsUnpinnedAt};
+    ghost use Rattle.thp_live_pages.specs.PlacesState.{AtSlot};
 
     /// Takes up to `n` pages, the oldest of the queue in order, into a batch of the caller. Refused as `HasBatch`.
     pub fn take(&mut self, caller: u32, n: u32) -> Result<Batch, Refusal>

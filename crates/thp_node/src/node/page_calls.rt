@@ -6,7 +6,7 @@ ghost use Rattle.thp_model.specs.Refusals.{refusal};
 ghost use Rattle.thp_model.specs.Refusals as call;
 ghost use Rattle.thp_node.specs.Batches.{FrontsStay};
 ghost use Rattle.thp_node.specs.Calls.{Did, Refused};
-ghost use Rattle.thp_places.specs.Homes.{block_of};
+ghost use Rattle.thp_live_pages.specs.Homes.{block_of};
 ghost use Rattle.thp_model.specs.PageCalls.{gain_call, loss_call, page_call, gain_what, loss_what};
 
 use crate::journal::Unsaid;

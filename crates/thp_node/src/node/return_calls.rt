@@ -7,7 +7,7 @@ ghost use Rattle.thp_model.specs.Refusals as call;
 ghost use Rattle.thp_model.specs.Runs.{take_events, put_back_events, scan_events, still_flying, try_event, return_event, goes_back};
 ghost use Rattle.thp_node.specs.Batches.{back_reply, scan_reply, IsInFront, FrontsStay};
 ghost use Rattle.thp_node.specs.Calls.{Did, Refused};
-ghost use Rattle.thp_places.specs.Homes.{block_of};
+ghost use Rattle.thp_live_pages.specs.Homes.{block_of};
 ghost use Rattle.thp_node.specs.Scanning.{used_count};
 
 use crate::answers::{BackReply, ScanReply, Tried};
@@ -18,7 +18,7 @@ use arrayvec::ArrayVec;
 use thp_model::{PageId, Refusal, What};
 
 impl Node {
-    ghost use Rattle.thp_places.specs.Flying.{IsFlyingAt};
+    ghost use Rattle.thp_live_pages.specs.Flying.{IsFlyingAt};
     ghost use Rattle.thp_node.specs.Returning.{BeginsIn, return_first, OneBack};
     ghost use Rattle.thp_node.specs.Scanning.{events_behind, is_used};
 

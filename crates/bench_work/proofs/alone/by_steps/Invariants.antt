@@ -1,4 +1,4 @@
-use Rattle.thp_work.specs.Passes.{fronts_in}
+use Rattle.thp_sections.specs.Passes.{fronts_in}
 use Rattle.bench_work.specs.Ready.{OfTwo}
 use Rattle.bench_work.proofs.alone.by_steps.Given as goal
 

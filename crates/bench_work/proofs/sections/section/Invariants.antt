@@ -1,6 +1,6 @@
 use Rattle.std.proofs.Common.{◌≡◌, ◌+◌, length}
 use Rattle.std.specs.Prelude.{All}
-use Rattle.thp_work.specs.Sections.{IsCommandFor}
+use Rattle.thp_sections.specs.Sections.{IsCommandFor}
 use Rattle.bench_work.proofs.sections.section.Given as goal
 
 abbrev pub invariant-loop-round : goal.invariant-loop-round

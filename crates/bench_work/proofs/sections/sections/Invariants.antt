@@ -1,6 +1,6 @@
 use Rattle.std.proofs.Common.{◌≡◌, length}
 use Rattle.std.specs.Prelude.{All}
-use Rattle.thp_work.specs.Halves.{IsSection}
+use Rattle.thp_sections.specs.Halves.{IsSection}
 use Rattle.bench_work.proofs.sections.sections.Given as goal
 
 abbrev pub invariant-loop-worker : goal.invariant-loop-worker

@@ -1,4 +1,4 @@
-use Rattle.thp_work.specs.Passes.{fronts_in}
+use Rattle.thp_sections.specs.Passes.{fronts_in}
 use Rattle.tests_work.specs.Sharing.{shared}
 use Rattle.tests_work.proofs.SharingLaws.{works_inside}
 use Rattle.tests_work.proofs.sections.begin.Goals as goal

@@ -1,6 +1,6 @@
 use Rattle.std.proofs.Common.{◌≡◌, ◌∙◌, ap, refl, sym, Err, Ok}
 use Rattle.std.proofs.lemmas.Result.{err_from_is_err_and}
-use Rattle.thp_read.specs.Journals.{journals_of}
+use Rattle.thp_journal_reader.specs.Journals.{journals_of}
 use Rattle.thp_run.proofs.PassageLaws.{check_ends_cut, check_ends_early, check_ends_written, cut_from, legal_is}
 use Rattle.thp_run.proofs.checking.check_run.Goals as goal
 

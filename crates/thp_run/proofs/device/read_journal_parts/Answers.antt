@@ -1,7 +1,7 @@
 use Rattle.std.proofs.Common.{◌∙◌, ◌++◌, [], ap, arith, refl, rules, take}
 use Rattle.std.proofs.lemmas.List.{append-nil, length-append, length-take-le}
-use Rattle.thp_read.specs.Parts.{told_with}
-use Rattle.thp_read.specs.Journals.{journals_of}
+use Rattle.thp_journal_reader.specs.Parts.{told_with}
+use Rattle.thp_journal_reader.specs.Journals.{journals_of}
 use Rattle.thp_run.proofs.DeviceLaws.{goes_on, read_all, read_beyond, read_more}
 use Rattle.thp_run.proofs.device.read_journal_parts.Goals as goal
 

@@ -1,7 +1,7 @@
 use Rattle.std.proofs.Common.{◌≡◌, ◌++◌, ◌-◌, ℕ, List, length, false}
 use Rattle.std.specs.Io.KnownBytes.{Consumes}
-use Rattle.thp_read.specs.Journals.{journals_of}
-use Rattle.thp_read.specs.Parts.{told_with}
+use Rattle.thp_journal_reader.specs.Journals.{journals_of}
+use Rattle.thp_journal_reader.specs.Parts.{told_with}
 use Rattle.thp_run.proofs.device.read_journal_parts.Given as goal
 
 abbrev pub decreases-loop-given : goal.decreases-loop-given

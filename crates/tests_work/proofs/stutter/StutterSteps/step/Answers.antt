@@ -1,5 +1,5 @@
-use Rattle.thp_work.specs.Does.{answer_of}
-use Rattle.thp_work.specs.Passes.{fronts_in}
+use Rattle.thp_sections.specs.Does.{answer_of}
+use Rattle.thp_sections.specs.Passes.{fronts_in}
 use Rattle.tests_work.proofs.SharingLaws.{step_shared}
 use Rattle.tests_work.proofs.stutter.StutterSteps.step.Goals as goal
 

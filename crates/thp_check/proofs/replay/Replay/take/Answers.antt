@@ -1,5 +1,5 @@
 use Rattle.std.proofs.Common.{ℕ, List, length, refl, ap, sym, ◌∙◌, subst}
-use Rattle.thp_places.specs.PlacesState.{TakesFirst}
+use Rattle.thp_live_pages.specs.PlacesState.{TakesFirst}
 use Rattle.thp_check.proofs.TakeSteps.{take_goes, take_other, take_none, take_absent, oldest_apart}
 use Rattle.thp_check.proofs.Deciding.{unequal, equal}
 use Rattle.thp_check.proofs.replay.Replay.take.Goals as goal

@@ -1,5 +1,5 @@
 use Rattle.std.proofs.Common.{sym, ◌∙◌, subst}
-use Rattle.thp_places.specs.PlacesState.{PlacesState, HasFree}
+use Rattle.thp_live_pages.specs.PlacesState.{PlacesState, HasFree}
 use Rattle.thp_node.proofs.ChainLemmas.{chain_some}
 use Rattle.thp_node.proofs.blocks.Blocks.has_free.Goals as goal
 

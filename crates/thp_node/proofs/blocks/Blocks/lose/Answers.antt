@@ -1,7 +1,7 @@
 use Rattle.std.proofs.Common.{None, length, ap, arith, length-set}
 use Rattle.thp_page.proofs.TableSlots.{slot_at-inside}
-use Rattle.thp_places.proofs.FreeChains.{free_chain_kept, not_free}
-use Rattle.thp_places.proofs.Relinking.{edited_slot}
+use Rattle.thp_live_pages.proofs.FreeChains.{free_chain_kept, not_free}
+use Rattle.thp_live_pages.proofs.Relinking.{edited_slot}
 use Rattle.thp_node.proofs.ChainLemmas.{chain_stays, chain_pushed, freed_there, loss_keeps}
 use Rattle.thp_node.proofs.blocks.Blocks.lose.Goals as goal
 

@@ -1,6 +1,6 @@
 use Rattle.std.proofs.Common.{◌≡◌, ℕ, ◌<◌, ◌≤◌}
 use Rattle.std.specs.List.{Contains}
-use Rattle.thp_places.specs.FreeChains.{IsFreeChain}
+use Rattle.thp_live_pages.specs.FreeChains.{IsFreeChain}
 use Rattle.thp_node.proofs.blocks.Blocks.new.Given as goal
 
 -- the chain has the blocks from `block` on

@@ -4,7 +4,7 @@ use Rattle.thp_node.specs.NodeState.{NodeState}
 use Rattle.thp_node.specs.contracts.node.Node.{the_view}
 use Rattle.thp_node.specs.Journals.{JournalState}
 use Rattle.thp_model.specs.PageCalls.{page_call}
-use Rattle.thp_places.proofs.Admitting.{Found, found, refused_gone_page, refused_by_page}
+use Rattle.thp_live_pages.proofs.Admitting.{Found, found, refused_gone_page, refused_by_page}
 use Rattle.thp_node.proofs.node.Node.admit.Goals as goal
 use Rattle.thp_node.proofs.node.Node.admit.Goals.{in-Ok, in-Err}
 

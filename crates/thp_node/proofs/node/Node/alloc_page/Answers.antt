@@ -10,13 +10,13 @@ use Rattle.thp_model.specs.Refusals as call
 use Rattle.thp_model.specs.Underused.{shrinks_underused}
 use Rattle.thp_page.specs.Slots.{slot_at}
 use Rattle.thp_node.specs.contracts.node.Node.{the_view}
-use Rattle.thp_places.specs.PlacesState.{HasFree}
-use Rattle.thp_places.specs.Holding.{IsNode}
+use Rattle.thp_live_pages.specs.PlacesState.{HasFree}
+use Rattle.thp_live_pages.specs.Holding.{IsNode}
 use Rattle.thp_node.specs.Journals.{JournalState}
 use Rattle.thp_node.specs.NodeState.{NodeState}
-use Rattle.thp_places.proofs.Closing.{refused_alloc, refused_full, allowed_alloc, next_is_new}
-use Rattle.thp_places.proofs.Homing.{legal_homed}
-use Rattle.thp_places.proofs.ListEvents.{placed_fits, placed_node}
+use Rattle.thp_live_pages.proofs.Closing.{refused_alloc, refused_full, allowed_alloc, next_is_new}
+use Rattle.thp_live_pages.proofs.Homing.{legal_homed}
+use Rattle.thp_live_pages.proofs.ListEvents.{placed_fits, placed_node}
 use Rattle.thp_node.proofs.Losing.{node_relinked}
 use Rattle.thp_node.proofs.Fronts.{fronts_same, fronts_grown}
 use Rattle.thp_node.proofs.node.Node.alloc_page.Goals as goal

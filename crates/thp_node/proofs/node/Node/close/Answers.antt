@@ -5,11 +5,11 @@ use Rattle.thp_model.specs.History.{History, by}
 use Rattle.thp_model.specs.Refusals.{refusal}
 use Rattle.thp_model.specs.Refusals as call
 use Rattle.thp_node.specs.contracts.node.Node.{the_view}
-use Rattle.thp_places.specs.Holding.{IsNode}
+use Rattle.thp_live_pages.specs.Holding.{IsNode}
 use Rattle.thp_node.specs.Journals.{JournalState}
 use Rattle.thp_node.specs.NodeState.{NodeState}
-use Rattle.thp_places.proofs.Closing.{refused_close, allowed_close}
-use Rattle.thp_places.proofs.ListEvents.{closed_node}
+use Rattle.thp_live_pages.proofs.Closing.{refused_close, allowed_close}
+use Rattle.thp_live_pages.proofs.ListEvents.{closed_node}
 use Rattle.thp_node.proofs.Fronts.{fronts_same, fronts_grown}
 use Rattle.thp_node.proofs.node.Node.close.Goals as goal
 

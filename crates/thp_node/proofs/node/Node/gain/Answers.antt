@@ -3,13 +3,13 @@ use Rattle.thp_model.specs.declared.shape.Shape.{Shape}
 use Rattle.thp_model.specs.History.{History, by}
 use Rattle.thp_model.specs.Refusals.{refusal}
 use Rattle.thp_model.specs.declared.page_call.PageCall.TheVariants as either
-use Rattle.thp_places.specs.Holding.{IsNode}
-use Rattle.thp_places.specs.Homes.{block_of}
+use Rattle.thp_live_pages.specs.Holding.{IsNode}
+use Rattle.thp_live_pages.specs.Homes.{block_of}
 use Rattle.thp_node.specs.NodeState.{NodeState}
 use Rattle.thp_model.specs.PageCalls.{gain_call, gain_what}
-use Rattle.thp_places.proofs.Admitting.{Found, at_home, ready}
+use Rattle.thp_live_pages.proofs.Admitting.{Found, at_home, ready}
 use Rattle.thp_node.proofs.CallLemmas.{did_one}
-use Rattle.thp_places.proofs.PageEvents.{gained}
+use Rattle.thp_live_pages.proofs.PageEvents.{gained}
 use Rattle.thp_node.proofs.Fronts.{fronts_same, fronts_grown, gain_takes_none}
 use Rattle.thp_node.proofs.node.Node.gain.Goals as goal
 

@@ -6,12 +6,12 @@ use Rattle.thp_model.specs.Frames.{outcome, released}
 use Rattle.thp_model.specs.Legal.{Fits}
 use Rattle.thp_model.specs.Refusals.{refusal}
 use Rattle.thp_model.specs.declared.page_call.PageCall.TheVariants as either
-use Rattle.thp_places.specs.Holding.{IsNode}
-use Rattle.thp_places.specs.Homes.{block_of}
+use Rattle.thp_live_pages.specs.Holding.{IsNode}
+use Rattle.thp_live_pages.specs.Homes.{block_of}
 use Rattle.thp_node.specs.Journals.{unsaid_of}
 use Rattle.thp_node.specs.NodeState.{NodeState}
 use Rattle.thp_model.specs.PageCalls.{loss_call, loss_what}
-use Rattle.thp_places.proofs.Admitting.{ready}
+use Rattle.thp_live_pages.proofs.Admitting.{ready}
 use Rattle.thp_node.proofs.CallLemmas.{did_one}
 use Rattle.thp_node.proofs.Losing.{Losing, losing}
 use Rattle.thp_node.proofs.Fronts.{fronts_same, fronts_grown, loss_takes_none}

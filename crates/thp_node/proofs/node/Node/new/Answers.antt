@@ -1,8 +1,8 @@
 use Rattle.std.proofs.Common.{[], sym, subst}
 use Rattle.thp_model.specs.declared.shape.Shape.{Shape}
 use Rattle.thp_model.specs.History.{History}
-use Rattle.thp_places.specs.Holding.{IsNode}
-use Rattle.thp_places.proofs.Starting.{node_none}
+use Rattle.thp_live_pages.specs.Holding.{IsNode}
+use Rattle.thp_live_pages.proofs.Starting.{node_none}
 use Rattle.thp_node.proofs.node.Node.new.Goals as goal
 
 pub invariant_of-result : goal.invariant_of-result

@@ -4,7 +4,7 @@ use Rattle.thp_model.specs.declared.events.What.TheVariants as what
 use Rattle.thp_model.specs.History.{by}
 use Rattle.thp_model.specs.Places.{flight}
 use Rattle.thp_model.specs.Runs.{goes_back}
-use Rattle.thp_places.specs.Flying.{IsFlyingAt}
+use Rattle.thp_live_pages.specs.Flying.{IsFlyingAt}
 use Rattle.thp_node.specs.NodeState.{NodeState}
 use Rattle.thp_node.proofs.CallLemmas.{did_one}
 use Rattle.thp_node.proofs.ReturnLemmas.{back_all, dropped_all, back_may, drop_may, goes_back_told, did_return}

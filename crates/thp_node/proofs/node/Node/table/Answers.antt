@@ -1,5 +1,5 @@
 use Rattle.std.proofs.Common.{ap}
-use Rattle.thp_places.specs.Holding.{IsNode}
+use Rattle.thp_live_pages.specs.Holding.{IsNode}
 use Rattle.thp_node.specs.NodeState.{NodeState}
 use Rattle.thp_node.proofs.TableFacts.{live_has_block, lies_where_placed, node_seen}
 use Rattle.thp_node.proofs.node.Node.table.Goals as goal

@@ -6,8 +6,8 @@ use Rattle.thp_model.specs.Legal.{FitsTaken}
 use Rattle.thp_model.specs.Places.{queue, flight, no_pages, is_taking}
 use Rattle.thp_node.specs.NodeState.{NodeState}
 use Rattle.thp_node.proofs.BatchRuns.{node_recorded}
-use Rattle.thp_places.proofs.Homing.{legal_homed}
-use Rattle.thp_places.proofs.ListEvents.{first_is, taken_fits, taken_node}
+use Rattle.thp_live_pages.proofs.Homing.{legal_homed}
+use Rattle.thp_live_pages.proofs.ListEvents.{first_is, taken_fits, taken_node}
 use Rattle.thp_node.proofs.node.Node.take_one.Goals as goal
 
 pub record-requires-clause-fits : goal.record-requires-clause-fits

@@ -1,7 +1,0 @@
--- The histories of nodes as the journals that a text tells.
-use Rattle.thp_journal.specs.declared.node_history.NodeHistory.{NodeHistory}
-use Rattle.thp_journal.specs.Journals.{Journal}
-
--- the node's shape and events
-abbrev pub journal_of : NodeHistory → Journal
-journal_of node = (node.shape, node.events.now)

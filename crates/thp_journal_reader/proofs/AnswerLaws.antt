@@ -1,0 +1,126 @@
+-- What the check of a journal text answers, node by node, and that no choice of blocks is wronged by it.
+use Rattle.std.proofs.Common.{◌≡◌, ℕ, ◌+◌, ◌<◌, Bool, true, false, cond, List, [], ◌∷◌, length, get_or, Option, Some, None, Result, Ok, Err, refl, sym, ap, subst, ◌∙◌, arith, inl, inr}
+use Rattle.std.specs.Prelude.{All, slice_get, nat_lt}
+use Rattle.std.proofs.lemmas.Bool.{cases_lt}
+use Rattle.std.proofs.lemmas.List.Elements.{All-cons, All-nil}
+use Rattle.std.proofs.lemmas.Option.{slice_get_within, slice_get-get_or}
+use Rattle.thp_model.specs.declared.shape.Shape.{Shape}
+use Rattle.thp_model.specs.BlockLaws.{with_least_blocks, without_blocks}
+use Rattle.thp_model.specs.History.{History}
+use Rattle.thp_model.specs.Legal.{IsLegal, IsFirstMisfit}
+use Rattle.thp_model.proofs.LeastBlocks.{least_is_legal, least_same}
+use Rattle.thp_text.specs.declared.fault.TextKind.TheVariants.{TooLong}
+use Rattle.thp_text.specs.Readings.{◌>>=◌}
+use Rattle.thp_text.specs.Scripts.{Fault}
+use Rattle.thp_text.specs.Words.{Text, lines_of}
+use Rattle.thp_journal_reader.specs.declared.journals.Journals.{Journals}
+use Rattle.thp_journal_reader.specs.declared.journals.NodeJournal.{NodeJournal}
+use Rattle.thp_journal_reader.specs.declared.line.Line.{Line}
+use Rattle.thp_journal_reader.specs.declared.line.Line.TheVariants.{Head, Node, Happened, End}
+use Rattle.thp_journal_reader.specs.declared.place.Place.TheVariants.{Start}
+use Rattle.thp_journal_reader.specs.Answers.{AreLegalBefore, CanBeLegal, IsFirstIllegal, IsFirstIllegalLine, IsLegalNode, TellsIllegal}
+use Rattle.thp_journal_reader.specs.Journals.{events_of, journals_of, journals_with, lines_from, node_journal, nodes_of}
+
+-- the first misfit is one of the events
+pub misfit_inside : (shape : Shape) (h : History) (place : ℕ) → IsFirstMisfit shape h place → place < length h
+misfit_inside shape h place first = slice_get_within h place first.misfit.0 first.misfit.1
+
+-- ---- node by node
+
+-- before the first node nothing is illegal
+pub legal_none : (nodes : List NodeJournal) → AreLegalBefore 0 nodes
+legal_none nodes = λ k node lt here. absurd (omega arith)
+
+-- and one more legal node leaves it so
+pub legal_more : (nodes : List NodeJournal) (place : ℕ) (node : NodeJournal) → place < length nodes → node ≡ get_or nodes place node → AreLegalBefore place nodes → IsLegalNode node → AreLegalBefore (place + 1) nodes
+legal_more nodes place node inside is before legal = λ k other lt here.
+    elim (cases_lt k place) [
+      | inl earlier ↦ before k other earlier here
+      | inr later ↦
+          let at : k ≡ place = omega arith in
+          let there : slice_get nodes place ≡ Some node = slice_get-get_or nodes place node inside ∙ ap (λ (n : NodeJournal). Some n) (sym is) in
+          let there-too : slice_get nodes place ≡ Some other = ap (λ (j : ℕ). slice_get nodes j) (sym at) ∙ here in
+          let same : node ≡ other = cc in
+          let P : NodeJournal → Type 0 = λ n. IsLegalNode n in
+          subst P same legal
+    ]
+
+pub illegal_here : (nodes : List NodeJournal) (place : ℕ) (node : NodeJournal) (line : ℕ) → place < length nodes → node ≡ get_or nodes place node → AreLegalBefore place nodes → IsFirstIllegal node line → IsFirstIllegalLine nodes line
+illegal_here nodes place node line inside is before first = record {
+  place = place;
+  node = node;
+  here = slice_get-get_or nodes place node inside ∙ ap (λ (n : NodeJournal). Some n) (sym is);
+  legal_before = before;
+  first = first;
+}
+
+-- ---- any choice of blocks
+
+-- the node's blocks are the least ones
+abbrev HasLeastBlocks : NodeJournal → Type 0
+HasLeastBlocks node = (h : History) × (node.events ≡ with_least_blocks node.shape h)
+
+each_least : (number : ℕ) (lines : List Line) → All HasLeastBlocks (nodes_of number lines)
+each_least number [] = All-nil HasLeastBlocks
+each_least number (Head version ∷ lines) = each_least (number + 1) lines
+each_least number (Happened event ∷ lines) = each_least (number + 1) lines
+each_least number (End ∷ lines) = each_least (number + 1) lines
+each_least number (Node n shape ∷ lines) =
+    All-cons HasLeastBlocks (node_journal (number + 1) shape (events_of lines)) (nodes_of (number + 1) lines) (events_of lines, refl) (each_least (number + 1) lines)
+
+all_least : (lines : List Line) → All HasLeastBlocks (journals_with lines).nodes
+unfolding journals_with
+all_least lines = each_least 1 lines
+
+-- what is read, where nothing is at fault, is told by lines
+abbrev no_journals : Fault → Result Journals Fault
+no_journals fault = Err fault
+
+lines_read : (long : Bool) (fault : Fault) (read : Result (List Line) Fault) (journals : Journals) → cond long (no_journals fault) (read >>= λ lines. Ok (journals_with lines)) ≡ Ok journals → (lines : List Line) × (journals_with lines ≡ journals)
+lines_read true fault read journals e = absurd cc
+lines_read false fault (Ok lines) journals e = let same : journals_with lines ≡ journals = cc in (lines, same)
+lines_read false fault (Err other) journals e = absurd cc
+
+lines_of_journals : (text : Text) (journals : Journals) → journals_of text ≡ Ok journals → (lines : List Line) × (journals_with lines ≡ journals)
+unfolding journals_of
+lines_of_journals text journals e = lines_read (nat_lt 16777216 (length text)) (0, TooLong) (lines_from 1 Start (lines_of text)) journals e
+
+least_read : (text : Text) (journals : Journals) → journals_of text ≡ Ok journals → All HasLeastBlocks journals.nodes
+least_read text journals e =
+    let told = lines_of_journals text journals e in
+    let P : Journals → Type 0 = λ js. All HasLeastBlocks js.nodes in
+    subst P told.1 (all_least told.0)
+
+-- where some choice of blocks is legal, the least blocks are
+legal_if_any : (node : NodeJournal) → HasLeastBlocks node → CanBeLegal node → IsLegalNode node
+legal_if_any node least can =
+    let same : without_blocks least.0 ≡ without_blocks can.0 = least_same node.shape least.0 ∙ ap without_blocks (sym least.1) ∙ can.1 in
+    let L : History → Type 0 = λ h. IsLegal node.shape h in
+    subst L (sym least.1) (least_is_legal node.shape least.0 can.0 same can.2)
+
+-- a legal history has no misfit
+misfit_is_illegal : (shape : Shape) (h : History) (place : ℕ) → IsFirstMisfit shape h place → IsLegal shape h → ⊥
+misfit_is_illegal shape h place first legal = first.misfit.2 (legal.each place first.misfit.0 first.misfit.1)
+
+-- an element that was found has what all have
+found_has : (P : NodeJournal → Type 0) (nodes : List NodeJournal) (place : ℕ) (node : NodeJournal) → slice_get nodes place ≡ Some node → All P nodes → P node
+found_has P nodes place node here all =
+    let inside : place < length nodes = slice_get_within nodes place node here in
+    let there : slice_get nodes place ≡ Some (get_or nodes place node) = slice_get-get_or nodes place node inside in
+    let same : get_or nodes place node ≡ node = cc in
+    subst P same (all place node inside)
+
+none_wronged : (nodes : List NodeJournal) (line : Option ℕ) → All HasLeastBlocks nodes → TellsIllegal nodes line → All CanBeLegal nodes → line ≡ None
+none_wronged nodes None least told can = refl
+none_wronged nodes (Some line) least told can =
+    let node = told.node in
+    let legal : IsLegalNode node =
+    legal_if_any node (found_has (λ n. HasLeastBlocks n) nodes told.place node told.here least) (found_has (λ n. CanBeLegal n) nodes told.place node told.here can) in
+    absurd (misfit_is_illegal node.shape node.events told.first.place told.first.misfit legal)
+
+-- the answer to a text is no line where some choice of blocks is legal
+pub free_choice : (text : Text) (journals : Journals) (line : Option ℕ) → journals_of text ≡ Ok journals → TellsIllegal journals.nodes line → (others : Journals) → journals_of text ≡ Ok others → All CanBeLegal others.nodes → line ≡ None
+free_choice text journals line read told others read-too can =
+    let same : others ≡ journals = cc in
+    let P : Journals → Type 0 = λ js. All CanBeLegal js.nodes in
+    none_wronged journals.nodes line (least_read text journals read) told (subst P same can)

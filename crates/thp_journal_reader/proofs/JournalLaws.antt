@@ -1,0 +1,53 @@
+-- The lines of a journal one by one: what the first says, with what the others say, is what all say.
+use Rattle.std.proofs.Common.{◌≡◌, ℕ, ◌+◌, List, [], ◌∷◌, ◌++◌, Option, Some, None, Result, Ok, Err, refl}
+use Rattle.thp_text.specs.declared.fault.TextKind.{TextKind}
+use Rattle.thp_text.specs.declared.fault.TextKind.TheVariants.{Cut}
+use Rattle.thp_text.specs.Lines.{fault_behind}
+use Rattle.thp_text.specs.Readings.{◌>>=◌}
+use Rattle.thp_text.specs.Scripts.{Fault}
+use Rattle.thp_text.specs.Words.{Text, lines_of}
+use Rattle.thp_text.proofs.PieceLaws.{has_first}
+use Rattle.thp_journal_reader.specs.declared.line.Line.{Line}
+use Rattle.thp_journal_reader.specs.declared.place.Place.{Place}
+use Rattle.thp_journal_reader.specs.declared.place.Place.TheVariants.{Start, Inside, Ended}
+use Rattle.thp_journal_reader.specs.JournalLines.{line_in, place_after}
+use Rattle.thp_journal_reader.specs.Journals.{end_of_text, lines_from}
+use Rattle.thp_journal_reader.specs.Reading.{fault_at}
+
+abbrev pub Read : Type 0
+Read = Result (List Line) Fault
+
+-- the lines read before, in front of those that are still read
+abbrev pub behind : List Line → Read → Read
+behind before read = read >>= λ lines. Ok (before ++ lines)
+
+-- the first line of what is left, where it says something in its place, where it is a fault, and where it is the end
+pub line_says : (n : ℕ) (place : Place) (texts : List Text) (text after : Text) (line : Line) → texts ≡ text ∷ lines_of after → Ok line ≡ line_in place text
+    → lines_from n place texts ≡ behind (line ∷ []) (lines_from (n + 1) (place_after place line) (lines_of after))
+unfolding lines_from
+line_says n place texts text after line e says = let f = has_first 10 after in rw (e, f.2, ← says) refl
+
+pub line_fails : (n : ℕ) (place : Place) (texts : List Text) (text after : Text) (kind : TextKind) → texts ≡ text ∷ lines_of after → Err kind ≡ line_in place text → lines_from n place texts ≡ Err (n, kind)
+unfolding lines_from
+line_fails n place texts text after kind e says = let f = has_first 10 after in rw (e, f.2, ← says) refl
+
+pub line_ends : (n : ℕ) (place : Place) (texts : List Text) (text : Text) → texts ≡ text ∷ [] → lines_from n place texts ≡ end_of_text n place (fault_behind text)
+unfolding lines_from
+line_ends n place texts text e = rw e refl
+
+-- ---- the end of the text
+
+pub ends_none : (n : ℕ) (place : Place) (o : Option TextKind) → None ≡ fault_at o place → end_of_text n place o ≡ Ok []
+ends_none n (Ended version) None e = refl
+ends_none n Start None e = absurd cc
+ends_none n (Inside version nodes) None e = absurd cc
+ends_none n place (Some kind) e = absurd cc
+
+kind_of : (n : ℕ) (first second : TextKind) → Some first ≡ Some second → end_of_text n Start (Some second) ≡ Err (n, first)
+kind_of n first second e = cc
+
+pub ends_some : (n : ℕ) (place : Place) (o : Option TextKind) (kind : TextKind) → Some kind ≡ fault_at o place → end_of_text n place o ≡ Err (n, kind)
+ends_some n (Ended version) None kind e = absurd cc
+ends_some n Start None kind e = kind_of n kind Cut e
+ends_some n (Inside version nodes) None kind e = kind_of n kind Cut e
+ends_some n place (Some other) kind e = kind_of n kind other e

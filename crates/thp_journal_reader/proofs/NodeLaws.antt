@@ -1,0 +1,197 @@
+-- The nodes of a journal, as one more line is read.
+use Rattle.std.proofs.Common.{◌≡◌, ◌⊎◌, ℕ, suc, ◌+◌, ◌≤◌, List, [], ◌∷◌, ◌++◌, length, length-append, Result, Ok, Err, refl, sym, ap, ◌∙◌, arith, inl, inr}
+use Rattle.std.specs.Prelude.{All, IfOk, IfErr}
+use Rattle.std.proofs.lemmas.List.Elements.{All-cons, All-nil, All-push, All-tail}
+use Rattle.std.proofs.lemmas.List.Sums.{fold_push}
+use Rattle.thp_model.specs.declared.events.Event.{Event}
+use Rattle.thp_model.specs.declared.shape.Shape.{Shape}
+use Rattle.thp_model.specs.BlockLaws.{event_with, least_free, with_least_blocks}
+use Rattle.thp_model.specs.History.{History}
+use Rattle.thp_text.specs.declared.fault.ReadFault.{ReadFault}
+use Rattle.thp_text.specs.declared.fault.ReadFault.TheVariants.{OutOfMemory}
+use Rattle.thp_text.specs.Scripts.{Fault, TellsFault}
+use Rattle.thp_journal_reader.specs.declared.journals.Journals.{Journals}
+use Rattle.thp_journal_reader.specs.declared.journals.NodeJournal.{NodeJournal}
+use Rattle.thp_journal_reader.specs.declared.line.Line.{Line}
+use Rattle.thp_journal_reader.specs.declared.line.Line.TheVariants.{Head, Node, Happened, End}
+use Rattle.thp_journal_reader.specs.Journals.{events_of, node_journal, nodes_of, IsNodeJournal}
+use Rattle.thp_journal_reader.specs.LineRanges.{IsInRange}
+use Rattle.thp_journal_reader.specs.Reading.{began, on_last, with_event, with_line, IsNodeBefore}
+
+-- ---- the events of a node
+
+-- one more event is an allocation in the least free block, or stays as it is
+least_push : (shape : Shape) (h : History) (event : Event) → with_least_blocks shape (h ++ event ∷ []) ≡ with_least_blocks shape h ++ event_with (least_free shape (with_least_blocks shape h)) event ∷ []
+unfolding with_least_blocks
+least_push shape h event = fold_push (λ (k : History) (e : Event). k ++ event_with (least_free shape k) e ∷ []) [] h event
+
+least_none : (shape : Shape) → with_least_blocks shape [] ≡ []
+unfolding with_least_blocks
+least_none shape = refl
+
+-- a line that tells no event adds none to the node before it
+events_of-other : (lines : List Line) (line : Line) → events_of (line ∷ []) ≡ [] → events_of (lines ++ line ∷ []) ≡ events_of lines
+events_of-other [] line none = none
+events_of-other (Head version ∷ lines) line none = events_of-other lines line none
+events_of-other (Node number shape ∷ lines) line none = refl
+events_of-other (Happened event ∷ lines) line none = ap (λ (h : History). event ∷ h) (events_of-other lines line none)
+events_of-other (End ∷ lines) line none = events_of-other lines line none
+
+-- behind these lines no other node begins, and one more event is one more of the node before them
+pub record AddsHere (number : ℕ) (lines : List Line) (event : Event) : Type 0 where
+  pub none : nodes_of number lines ≡ []
+  pub here : events_of (lines ++ Happened event ∷ []) ≡ events_of lines ++ event ∷ []
+
+-- among these lines another node begins, and one more event is none of the node before them
+pub record AddsThere (number : ℕ) (lines : List Line) (event : Event) : Type 0 where
+  pub node : NodeJournal
+  pub nodes : List NodeJournal
+  pub some : nodes_of number lines ≡ node ∷ nodes
+  pub there : events_of (lines ++ Happened event ∷ []) ≡ events_of lines
+
+event_adds : (number : ℕ) (lines : List Line) (event : Event) → AddsHere number lines event ⊎ AddsThere number lines event
+event_adds number [] event = inl (record { none = refl; here = refl })
+event_adds number (Head version ∷ lines) event =
+    elim (event_adds (number + 1) lines event) [
+      | inl h ↦ inl (record { none = h.none; here = h.here })
+      | inr t ↦ inr (record { node = t.node; nodes = t.nodes; some = t.some; there = t.there })
+    ]
+event_adds number (Node n shape ∷ lines) event =
+    inr (record { node = node_journal (number + 1) shape (events_of lines); nodes = nodes_of (number + 1) lines; some = refl; there = refl })
+event_adds number (Happened first ∷ lines) event =
+    elim (event_adds (number + 1) lines event) [
+      | inl h ↦ inl (record { none = h.none; here = ap (λ (k : History). first ∷ k) h.here })
+      | inr t ↦ inr (record { node = t.node; nodes = t.nodes; some = t.some; there = ap (λ (k : History). first ∷ k) t.there })
+    ]
+event_adds number (End ∷ lines) event =
+    elim (event_adds (number + 1) lines event) [
+      | inl h ↦ inl (record { none = h.none; here = h.here })
+      | inr t ↦ inr (record { node = t.node; nodes = t.nodes; some = t.some; there = t.there })
+    ]
+
+-- ---- the nodes after one more line
+
+-- lines after the first are numbered from the next number on
+one_further : (number : ℕ) (lines : List Line) (nodes : List NodeJournal) (line : Line) → with_line (number + 1 + length lines) nodes line ≡ with_line (number + suc (length lines)) nodes line
+one_further number lines nodes line =
+    let same : number + 1 + length lines ≡ number + suc (length lines) = omega arith in
+    ap (λ (n : ℕ). with_line n nodes line) same
+
+-- a node's journal in front of nodes that get one more line
+module _ (number : ℕ) (shape : Shape) (lines : List Line) where
+  journal_in_front : (h k : History) (nodes more : List NodeJournal) → h ≡ k → nodes ≡ more → node_journal number shape h ∷ nodes ≡ node_journal number shape k ∷ more
+  journal_in_front h k nodes more e f = ap (λ (g : History). node_journal number shape g ∷ nodes) e ∙ ap (λ (ns : List NodeJournal). node_journal number shape k ∷ ns) f
+
+  -- one more event, where no other node begins before it
+  event_here : (event : Event) (nodes more : List NodeJournal) (h : History) → nodes ≡ [] → more ≡ on_last (with_event event) nodes → h ≡ events_of lines ++ event ∷ []
+      → node_journal number shape h ∷ more ≡ on_last (with_event event) (node_journal number shape (events_of lines) ∷ nodes)
+  event_here event nodes more h none e here =
+      let nothing : more ≡ [] = e ∙ ap (λ (ns : List NodeJournal). on_last (with_event event) ns) none in
+      journal_in_front h (events_of lines ++ event ∷ []) more [] here nothing
+      ∙ ap (λ (k : History). record { shape = shape; first_line = number; events = k } ∷ []) (least_push shape (events_of lines) event)
+      ∙ ap (λ (ns : List NodeJournal). on_last (with_event event) (node_journal number shape (events_of lines) ∷ ns)) (sym none)
+
+  -- and where one does
+  event_there : (event : Event) (nodes more : List NodeJournal) (node : NodeJournal) (others : List NodeJournal) (h : History) → nodes ≡ node ∷ others → more ≡ on_last (with_event event) nodes → h ≡ events_of lines
+      → node_journal number shape h ∷ more ≡ on_last (with_event event) (node_journal number shape (events_of lines) ∷ nodes)
+  event_there event nodes more node others h some e there =
+      journal_in_front h (events_of lines) more (on_last (with_event event) (node ∷ others)) there (e ∙ ap (λ (ns : List NodeJournal). on_last (with_event event) ns) some)
+      ∙ ap (λ (ns : List NodeJournal). on_last (with_event event) (node_journal number shape (events_of lines) ∷ ns)) (sym some)
+
+-- the first line of a text begins the first node, if any
+first_line : (number : ℕ) (line : Line) → nodes_of number (line ∷ []) ≡ with_line (number + 0) [] line
+first_line number (Head version) = refl
+first_line number (Node n shape) =
+    let same : number + 0 ≡ number = omega arith in
+    rw (same, least_none shape) refl
+first_line number (Happened event) = refl
+first_line number End = refl
+
+-- the nodes of some lines and one more
+pub nodes_of-push : (number : ℕ) (lines : List Line) (line : Line) → nodes_of number (lines ++ line ∷ []) ≡ with_line (number + length lines) (nodes_of number lines) line
+nodes_of-push number [] line = first_line number line
+nodes_of-push number (Head version ∷ lines) line = nodes_of-push (number + 1) lines line ∙ one_further number lines (nodes_of (number + 1) lines) line
+nodes_of-push number (Happened event ∷ lines) line = nodes_of-push (number + 1) lines line ∙ one_further number lines (nodes_of (number + 1) lines) line
+nodes_of-push number (End ∷ lines) line = nodes_of-push (number + 1) lines line ∙ one_further number lines (nodes_of (number + 1) lines) line
+nodes_of-push number (Node n shape ∷ lines) (Head version) =
+    journal_in_front (number + 1) shape lines (events_of (lines ++ Head version ∷ [])) (events_of lines) _ _ (events_of-other lines (Head version) refl) (nodes_of-push (number + 1) lines (Head version))
+nodes_of-push number (Node n shape ∷ lines) End =
+    journal_in_front (number + 1) shape lines (events_of (lines ++ End ∷ [])) (events_of lines) _ _ (events_of-other lines End refl) (nodes_of-push (number + 1) lines End)
+nodes_of-push number (Node n shape ∷ lines) (Node m other) =
+    journal_in_front (number + 1) shape lines (events_of (lines ++ Node m other ∷ [])) (events_of lines) _ _ (events_of-other lines (Node m other) refl)
+    (nodes_of-push (number + 1) lines (Node m other) ∙ one_further number lines (nodes_of (number + 1) lines) (Node m other))
+nodes_of-push number (Node n shape ∷ lines) (Happened event) =
+    elim (event_adds (number + 1) lines event) [
+      | inl h ↦ event_here (number + 1) shape lines event (nodes_of (number + 1) lines) _ _ h.none (nodes_of-push (number + 1) lines (Happened event)) h.here
+      | inr t ↦ event_there (number + 1) shape lines event (nodes_of (number + 1) lines) _ t.node t.nodes _ t.some (nodes_of-push (number + 1) lines (Happened event)) t.there
+    ]
+
+-- the same for nodes that were read, by the number of the line
+pub nodes_step : (lines : List Line) (line : Line) (number : ℕ) (old new : List NodeJournal) → new ≡ with_line number old line → old ≡ nodes_of 1 lines → number ≡ length lines + 1 → new ≡ nodes_of 1 (lines ++ line ∷ [])
+nodes_step lines line number old new is so-far at =
+    let same : number ≡ 1 + length lines = omega arith in
+    is ∙ ap (λ (ns : List NodeJournal). with_line number ns line) so-far ∙ ap (λ (n : ℕ). with_line n (nodes_of 1 lines) line) same ∙ sym (nodes_of-push 1 lines line)
+
+-- the last of some nodes that another stands behind is that one
+pub on_last-push : (f : NodeJournal → NodeJournal) (nodes : List NodeJournal) (node : NodeJournal) → on_last f (nodes ++ node ∷ []) ≡ nodes ++ f node ∷ []
+on_last-push f [] node = refl
+on_last-push f (first ∷ []) node = refl
+on_last-push f (first ∷ next ∷ nodes) node = ap (λ (ns : List NodeJournal). first ∷ ns) (on_last-push f (next ∷ nodes) node)
+
+-- the last node of those that were read gets one more event
+pub last_grows : (f : NodeJournal → NodeJournal) (closed : List NodeJournal) (last grown : NodeJournal) (nodes : List NodeJournal) → grown ≡ f last → nodes ≡ closed ++ last ∷ [] → closed ++ grown ∷ [] ≡ on_last f nodes
+last_grows f closed last grown nodes is are = rw (is, are) (sym (on_last-push f closed last))
+
+-- ---- what is known of the nodes
+
+later : (number : ℕ) (node : NodeJournal) → IsNodeBefore number node → IsNodeBefore (number + 1) node
+later number node h = let before : node.first_line + length node.events ≤ number = h.lines in record { shape = h.shape; lines = omega arith }
+
+all_later : (number : ℕ) (nodes : List NodeJournal) → All (IsNodeBefore number) nodes → All (IsNodeBefore (number + 1)) nodes
+all_later number [] all = All-nil (IsNodeBefore (number + 1))
+all_later number (node ∷ nodes) all =
+    All-cons (IsNodeBefore (number + 1)) node nodes (later number node (all 0 node (omega arith))) (all_later number nodes (All-tail (IsNodeBefore number) node nodes all))
+
+one_event_more : (number : ℕ) (event : Event) (node : NodeJournal) → IsNodeBefore number node → IsNodeBefore (number + 1) (with_event event node)
+one_event_more number event node h =
+    let before : node.first_line + length node.events ≤ number = h.lines in
+    let longer : length (node.events ++ event_with (least_free node.shape node.events) event ∷ []) ≡ length node.events + 1 = length-append node.events (event_with (least_free node.shape node.events) event ∷ []) in
+    record { shape = h.shape; lines = omega arith }
+
+last_later : (number : ℕ) (event : Event) (nodes : List NodeJournal) → All (IsNodeBefore number) nodes → All (IsNodeBefore (number + 1)) (on_last (with_event event) nodes)
+last_later number event [] all = All-nil (IsNodeBefore (number + 1))
+last_later number event (node ∷ []) all =
+    All-cons (IsNodeBefore (number + 1)) (with_event event node) [] (one_event_more number event node (all 0 node (omega arith))) (All-nil (IsNodeBefore (number + 1)))
+last_later number event (node ∷ next ∷ nodes) all =
+    All-cons (IsNodeBefore (number + 1)) node (on_last (with_event event) (next ∷ nodes)) (later number node (all 0 node (omega arith)))
+    (last_later number event (next ∷ nodes) (All-tail (IsNodeBefore number) node (next ∷ nodes) all))
+
+each_with_line : (number : ℕ) (nodes : List NodeJournal) (line : Line) → IsInRange line → All (IsNodeBefore number) nodes → All (IsNodeBefore (number + 1)) (with_line number nodes line)
+each_with_line number nodes (Head version) in-range all = all_later number nodes all
+each_with_line number nodes End in-range all = all_later number nodes all
+each_with_line number nodes (Happened event) in-range all = last_later number event nodes all
+each_with_line number nodes (Node n shape) in-range all =
+    let here : number + 1 + 0 ≤ number + 1 = omega arith in
+    All-push (IsNodeBefore (number + 1)) nodes (began (number + 1) shape) (all_later number nodes all) (record { shape = in-range.1; lines = here })
+
+pub each_step : (number : ℕ) (old new : List NodeJournal) (line : Line) → new ≡ with_line number old line → IsInRange line → All (IsNodeBefore number) old → All (IsNodeBefore (number + 1)) new
+each_step number old new line is in-range all = rw is (each_with_line number old line in-range all)
+
+in_range : (number : ℕ) (node : NodeJournal) → number ≤ 16777217 → IsNodeBefore number node → IsNodeJournal node
+in_range number node le h = let before : node.first_line + length node.events ≤ number = h.lines in record { shape = h.shape; lines = omega arith }
+
+-- at the end of the text each node has lines that there may be
+pub all_in_range : (number : ℕ) (nodes : List NodeJournal) → number ≤ 16777217 → All (IsNodeBefore number) nodes → All IsNodeJournal nodes
+all_in_range number [] le all = All-nil IsNodeJournal
+all_in_range number (node ∷ nodes) le all =
+    All-cons IsNodeJournal node nodes (in_range number node le (all 0 node (omega arith))) (all_in_range number nodes le (All-tail (IsNodeBefore number) node nodes all))
+
+-- ---- answers that may be a refusal of memory
+
+pub if_ok : {A E : Type 0} (r : Result A E) (P Q : A → Type 0) → IfOk r P → ((x : A) → P x → Q x) → IfOk r Q
+if_ok (Ok x) P Q h f = f x h
+if_ok (Err e) P Q h f = tt
+
+pub tells_memory : {A : Type 0} (r : Result A ReadFault) (read : Result Journals Fault) → IfErr r (λ fault. fault ≡ OutOfMemory) → IfErr r (TellsFault read)
+tells_memory (Ok x) read h = tt
+tells_memory (Err fault) read h = rw h tt

@@ -1,0 +1,72 @@
+-- Journals whose text comes in parts: what was read, with what the text to come says, is what the whole text says.
+use Rattle.std.proofs.Common.{◌≡◌, ◌∙◌, ◌+◌, ℕ, List, [], ◌∷◌, ◌++◌, length, Some, None, Result, Ok, Err, refl, ap, append_assoc, length-append, arith}
+use Rattle.std.proofs.lemmas.List.{append-nil}
+use Rattle.thp_text.specs.declared.fault.TextKind.{TextKind}
+use Rattle.thp_text.specs.Lines.{fault_behind}
+use Rattle.thp_text.specs.Readings.{◌>>=◌}
+use Rattle.thp_text.specs.Scripts.{Fault}
+use Rattle.thp_text.specs.Words.{Text, lines_of}
+use Rattle.thp_text.proofs.TextLaws.{whole_comes}
+use Rattle.thp_journal_reader.specs.declared.journals.NodeJournal.{NodeJournal}
+use Rattle.thp_journal_reader.specs.declared.line.Line.{Line}
+use Rattle.thp_journal_reader.specs.declared.place.Place.{Place}
+use Rattle.thp_journal_reader.specs.declared.place.Place.TheVariants.{Start}
+use Rattle.thp_journal_reader.specs.JournalLines.{line_in, place_after}
+use Rattle.thp_journal_reader.specs.Journals.{journals_of, journals_with, lines_from, nodes_of}
+use Rattle.thp_journal_reader.specs.Parts.{journals_in, lines_tell, told_with, with_lines}
+use Rattle.thp_journal_reader.specs.Reading.{fault_at, with_line}
+use Rattle.thp_journal_reader.proofs.JournalLaws.{behind, ends_none, ends_some, line_ends, line_fails, line_says}
+use Rattle.thp_journal_reader.proofs.NodeLaws.{nodes_of-push}
+
+-- ---- the nodes of further lines
+
+from_lines : (before lines : List Line) → with_lines (1 + length before) (nodes_of 1 before) lines ≡ nodes_of 1 (before ++ lines)
+from_lines before [] = rw (append-nil before) refl
+from_lines before (line ∷ lines) =
+    let longer : 1 + length (before ++ line ∷ []) ≡ 1 + length before + 1 = omega (arith, length-append before (line ∷ [])) in
+    rw (← nodes_of-push 1 before line, ← longer) (from_lines (before ++ line ∷ []) lines ∙ ap (nodes_of 1) (append_assoc before (line ∷ []) lines))
+
+from_none : (lines : List Line) → with_lines 1 [] lines ≡ nodes_of 1 lines
+from_none lines = from_lines [] lines
+
+-- ---- what the lines of a text tell
+
+all_tell : (read : Result (List Line) Fault) → (read >>= λ lines. Ok (journals_in (with_lines 1 [] lines))) ≡ (read >>= λ lines. Ok (journals_with lines))
+unfolding journals_with
+all_tell (Ok lines) = ap (λ (nodes : List NodeJournal). Ok (journals_in nodes)) (from_none lines)
+all_tell (Err fault) = refl
+
+-- nothing has come: the text to come is the whole
+pub tells_all : (text : Text) → told_with (record { nodes = []; place = Start; text = record { begun = []; line = 1; given = 0; fault = None } }) text ≡ journals_of text
+unfolding journals_of lines_tell
+tells_all text = rw (all_tell (lines_from 1 Start (lines_of text))) (whole_comes text (lines_from 1 Start (lines_of text) >>= λ lines. Ok (journals_with lines)))
+
+-- a line before those behind it
+behind_tells : (n : ℕ) (nodes : List NodeJournal) (line : Line) (read : Result (List Line) Fault)
+    → (behind (line ∷ []) read >>= λ lines. Ok (journals_in (with_lines n nodes lines))) ≡ (read >>= λ lines. Ok (journals_in (with_lines (n + 1) (with_line n nodes line) lines)))
+behind_tells n nodes line (Ok lines) = refl
+behind_tells n nodes line (Err fault) = refl
+
+-- a line that says something in its place, and the lines behind it
+pub line_tells : (nodes : List NodeJournal) (place : Place) (n : ℕ) (text bytes after : Text) (line : Line) → lines_of text ≡ bytes ∷ lines_of after → Ok line ≡ line_in place bytes
+    → lines_tell nodes place n text ≡ lines_tell (with_line n nodes line) (place_after place line) (n + 1) after
+unfolding lines_tell
+line_tells nodes place n text bytes after line texts says =
+    rw (line_says n place (lines_of text) bytes after line texts says) (behind_tells n nodes line (lines_from (n + 1) (place_after place line) (lines_of after)))
+
+-- a line that is at fault
+pub line_is_wrong : (nodes : List NodeJournal) (place : Place) (n : ℕ) (text bytes after : Text) (kind : TextKind) → lines_of text ≡ bytes ∷ lines_of after → Err kind ≡ line_in place bytes
+    → lines_tell nodes place n text ≡ Err (n, kind)
+unfolding lines_tell
+line_is_wrong nodes place n text bytes after kind texts says = rw (line_fails n place (lines_of text) bytes after kind texts says) refl
+
+-- all has come, and the journals are at their end or not
+pub end_tells : (nodes : List NodeJournal) (place : Place) (n : ℕ) (begun : Text) → lines_of begun ≡ begun ∷ [] → None ≡ fault_at (fault_behind begun) place
+    → lines_tell nodes place n (begun ++ []) ≡ Ok (journals_in nodes)
+unfolding lines_tell
+end_tells nodes place n begun one none = rw (append-nil begun, line_ends n place (lines_of begun) begun one, ends_none n place (fault_behind begun) none) refl
+
+pub end_is_wrong : (nodes : List NodeJournal) (place : Place) (n : ℕ) (begun : Text) (kind : TextKind) → lines_of begun ≡ begun ∷ [] → Some kind ≡ fault_at (fault_behind begun) place
+    → lines_tell nodes place n (begun ++ []) ≡ Err (n, kind)
+unfolding lines_tell
+end_is_wrong nodes place n begun kind one some = rw (append-nil begun, line_ends n place (lines_of begun) begun one, ends_some n place (fault_behind begun) kind some) refl

@@ -1,0 +1,42 @@
+-- What the check of a journal text answers.
+use Rattle.std.specs.Prelude.{◌≡◌, ◌<◌, ◌+◌, ℕ, List, length, slice_get, Option, Some, None}
+use Rattle.thp_model.specs.BlockLaws.{SameButBlocks}
+use Rattle.thp_model.specs.History.{History}
+use Rattle.thp_model.specs.Legal.{IsLegal, IsFirstMisfit}
+use Rattle.thp_journal_reader.specs.declared.journals.NodeJournal.{NodeJournal}
+
+-- the node's events are a legal history
+abbrev pub IsLegalNode : NodeJournal → Type 0
+IsLegalNode node = IsLegal node.shape node.events
+
+-- the node's event on this line is the first of its events that doesn't fit
+pub record IsFirstIllegal (node : NodeJournal) (line : ℕ) : Type 0 where
+  pub place : ℕ
+  pub misfit : IsFirstMisfit node.shape node.events place
+  pub line_is : line ≡ node.first_line + place
+
+-- the nodes before this place are legal
+abbrev pub AreLegalBefore : ℕ → List NodeJournal → Type 0
+AreLegalBefore place nodes = (k : ℕ) (node : NodeJournal) → k < place → slice_get nodes k ≡ Some node → IsLegalNode node
+
+-- the event on this line is the first that doesn't fit: it is so in its node, and the nodes before are legal
+pub record IsFirstIllegalLine (nodes : List NodeJournal) (line : ℕ) : Type 0 where
+  pub place : ℕ
+  pub node : NodeJournal
+  pub here : slice_get nodes place ≡ Some node
+  pub legal_before : AreLegalBefore place nodes
+  pub first : IsFirstIllegal node line
+
+-- of one node: no line where it is legal, else that of its first illegal event
+abbrev pub TellsNode : NodeJournal → Option ℕ → Type 0
+TellsNode node None = IsLegalNode node
+TellsNode node (Some line) = IsFirstIllegal node line
+
+-- of all nodes: no line where each is legal, else that of the first illegal event in the order of the text
+abbrev pub TellsIllegal : List NodeJournal → Option ℕ → Type 0
+TellsIllegal nodes None = AreLegalBefore (length nodes) nodes
+TellsIllegal nodes (Some line) = IsFirstIllegalLine nodes line
+
+-- some choice of blocks makes the node's events legal
+abbrev pub CanBeLegal : NodeJournal → Type 0
+CanBeLegal node = (h : History) × SameButBlocks node.events h × IsLegal node.shape h

@@ -1,0 +1,84 @@
+-- The words of events (this project's journal format).
+use Rattle.std.specs.Prelude.{ℕ, Bool, List, Result, Ok, Err, codes, if◌then◌else◌}
+use Rattle.std.specs.Str.{bytes_eq}
+use Rattle.thp_model.specs.declared.events.Outcome.{Outcome}
+use Rattle.thp_model.specs.declared.events.Outcome.TheVariants.{Stays, Queued, Freed}
+use Rattle.thp_model.specs.declared.events.What.{What}
+use Rattle.thp_model.specs.declared.events.What.TheVariants as what
+use Rattle.thp_text.specs.declared.fault.TextKind.{TextKind}
+use Rattle.thp_text.specs.declared.fault.TextKind.TheVariants.{BadWord}
+use Rattle.thp_text.specs.Words.{Text}
+use Rattle.thp_journal_reader.specs.declared.event_word.EventWord.{EventWord}
+use Rattle.thp_journal_reader.specs.declared.event_word.EventWord.TheVariants.{OfPage, OfRange, OfLoss, UnmapSub, Split, Close}
+use Rattle.thp_journal_reader.specs.declared.event_word.LossWord.{LossWord}
+use Rattle.thp_journal_reader.specs.declared.event_word.LossWord.TheVariants.{UnmapWhole, Unpin}
+use Rattle.thp_journal_reader.specs.declared.event_word.PageWord.{PageWord}
+use Rattle.thp_journal_reader.specs.declared.event_word.PageWord.TheVariants.{Alloc, MapWhole, SplitPmd, Pin, Taken, Pinned, Used, Back, Dropped}
+use Rattle.thp_journal_reader.specs.declared.event_word.RangeWord.{RangeWord}
+use Rattle.thp_journal_reader.specs.declared.event_word.RangeWord.TheVariants.{MapSub, Write, Zero}
+use Rattle.thp_journal_reader.specs.declared.version.Version.{Version}
+use Rattle.thp_journal_reader.specs.declared.version.Version.TheVariants.{Plain, Orders, Underused}
+
+-- the event words of each version
+unfoldable pub common_word : Text → Result EventWord TextKind
+common_word name =
+    if bytes_eq name (codes "alloc") then Ok (OfPage Alloc)
+    else if bytes_eq name (codes "mapwhole") then Ok (OfPage MapWhole)
+    else if bytes_eq name (codes "unmapwhole") then Ok (OfLoss UnmapWhole)
+    else if bytes_eq name (codes "mapsub") then Ok (OfRange MapSub)
+    else if bytes_eq name (codes "unmapsub") then Ok UnmapSub
+    else if bytes_eq name (codes "splitpmd") then Ok (OfPage SplitPmd)
+    else if bytes_eq name (codes "pin") then Ok (OfPage Pin)
+    else if bytes_eq name (codes "unpin") then Ok (OfLoss Unpin)
+    else if bytes_eq name (codes "taken") then Ok (OfPage Taken)
+    else if bytes_eq name (codes "split") then Ok Split
+    else if bytes_eq name (codes "pinned") then Ok (OfPage Pinned)
+    else if bytes_eq name (codes "back") then Ok (OfPage Back)
+    else if bytes_eq name (codes "dropped") then Ok (OfPage Dropped)
+    else if bytes_eq name (codes "close") then Ok Close
+    else Err BadWord
+
+-- and those that version 3 has besides
+unfoldable pub later_word : Text → Result EventWord TextKind
+later_word name =
+    if bytes_eq name (codes "write") then Ok (OfRange Write)
+    else if bytes_eq name (codes "zero") then Ok (OfRange Zero)
+    else if bytes_eq name (codes "used") then Ok (OfPage Used)
+    else common_word name
+
+-- the event words of a version
+abbrev pub event_word : Version → Text → Result EventWord TextKind
+event_word Plain name = common_word name
+event_word Orders name = common_word name
+event_word Underused name = later_word name
+
+-- what happened to the page; a new page has block 0 for now
+abbrev pub page_what : PageWord → ℕ → What
+page_what Alloc page = what.Alloc page 0
+page_what MapWhole page = what.MapWhole page
+page_what SplitPmd page = what.SplitPmd page
+page_what Pin page = what.Pin page
+page_what Taken page = what.Taken page
+page_what Pinned page = what.Pinned page
+page_what Used page = what.Used page
+page_what Back page = what.Back page
+page_what Dropped page = what.Dropped page
+
+-- what happened to a range of the page's subpages
+abbrev pub range_what : RangeWord → ℕ → ℕ → ℕ → What
+range_what MapSub page first count = what.MapSub page first count
+range_what Write page first count = what.Write page first count
+range_what Zero page first count = what.Zero page first count
+
+-- what the page lost, and what became of it
+abbrev pub loss_what : LossWord → Outcome → ℕ → List Bool → What
+loss_what UnmapWhole outcome page released = what.UnmapWhole outcome page released
+loss_what Unpin outcome page released = what.Unpin outcome page released
+
+-- the outcome that a word tells
+unfoldable pub outcome_of : Text → Result Outcome TextKind
+outcome_of word =
+    if bytes_eq word (codes "stays") then Ok Stays
+    else if bytes_eq word (codes "queued") then Ok Queued
+    else if bytes_eq word (codes "freed") then Ok Freed
+    else Err BadWord

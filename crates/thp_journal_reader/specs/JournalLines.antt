@@ -1,0 +1,147 @@
+-- What a line of a journal says, and where it may stand (this project's journal format).
+use Rattle.std.specs.Prelude.{◌==◌, ◌^◌, ◌-◌, ◌+◌, not, nat_lt, nat_le, ℕ, Bool, true, false, List, [], ◌∷◌, Option, Some, None, Result, Ok, Err, codes, if◌then◌else◌}
+use Rattle.std.specs.List.{list_all, list_any}
+use Rattle.std.specs.Str.{bytes_eq}
+use Rattle.thp_text.specs.declared.fault.TextKind.{TextKind}
+use Rattle.thp_text.specs.declared.fault.TextKind.TheVariants.{BadByte, BadWord, BadNumber, BadOrder}
+use Rattle.thp_text.specs.Commands.{number_up_to, one_word}
+use Rattle.thp_text.specs.Lines.{is_empty, is_printable}
+use Rattle.thp_text.specs.Readings.{◌>>=◌}
+use Rattle.thp_text.specs.Words.{Text, words_of}
+use Rattle.thp_journal_reader.specs.declared.line.Line.{Line}
+use Rattle.thp_journal_reader.specs.declared.line.Line.TheVariants.{Head, Node, Happened, End}
+use Rattle.thp_journal_reader.specs.declared.place.Place.{Place}
+use Rattle.thp_journal_reader.specs.declared.place.Place.TheVariants.{Start, Inside, Ended}
+use Rattle.thp_journal_reader.specs.declared.version.Version.{Version}
+use Rattle.thp_journal_reader.specs.declared.version.Version.TheVariants.{Plain, Orders, Underused}
+use Rattle.thp_journal_reader.specs.EventLines.{event_of, no_words}
+
+-- the version by its number
+unfoldable pub version_of : Text → Result Version TextKind
+version_of word =
+    if bytes_eq word (codes "1") then Ok Plain
+    else if bytes_eq word (codes "2") then Ok Orders
+    else if bytes_eq word (codes "3") then Ok Underused
+    else Err BadNumber
+
+-- `thp-journal VERSION`, behind its first word
+unfoldable pub head_of : List Text → Result Line TextKind
+head_of words = do
+  word ← one_word words
+  version ← version_of word
+  Ok (Head version)
+
+-- an operand, then this word, then others; the others are given back with it
+abbrev pub before : Text → List Text → Result (Text × List Text) TextKind
+before key (operand ∷ word ∷ words) = if bytes_eq word key then Ok (operand, words) else Err BadWord
+before key _ = Err BadWord
+
+-- a number within bounds
+abbrev pub number_between : ℕ → ℕ → Text → Result ℕ TextKind
+number_between least most word = do
+  number ← number_up_to most word
+  if nat_le least number then Ok number else Err BadNumber
+
+-- `off`, or a number of subpages that isn't the whole of a page
+unfoldable pub threshold_of : ℕ → Text → Result (Option ℕ) TextKind
+threshold_of order word =
+    if bytes_eq word (codes "off") then Ok None
+    else (number_up_to (2 ^ order - 1) word >>= λ threshold. Ok (Some threshold))
+
+-- node N of this shape: N from 0 to 7, 1 to 4,096 blocks
+abbrev pub node_with : Text → Text → ℕ → Option ℕ → Result Line TextKind
+node_with number_word blocks_word order underused = do
+  number ← number_up_to 7 number_word
+  blocks ← number_between 1 4096 blocks_word
+  Ok (Node number (record { blocks = blocks; order = order; underused = underused }))
+
+-- `node N blocks B` of version 1, behind its first word: the pages are of order 9
+unfoldable pub plain_node : List Text → Result Line TextKind
+plain_node words = do
+  number ← before (codes "blocks") words
+  blocks ← one_word number.1
+  node_with number.0 blocks 9 None
+
+-- `node N blocks B order O` of version 2
+unfoldable pub ordered_node : List Text → Result Line TextKind
+ordered_node words = do
+  number ← before (codes "blocks") words
+  blocks ← before (codes "order") number.1
+  order_word ← one_word blocks.1
+  order ← number_between 2 9 order_word
+  node_with number.0 blocks.0 order None
+
+-- `node N blocks B order O underused T` of version 3; T may be `off`
+unfoldable pub underused_node : List Text → Result Line TextKind
+underused_node words = do
+  number ← before (codes "blocks") words
+  blocks ← before (codes "order") number.1
+  order_word ← before (codes "underused") blocks.1
+  threshold_word ← one_word order_word.1
+  order ← number_between 2 9 order_word.0
+  threshold ← threshold_of order threshold_word
+  node_with number.0 blocks.0 order threshold
+
+-- the line of a node, behind its first word
+abbrev pub node_of : Version → List Text → Result Line TextKind
+node_of Plain words = plain_node words
+node_of Orders words = ordered_node words
+node_of Underused words = underused_node words
+
+-- `end`, behind its first word
+abbrev pub end_of : List Text → Result Line TextKind
+end_of words = no_words words >>= λ nothing. Ok End
+
+-- an event, by its caller's word and the others
+abbrev pub event_line : Version → Text → List Text → Result Line TextKind
+event_line v caller words = event_of v caller words >>= λ event. Ok (Happened event)
+
+-- a line by its first word and the others
+unfoldable pub line_by : Version → Text → List Text → Result Line TextKind
+line_by v name words =
+    if bytes_eq name (codes "thp-journal") then head_of words
+    else if bytes_eq name (codes "node") then node_of v words
+    else if bytes_eq name (codes "end") then end_of words
+    else event_line v name words
+
+abbrev pub by_words : Version → List Text → Result Line TextKind
+by_words v [] = Err BadWord
+by_words v (name ∷ words) = line_by v name words
+
+-- what a whole line says in a version, wherever it stands; the faults are in their order
+unfoldable pub line_of : Version → Text → Result Line TextKind
+line_of v text =
+    if not (list_all is_printable text) then Err BadByte
+    else if list_any is_empty (words_of text) then Err BadWord
+    else by_words v (words_of text)
+
+-- before the first line has told the version, lines are read as those of version 1
+abbrev pub version_at : Place → Version
+version_at Start = Plain
+version_at (Inside version nodes) = version
+version_at (Ended version) = version
+
+-- The version comes first, and once. Nodes are numbered in order; events and the end come behind a node; nothing stands
+-- behind the end.
+abbrev pub may_stand : Place → Line → Bool
+may_stand Start (Head version) = true
+may_stand Start _ = false
+may_stand (Inside version nodes) (Head again) = false
+may_stand (Inside version nodes) (Node number shape) = number == nodes
+may_stand (Inside version nodes) (Happened event) = nat_lt 0 nodes
+may_stand (Inside version nodes) End = nat_lt 0 nodes
+may_stand (Ended version) line = false
+
+-- the place behind a line that may stand: behind so many nodes, or at the end
+abbrev pub place_after : Place → Line → Place
+place_after place (Head version) = Inside version 0
+place_after (Inside version nodes) (Node number shape) = Inside version (number + 1)
+place_after place (Node number shape) = place
+place_after place (Happened event) = place
+place_after place End = Ended (version_at place)
+
+-- what a whole line says in its place
+unfoldable pub line_in : Place → Text → Result Line TextKind
+line_in place text = do
+  line ← line_of (version_at place) text
+  if may_stand place line then Ok line else Err BadOrder

@@ -1,0 +1,73 @@
+-- Journals as text: the events of each node, or the first fault (this project's journal format).
+use Rattle.std.specs.Prelude.{◌≤◌, ◌+◌, ℕ, nat_lt, All, List, [], ◌∷◌, length, Option, Some, None, Result, Ok, Err, if◌then◌else◌}
+use Rattle.thp_model.specs.declared.shape.Shape.{Shape}
+use Rattle.thp_model.specs.BlockLaws.{with_least_blocks}
+use Rattle.thp_model.specs.History.{History}
+use Rattle.thp_model.specs.Shapes.{IsShape}
+use Rattle.thp_text.specs.declared.fault.TextKind.{TextKind}
+use Rattle.thp_text.specs.declared.fault.TextKind.TheVariants.{TooLong, Cut}
+use Rattle.thp_text.specs.Lines.{fault_behind}
+use Rattle.thp_text.specs.Readings.{◌>>=◌}
+use Rattle.thp_text.specs.Scripts.{Fault, on_line}
+use Rattle.thp_text.specs.Words.{Text, lines_of}
+use Rattle.thp_journal_reader.specs.declared.journals.Journals.{Journals}
+use Rattle.thp_journal_reader.specs.declared.journals.NodeJournal.{NodeJournal}
+use Rattle.thp_journal_reader.specs.declared.line.Line.{Line}
+use Rattle.thp_journal_reader.specs.declared.line.Line.TheVariants.{Node, Happened}
+use Rattle.thp_journal_reader.specs.declared.place.Place.{Place}
+use Rattle.thp_journal_reader.specs.declared.place.Place.TheVariants.{Start, Ended}
+use Rattle.thp_journal_reader.specs.JournalLines.{line_in, place_after}
+
+-- where nothing stands behind the last line, the journal has come to its end, or is cut there
+abbrev pub end_at : ℕ → Place → Result (List Line) Fault
+end_at number (Ended version) = Ok []
+end_at number _ = Err (number, Cut)
+
+abbrev pub end_of_text : ℕ → Place → Option TextKind → Result (List Line) Fault
+end_of_text number place None = end_at number place
+end_of_text number place (Some kind) = Err (number, kind)
+
+-- what the lines from number `number` on say, from this place on
+unfoldable pub lines_from : ℕ → Place → List Text → Result (List Line) Fault
+lines_from number place [] = Ok []
+lines_from number place (behind ∷ []) = end_of_text number place (fault_behind behind)
+lines_from number place (text ∷ next ∷ texts) = do
+  line ← on_line number (line_in place text)
+  lines ← lines_from (number + 1) (place_after place line) (next ∷ texts)
+  Ok (line ∷ lines)
+
+-- the events before the next node's line
+abbrev pub events_of : List Line → History
+events_of [] = []
+events_of (Happened event ∷ lines) = event ∷ events_of lines
+events_of (Node number shape ∷ lines) = []
+events_of (_ ∷ lines) = events_of lines
+
+-- a node whose events stand from this line on; each new page has the least block that no live page holds
+abbrev pub node_journal : ℕ → Shape → History → NodeJournal
+node_journal first_line shape events = record { shape = shape; first_line = first_line; events = with_least_blocks shape events }
+
+-- the nodes of the lines from number `number` on
+abbrev pub nodes_of : ℕ → List Line → List NodeJournal
+nodes_of number [] = []
+nodes_of number (Node n shape ∷ lines) = node_journal (number + 1) shape (events_of lines) ∷ nodes_of (number + 1) lines
+nodes_of number (_ ∷ lines) = nodes_of (number + 1) lines
+
+-- the journals that the lines tell
+unfoldable pub journals_with : List Line → Journals
+journals_with lines = record { nodes = nodes_of 1 lines }
+
+-- The journals that a text spells, or its first fault.
+unfoldable pub journals_of : Text → Result Journals Fault
+journals_of text =
+    if nat_lt 16777216 (length text) then Err (0, TooLong)
+    else (lines_from 1 Start (lines_of text) >>= λ lines. Ok (journals_with lines))
+
+-- a node can have this shape, and its lines have numbers below 2^32
+pub record IsNodeJournal (node : NodeJournal) : Type 0 where
+  pub shape : IsShape node.shape
+  pub lines : node.first_line + length node.events ≤ 16777217
+
+-- that of each node
+abbrev pub AreJournals : Journals → Type 0
+AreJournals journals = All IsNodeJournal journals.nodes

@@ -1,0 +1,69 @@
+-- What a reader of journals keeps. Public clauses cite this module through `Parts` alone.
+use Rattle.std.specs.Prelude.{◌≡◌, ◌≤◌, ◌+◌, ℕ, All, List, [], ◌∷◌, ◌++◌, length, Option, Some, None, IfSome}
+use Rattle.thp_model.specs.declared.events.Event.{Event}
+use Rattle.thp_model.specs.declared.shape.Shape.{Shape}
+use Rattle.thp_model.specs.BlockLaws.{event_with, least_free}
+use Rattle.thp_model.specs.Shapes.{IsShape}
+use Rattle.thp_text.specs.declared.fault.TextKind.{TextKind}
+use Rattle.thp_text.specs.declared.fault.TextKind.TheVariants.{Cut}
+use Rattle.thp_journal_reader.specs.declared.journals.NodeJournal.{NodeJournal}
+use Rattle.thp_journal_reader.specs.declared.line.Line.{Line}
+use Rattle.thp_journal_reader.specs.declared.line.Line.TheVariants.{Node, Happened}
+use Rattle.thp_journal_reader.specs.declared.place.Place.{Place}
+use Rattle.thp_journal_reader.specs.declared.place.Place.TheVariants.{Ended}
+use Rattle.thp_journal_reader.specs.declared.reading.Nodes.{Nodes}
+use Rattle.thp_journal_reader.specs.declared.reading.OpenNode.{OpenNode}
+
+-- the blocks are chosen for the node's shape and its events
+pub record GoesAlong (node : OpenNode) : Type 0 where
+  pub shape_is : node.blocks.shape ≡ node.shape
+  pub history_is : node.blocks.history ≡ node.events
+
+-- the journal of a node so far
+abbrev pub journal_so_far : OpenNode → NodeJournal
+journal_so_far node = record { shape = node.shape; first_line = node.first_line; events = node.events }
+
+-- the journal of a node before its first event
+abbrev pub began : ℕ → Shape → NodeJournal
+began first_line shape = record { shape = shape; first_line = first_line; events = [] }
+
+-- the journal with one more event, an allocation in the least free block
+abbrev pub with_event : Event → NodeJournal → NodeJournal
+with_event event node = record {
+  shape = node.shape;
+  first_line = node.first_line;
+  events = node.events ++ event_with (least_free node.shape node.events) event ∷ [];
+}
+
+-- the nodes with the last of them changed, where there is one
+abbrev pub on_last : (NodeJournal → NodeJournal) → List NodeJournal → List NodeJournal
+on_last f [] = []
+on_last f (node ∷ []) = f node ∷ []
+on_last f (node ∷ next ∷ nodes) = node ∷ on_last f (next ∷ nodes)
+
+-- the nodes after one more line, which has this number
+abbrev pub with_line : ℕ → List NodeJournal → Line → List NodeJournal
+with_line number nodes (Node n shape) = nodes ++ began (number + 1) shape ∷ []
+with_line number nodes (Happened event) = on_last (with_event event) nodes
+with_line number nodes _ = nodes
+
+-- the nodes read so far
+abbrev pub nodes_in : Option Nodes → List NodeJournal
+nodes_in None = []
+nodes_in (Some nodes) = nodes.closed ++ journal_so_far nodes.last ∷ []
+
+-- a node of a shape that there may be, whose lines stand before this one
+pub record IsNodeBefore (number : ℕ) (node : NodeJournal) : Type 0 where
+  pub shape : IsShape node.shape
+  pub lines : node.first_line + length node.events ≤ number
+
+-- the blocks go along, and the nodes stand before this line
+pub record IsReading (number : ℕ) (nodes : Option Nodes) : Type 0 where
+  pub along : IfSome nodes (λ n. GoesAlong n.last)
+  pub each : All (IsNodeBefore number) (nodes_in nodes)
+
+-- what stands behind the last line is at fault; where nothing stands there, the journal is cut unless it has come to its end
+abbrev pub fault_at : Option TextKind → Place → Option TextKind
+fault_at (Some kind) place = Some kind
+fault_at None (Ended version) = None
+fault_at None _ = Some Cut

@@ -1,0 +1,75 @@
+//! Whether the journals that a text tells are legal.
+ghost use Rattle.std.specs.Prelude.{◌≡◌, ◌≤◌, ◌<◌, ◌+◌, All, Ok, None, IfOk, IfErr, length};
+ghost use Rattle.thp_journal_reader.specs.declared.journals.Journals.{Journals};
+ghost use Rattle.thp_journal_reader.specs.Answers.{CanBeLegal, TellsIllegal, TellsNode};
+ghost use Rattle.thp_journal_reader.specs.Journals.{journals_of, AreJournals, IsNodeJournal};
+ghost use Rattle.thp_text.specs.Scripts.{TellsFault};
+ghost use Rattle.thp_text.specs.Words.{Text};
+
+use crate::journal_reader::read_journal;
+use crate::journals::{Journals, NodeJournal};
+use std::alloc::{AllocError, Global};
+use thp_check::{CheckFault, check};
+use thp_text::ReadFault;
+
+/// The line of the event at this place.
+fn line_of_event(node: &NodeJournal, place: usize) -> u32
+    requires lines { node.now.first_line + length node.now.events ≤ 16777217 }
+    requires inside { place < length node.now.events }
+    ensures { result ≡ node.now.first_line + place }
+{
+    node.first_line + place as u32
+}
+
+/// The line of the first event of a node that doesn't fit those before it, if there is one.
+fn first_illegal(alloc: Global, node: &NodeJournal) -> Result<Option<u32>, AllocError>
+    requires { IsNodeJournal node.now }
+    ensures { IfOk result (TellsNode node.now) }
+{
+    match check(alloc, node.shape, node.events.as_slice()) {
+        Ok(()) => Ok(None),
+        Err(CheckFault::Illegal { place }) => Ok(Some(line_of_event(node, place))),
+        Err(CheckFault::OutOfMemory) => Err(AllocError),
+    }
+}
+
+/// The line of the first illegal event of some nodes, in their order.
+fn first_illegal_line(alloc: Global, nodes: &[NodeJournal]) -> Result<Option<u32>, AllocError>
+    requires { All IsNodeJournal nodes.now }
+    ensures { IfOk result (TellsIllegal nodes.now) }
+{
+    for node in nodes {
+        if let Some(line) = first_illegal(alloc, node)? {
+            return Ok(Some(line));
+        }
+    }
+    Ok(None)
+}
+
+/// The line of the first illegal event of journals that were read, in the order of their text, or none where each node's
+/// events are legal.
+///
+/// Blocks stand in no journal: journals are told legal exactly where some choice of blocks makes them so.
+pub fn check_journals(alloc: Global, journals: &Journals) -> Result<Option<u32>, AllocError>
+    requires { AreJournals journals.now }
+    ensures line { IfOk result (TellsIllegal journals.now.nodes) }
+    ensures free_choice { IfOk result (λ line. (text : Text) → journals_of text ≡ Ok journals.now → All CanBeLegal journals.now.nodes → line ≡ None) }
+{
+    first_illegal_line(alloc, journals.nodes.as_slice())
+}
+
+/// The line of the first illegal event that a journal text tells, in the order of the text, or none where each node's
+/// events are legal.
+///
+/// The text is read whole before its events are looked at, so its first fault comes before any of them. Blocks stand in no
+/// journal: a text is told legal exactly where some choice of blocks makes it so.
+pub fn check_text(alloc: Global, text: &[u8]) -> Result<Option<u32>, ReadFault>
+    ensures line { IfOk result (λ line. (journals : Journals) × (journals_of text.now ≡ Ok journals) × TellsIllegal journals.nodes line) }
+    ensures free_choice { IfOk result (λ line. (journals : Journals) → journals_of text.now ≡ Ok journals → All CanBeLegal journals.nodes → line ≡ None) }
+    ensures fault { IfErr result (TellsFault (journals_of text.now)) }
+{
+    match read_journal(alloc, text) {
+        Ok(journals) => Ok(check_journals(alloc, &journals)?),
+        Err(fault) => Err(fault),
+    }
+}

@@ -1,0 +1,154 @@
+//! The words of events.
+ghost use Rattle.std.specs.Prelude.{◌≡◌};
+ghost use Rattle.thp_journal_reader.specs.EventWords.{common_word, event_word, later_word, loss_what, outcome_of, page_what, range_what};
+
+use crate::version::Version;
+use thp_model::{Outcome, PageId, SubSet, What};
+use thp_text::TextKind;
+
+/// Events that tell a page alone.
+#[derive(Clone, Copy, Debug, PartialEq, Eq)]
+pub enum PageWord {
+    Alloc,
+    MapWhole,
+    SplitPmd,
+    Pin,
+    Taken,
+    Pinned,
+    Used,
+    Back,
+    Dropped,
+}
+
+impl PageWord {
+    pub(crate) fn what(self, page: PageId) -> What
+        ensures { result ≡ page_what self page }
+    {
+        match self {
+            PageWord::Alloc => What::Alloc { page, block: 0 },
+            PageWord::MapWhole => What::MapWhole { page },
+            PageWord::SplitPmd => What::SplitPmd { page },
+            PageWord::Pin => What::Pin { page },
+            PageWord::Taken => What::Taken { page },
+            PageWord::Pinned => What::Pinned { page },
+            PageWord::Used => What::Used { page },
+            PageWord::Back => What::Back { page },
+            PageWord::Dropped => What::Dropped { page },
+        }
+    }
+}
+
+/// Events that tell a page and a range of its subpages.
+#[derive(Clone, Copy, Debug, PartialEq, Eq)]
+pub enum RangeWord {
+    MapSub,
+    Write,
+    Zero,
+}
+
+impl RangeWord {
+    pub(crate) fn what(self, page: PageId, first: u32, count: u32) -> What
+        ensures { result ≡ range_what self page first count }
+    {
+        match self {
+            RangeWord::MapSub => What::MapSub { page, first, count },
+            RangeWord::Write => What::Write { page, first, count },
+            RangeWord::Zero => What::Zero { page, first, count },
+        }
+    }
+}
+
+/// Events that tell a page, what became of it and what it gave back.
+#[derive(Clone, Copy, Debug, PartialEq, Eq)]
+pub enum LossWord {
+    UnmapWhole,
+    Unpin,
+}
+
+impl LossWord {
+    pub(crate) fn what(self, outcome: Outcome, page: PageId, released: SubSet) -> What
+        ensures { result ≡ loss_what self outcome page released }
+    {
+        match self {
+            LossWord::UnmapWhole => What::UnmapWhole {
+                outcome,
+                page,
+                released,
+            },
+            LossWord::Unpin => What::Unpin {
+                outcome,
+                page,
+                released,
+            },
+        }
+    }
+}
+
+/// The words of events, by the operands that stand behind them.
+#[derive(Clone, Copy, Debug, PartialEq, Eq)]
+pub enum EventWord {
+    OfPage(PageWord),
+    OfRange(RangeWord),
+    OfLoss(LossWord),
+    UnmapSub,
+    Split,
+    Close,
+}
+
+#[tactic(auto, unfolding(crate::specs::EventWords::common_word))]
+fn common_word(name: &[u8]) -> Result<EventWord, TextKind>
+    ensures { result ≡ common_word name.now }
+{
+    match name {
+        b"alloc" => Ok(EventWord::OfPage(PageWord::Alloc)),
+        b"mapwhole" => Ok(EventWord::OfPage(PageWord::MapWhole)),
+        b"unmapwhole" => Ok(EventWord::OfLoss(LossWord::UnmapWhole)),
+        b"mapsub" => Ok(EventWord::OfRange(RangeWord::MapSub)),
+        b"unmapsub" => Ok(EventWord::UnmapSub),
+        b"splitpmd" => Ok(EventWord::OfPage(PageWord::SplitPmd)),
+        b"pin" => Ok(EventWord::OfPage(PageWord::Pin)),
+        b"unpin" => Ok(EventWord::OfLoss(LossWord::Unpin)),
+        b"taken" => Ok(EventWord::OfPage(PageWord::Taken)),
+        b"split" => Ok(EventWord::Split),
+        b"pinned" => Ok(EventWord::OfPage(PageWord::Pinned)),
+        b"back" => Ok(EventWord::OfPage(PageWord::Back)),
+        b"dropped" => Ok(EventWord::OfPage(PageWord::Dropped)),
+        b"close" => Ok(EventWord::Close),
+        _ => Err(TextKind::BadWord),
+    }
+}
+
+#[tactic(auto, unfolding(crate::specs::EventWords::later_word))]
+fn later_word(name: &[u8]) -> Result<EventWord, TextKind>
+    ensures { result ≡ later_word name.now }
+{
+    match name {
+        b"write" => Ok(EventWord::OfRange(RangeWord::Write)),
+        b"zero" => Ok(EventWord::OfRange(RangeWord::Zero)),
+        b"used" => Ok(EventWord::OfPage(PageWord::Used)),
+        _ => common_word(name),
+    }
+}
+
+/// The event that a word names in a version of the format.
+pub(crate) fn event_word(version: Version, name: &[u8]) -> Result<EventWord, TextKind>
+    ensures { result ≡ event_word version name.now }
+{
+    match version {
+        Version::Plain | Version::Orders => common_word(name),
+        Version::Underused => later_word(name),
+    }
+}
+
+/// The outcome that a word tells.
+#[tactic(auto, unfolding(crate::specs::EventWords::outcome_of))]
+pub(crate) fn outcome_of(word: &[u8]) -> Result<Outcome, TextKind>
+    ensures { result ≡ outcome_of word.now }
+{
+    match word {
+        b"stays" => Ok(Outcome::Stays),
+        b"queued" => Ok(Outcome::Queued),
+        b"freed" => Ok(Outcome::Freed),
+        _ => Err(TextKind::BadWord),
+    }
+}

@@ -1,0 +1,160 @@
+//! The nodes of a journal as its lines are read.
+ghost use Rattle.std.specs.Prelude.{◌≡◌, ◌≤◌, ◌<◌, ◌+◌, ◌++◌, ◌∷◌, [], IfOk, IfErr, OnOk, IfSome};
+ghost use Rattle.thp_model.specs.History.{by};
+ghost use Rattle.thp_journal_reader.specs.LineRanges.{IsInRange};
+ghost use Rattle.thp_journal_reader.specs.Reading.{began, journal_so_far, nodes_in, with_event, with_line, on_last, GoesAlong, IsReading};
+ghost use Rattle.thp_text.specs.declared.fault.ReadFault.TheVariants.{OutOfMemory};
+
+use crate::journals::{Journals, NodeJournal};
+use crate::line::Line;
+use std::alloc::{AllocError, Global};
+use thp_least_blocks::LeastBlocks;
+use thp_model::{Event, Shape, What};
+use thp_text::{ReadFault, Sequence};
+
+/// A node whose events are being read, and the blocks of its pages.
+#[derive(Drop)]
+pub(crate) struct OpenNode {
+    shape: Shape,
+    first_line: u32,
+    events: Sequence<Event>,
+    blocks: LeastBlocks,
+}
+
+impl OpenNode {
+    fn new(alloc: Global, first_line: u32, shape: Shape) -> Result<OpenNode, AllocError>
+        requires { 1 ≤ shape.blocks }
+        ensures along { IfOk result GoesAlong }
+        ensures began { IfOk result (λ node. journal_so_far node ≡ began first_line shape) }
+    {
+        let blocks = LeastBlocks::new(alloc, shape)?;
+        Ok(OpenNode {
+            shape,
+            first_line,
+            events: Sequence::new(alloc),
+            blocks,
+        })
+    }
+
+    /// Adds an event, an allocation in the least free block.
+    fn push(&mut self, caller: u32, what: What) -> Result<(), AllocError>
+        requires { GoesAlong self.old }
+        ensures along { OnOk result (GoesAlong self.new) }
+        ensures pushed { OnOk result (journal_so_far self.new ≡ with_event (by caller what) (journal_so_far self.old)) }
+    {
+        let event = self.blocks.place(Event { caller, what })?;
+        self.events.push(event)?;
+        Ok(())
+    }
+
+    fn close(self) -> NodeJournal
+        ensures { result ≡ journal_so_far self }
+    {
+        NodeJournal {
+            shape: self.shape,
+            first_line: self.first_line,
+            events: self.events,
+        }
+    }
+}
+
+/// The nodes read so far, one at least. The last of them may get more events.
+#[derive(Drop)]
+pub(crate) struct Nodes {
+    closed: Sequence<NodeJournal>,
+    last: OpenNode,
+}
+
+impl Nodes {
+    /// Closes the last node, and goes on with another.
+    fn begin(&mut self, node: OpenNode) -> Result<(), AllocError>
+        ensures closed { OnOk result (self.new.closed ≡ self.old.closed ++ journal_so_far self.old.last ∷ []) }
+        ensures last { OnOk result (self.new.last ≡ node) }
+    {
+        let last = std::mem::replace(&mut self.last, node);
+        self.closed.push(last.close())?;
+        Ok(())
+    }
+}
+
+/// Goes on with a node.
+fn begin(alloc: Global, nodes: &mut Option<Nodes>, node: OpenNode) -> Result<(), AllocError>
+    ensures nodes { OnOk result (nodes_in nodes.new ≡ nodes_in nodes.old ++ journal_so_far node ∷ []) }
+    ensures along { OnOk result (GoesAlong node → IfSome nodes.new (λ n. GoesAlong n.last)) }
+{
+    match nodes {
+        None => {
+            *nodes = Some(Nodes {
+                closed: Sequence::new(alloc),
+                last: node,
+            });
+        }
+        Some(nodes) => nodes.begin(node)?,
+    }
+    Ok(())
+}
+
+/// Adds an event to the last node, if there is one.
+fn push(nodes: &mut Option<Nodes>, event: Event) -> Result<(), AllocError>
+    requires { IfSome nodes.old (λ n. GoesAlong n.last) }
+    ensures nodes { OnOk result (nodes_in nodes.new ≡ on_last (with_event event) (nodes_in nodes.old)) }
+    ensures along { OnOk result (IfSome nodes.new (λ n. GoesAlong n.last)) }
+{
+    if let Some(nodes) = nodes {
+        nodes.last.push(event.caller, event.what)?;
+    }
+    Ok(())
+}
+
+fn add_node(
+    alloc: Global,
+    nodes: &mut Option<Nodes>,
+    number: u32,
+    shape: Shape,
+) -> Result<(), AllocError>
+    requires blocks { 1 ≤ shape.blocks }
+    requires room { number < 4294967295 }
+    ensures nodes { OnOk result (nodes_in nodes.new ≡ nodes_in nodes.old ++ began (number + 1) shape ∷ []) }
+    ensures along { OnOk result (IfSome nodes.new (λ n. GoesAlong n.last)) }
+{
+    let node = OpenNode::new(alloc, number + 1, shape)?;
+    begin(alloc, nodes, node)?;
+    Ok(())
+}
+
+/// Adds what a line says, which has this number.
+pub(crate) fn add(
+    alloc: Global,
+    nodes: &mut Option<Nodes>,
+    number: u32,
+    line: Line,
+) -> Result<(), ReadFault>
+    requires reading { IsReading number nodes.old }
+    requires in_range { IsInRange line }
+    requires room { number < 4294967295 }
+    ensures nodes { OnOk result (nodes_in nodes.new ≡ with_line number (nodes_in nodes.old) line) }
+    ensures along { OnOk result (IfSome nodes.new (λ n. GoesAlong n.last)) }
+    ensures memory { IfErr result (λ fault. fault ≡ OutOfMemory) }
+{
+    match line {
+        Line::Node { shape, .. } => add_node(alloc, nodes, number, shape)?,
+        Line::Happened(event) => push(nodes, event)?,
+        Line::Head(_) | Line::End => {}
+    }
+    Ok(())
+}
+
+/// The journals of the nodes that were read.
+pub(crate) fn finish(alloc: Global, nodes: Option<Nodes>) -> Result<Journals, ReadFault>
+    ensures nodes { IfOk result (λ journals. journals.nodes ≡ nodes_in nodes) }
+    ensures memory { IfErr result (λ fault. fault ≡ OutOfMemory) }
+{
+    let Some(nodes) = nodes else {
+        return Ok(Journals {
+            nodes: Sequence::new(alloc),
+        });
+    };
+    let mut closed = nodes.closed;
+    closed.push(nodes.last.close())?;
+    Ok(Journals { nodes: closed })
+}

@@ -1,0 +1,125 @@
+//! Sets of subpages from text.
+ghost use Rattle.std.specs.Prelude.{◌≡◌, ◌≤◌, ◌+◌, ◌||◌, [], IfOk, length};
+ghost use Rattle.thp_model.specs.Sets.{has, set_of};
+ghost use Rattle.thp_journal_reader.specs.SetTexts.{covers_number, longer_run, run_from, run_of, run_of_one, set_of_runs, set_of_text, set_with, subpage_number};
+
+use thp_model::SubSet;
+use thp_text::{TextKind, cut_at, number};
+
+fn subpage_number(word: &[u8]) -> Result<u32, TextKind>
+    ensures value { result ≡ subpage_number word.now }
+    ensures bound { IfOk result (λ n. n ≤ 511) }
+{
+    let value = number(511, word).ok_or(TextKind::BadSet)?;
+    Ok(value as u32)
+}
+
+fn run_of_one(word: &[u8]) -> Result<(u32, u32), TextKind>
+    ensures value { result ≡ run_of_one word.now }
+    ensures order { IfOk result (λ run. run.0 ≤ run.1) }
+    ensures bound { IfOk result (λ run. run.1 ≤ 511) }
+{
+    let value = subpage_number(word)?;
+    Ok((value, value))
+}
+
+fn longer_run(first: &[u8], last: &[u8]) -> Result<(u32, u32), TextKind>
+    ensures value { result ≡ longer_run first.now last.now }
+    ensures order { IfOk result (λ run. run.0 ≤ run.1) }
+    ensures bound { IfOk result (λ run. run.1 ≤ 511) }
+{
+    let first = subpage_number(first)?;
+    let last = subpage_number(last)?;
+    if last <= first {
+        return Err(TextKind::BadSet);
+    }
+    Ok((first, last))
+}
+
+/// The first and the last subpage of a run: `NUMBER` or `FIRST-LAST`.
+#[tactic(auto, unfolding(crate::specs::SetTexts::run_of))]
+fn run_of(text: &[u8]) -> Result<(u32, u32), TextKind>
+    ensures value { result ≡ run_of text.now }
+    ensures order { IfOk result (λ run. run.0 ≤ run.1) }
+    ensures bound { IfOk result (λ run. run.1 ≤ 511) }
+{
+    let (first, behind) = cut_at(b'-', text);
+    let Some(behind) = behind else {
+        return run_of_one(first);
+    };
+    let (last, more) = cut_at(b'-', behind);
+    if more.is_some() {
+        return Err(TextKind::BadSet);
+    }
+    longer_run(first, last)
+}
+
+/// A run that doesn't begin below `least`.
+#[tactic(auto, unfolding(crate::specs::SetTexts::run_from))]
+fn run_from(least: u32, text: &[u8]) -> Result<(u32, u32), TextKind>
+    ensures value { result ≡ run_from least text.now }
+    ensures order { IfOk result (λ run. run.0 ≤ run.1) }
+    ensures bound { IfOk result (λ run. run.1 ≤ 511) }
+{
+    let run = run_of(text)?;
+    if run.0 < least {
+        return Err(TextKind::BadSet);
+    }
+    Ok(run)
+}
+
+/// Puts the subpages of a run into a set.
+fn put_run(set: &mut SubSet, run: (u32, u32))
+    requires order { run.0 ≤ run.1 }
+    requires bound { run.1 ≤ 511 }
+    ensures { length set.old ≡ 512 → set.new ≡ set_of (λ i. has set.old i || covers_number i run) }
+{
+    let (first, last) = run;
+    if first == last {
+        set.insert(first);
+        return;
+    }
+    *set = set.union(SubSet::range(first, last - first + 1));
+}
+
+/// The set of the runs that a text writes, with commas between them.
+fn set_of_runs(text: &[u8]) -> Result<SubSet, TextKind>
+    ensures { result ≡ set_of_runs text.now }
+{
+    let mut set = SubSet::empty();
+    let mut least = 0;
+    let mut rest = text;
+    loop {
+        let (piece, after) = cut_at(b',', rest);
+        let run = match run_from(least, piece) {
+            Ok(run) => run,
+            Err(kind) => return Err(kind),
+        };
+        put_run(&mut set, run);
+        match after {
+            None => return Ok(set),
+            Some(after) => {
+                least = run.1 + 2;
+                rest = after;
+            }
+        }
+    }
+}
+
+#[tactic(auto, unfolding(crate::specs::SetTexts::set_with))]
+fn set_of_none() -> SubSet
+    ensures { result ≡ set_with [] }
+{
+    SubSet::empty()
+}
+
+/// The set that a text writes: its maximal runs, ascending, with commas between them, or `-` where it is empty.
+#[tactic(auto, unfolding(crate::specs::SetTexts::set_of_text))]
+pub(crate) fn set_of_text(text: &[u8]) -> Result<SubSet, TextKind>
+    ensures { result ≡ set_of_text text.now }
+{
+    if text == b"-".as_slice() {
+        return Ok(set_of_none());
+    }
+    set_of_runs(text)
+}

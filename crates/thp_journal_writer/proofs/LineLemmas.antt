@@ -1,0 +1,121 @@
+-- Lines made piece by piece.
+use Rattle.std.proofs.Common.{◌≡◌, ℕ, ◌+◌, ◌/◌, ◌%◌, ◌<◌, ◌≤◌, List, [], ◌∷◌, ◌++◌, map, refl, ap, sym, ◌∙◌, arith, append_assoc, codes, Bool, true, false, ◌||◌, ◌&&◌}
+use Rattle.std.specs.Fmt.{decimal}
+use Rattle.std.proofs.lemmas.Fmt.{decimal_digit, decimal_step}
+use Rattle.thp_model.specs.declared.events.Event.{Event}
+use Rattle.thp_model.specs.declared.events.What.{What}
+use Rattle.thp_model.specs.declared.events.What.TheVariants.{Alloc, MapWhole, UnmapWhole, MapSub, UnmapSub, SplitPmd, Pin, Unpin, Write, Zero, Taken, Split, Pinned, Used, Back, Dropped, Close}
+use Rattle.thp_journal_writer.specs.EventLines.{line_of, what_words, event_words, event_line}
+use Rattle.std.specs.List.{list_any, list_all}
+use Rattle.thp_model.specs.declared.shape.Shape.{Shape}
+use Rattle.thp_journal_writer.specs.declared.node_history.NodeHistory.{NodeHistory}
+use Rattle.thp_journal_writer.specs.declared.version.Version.{Version}
+use Rattle.thp_journal_writer.specs.declared.version.Version.TheVariants.{Plain, Orders, Underused}
+use Rattle.thp_journal_writer.specs.Histories.{journal_of}
+use Rattle.thp_journal_writer.specs.Journals.{Journal, ended, is_access, node_line, underused_word, tells_underused, has_order_9, version_line, version_number, version_of}
+use Rattle.thp_model.specs.History.{some_event}
+use Rattle.thp_model.specs.Underused.{shrinks_underused}
+
+-- a number of two digits
+pub two_digits : (n : ℕ) → 10 ≤ n → n < 100 → decimal n ≡ (48 + n / 10) ∷ (48 + n % 10) ∷ []
+two_digits n low high = decimal_step n low (omega arith) ∙ ap (λ ds. ds ++ ((48 + n % 10) ∷ [])) (decimal_digit (n / 10) (omega arith))
+
+-- a number of three digits
+pub three_digits : (n : ℕ) → 100 ≤ n → n < 1000 → decimal n ≡ (48 + n / 10 / 10) ∷ (48 + n / 10 % 10) ∷ (48 + n % 10) ∷ []
+three_digits n low high =
+    decimal_step n (omega arith) (omega arith) ∙ ap (λ ds. ds ++ ((48 + n % 10) ∷ [])) (two_digits (n / 10) (omega arith) (omega arith))
+
+-- a number of one, two and three digits behind a text, and a byte behind it
+pub number_of_one : (t : List ℕ) (n d after : ℕ) → n < 10 → d ≡ 48 + n → t ++ (d ∷ after ∷ []) ≡ t ++ decimal n ++ after ∷ []
+number_of_one t n d after h e =
+    ap (λ x. t ++ (x ∷ after ∷ [])) e ∙ sym (append_assoc t ((48 + n) ∷ []) (after ∷ [])) ∙ ap (λ ds. t ++ ds ++ after ∷ []) (sym (decimal_digit n h))
+
+pub number_of_two : (t : List ℕ) (n d e after : ℕ) → 10 ≤ n → n < 100 → d ≡ 48 + n / 10 → e ≡ 48 + n % 10 → t ++ (d ∷ e ∷ after ∷ []) ≡ t ++ decimal n ++ after ∷ []
+number_of_two t n d e after low high f g =
+    ap (λ x. t ++ (x ∷ e ∷ after ∷ [])) f ∙ ap (λ x. t ++ ((48 + n / 10) ∷ x ∷ after ∷ [])) g
+    ∙ sym (append_assoc t ((48 + n / 10) ∷ (48 + n % 10) ∷ []) (after ∷ [])) ∙ ap (λ ds. t ++ ds ++ after ∷ []) (sym (two_digits n low high))
+
+pub number_of_three : (t : List ℕ) (n d e f after : ℕ) → 100 ≤ n → n < 1000 → d ≡ 48 + n / 10 / 10 → e ≡ 48 + n / 10 % 10 → f ≡ 48 + n % 10 →
+    t ++ (d ∷ e ∷ f ∷ after ∷ []) ≡ t ++ decimal n ++ after ∷ []
+number_of_three t n d e f after low high g h i =
+    ap (λ x. t ++ (x ∷ e ∷ f ∷ after ∷ [])) g ∙ ap (λ x. t ++ ((48 + n / 10 / 10) ∷ x ∷ f ∷ after ∷ [])) h ∙ ap (λ x. t ++ ((48 + n / 10 / 10) ∷ (48 + n / 10 % 10) ∷ x ∷ after ∷ [])) i
+    ∙ sym (append_assoc t ((48 + n / 10 / 10) ∷ (48 + n / 10 % 10) ∷ (48 + n % 10) ∷ []) (after ∷ [])) ∙ ap (λ ds. t ++ ds ++ after ∷ []) (sym (three_digits n low high))
+
+-- the line of a node, piece by piece
+pub plain_node : (t t1 t2 t3 : List ℕ) (v : Version) (n blocks : ℕ) (s : Shape) → v ≡ Plain → blocks ≡ s.blocks → t1 ≡ t ++ codes "node " → t2 ≡ t1 ++ decimal n ++ 32 ∷ [] → t3 ≡ t2 ++ codes "blocks " →
+    t3 ++ decimal blocks ++ 10 ∷ [] ≡ t ++ ended (node_line v n s)
+unfolding node_line
+plain_node t t1 t2 t3 v n blocks s is e0 e1 e2 e3 = rw (e3, e2, e1, e0, is) (simp append_assoc)
+
+pub orders_node : (t t1 t2 t3 : List ℕ) (v : Version) (n : ℕ) (s : Shape) → v ≡ Orders → t1 ≡ t ++ codes "node " → t2 ≡ t1 ++ decimal n ++ 32 ∷ [] → t3 ≡ t2 ++ codes "blocks " →
+    t3 ++ decimal s.blocks ++ codes " order " ++ decimal s.order ++ 10 ∷ [] ≡ t ++ ended (node_line v n s)
+unfolding node_line
+orders_node t t1 t2 t3 v n s is e1 e2 e3 = rw (e3, e2, e1, is) (simp append_assoc)
+
+pub underused_node : (t t1 t2 t3 t4 : List ℕ) (v : Version) (n : ℕ) (s : Shape) → v ≡ Underused → t1 ≡ t ++ codes "node " → t2 ≡ t1 ++ decimal n ++ 32 ∷ [] → t3 ≡ t2 ++ codes "blocks " →
+    t4 ≡ t3 ++ decimal s.blocks ++ codes " order " ++ decimal s.order ++ 32 ∷ [] → t4 ++ codes "underused " ++ ended (underused_word s.underused) ≡ t ++ ended (node_line v n s)
+unfolding node_line
+underused_node t t1 t2 t3 t4 v n s is e1 e2 e3 e4 = rw (e4, e3, e2, e1, is) (simp append_assoc)
+
+-- a test of journals, at the nodes that they tell
+any_of_map : (nodes : List NodeHistory) → list_any tells_underused (map journal_of nodes) ≡ list_any (λ node. tells_underused (journal_of node)) nodes
+any_of_map [] = refl
+any_of_map (node ∷ nodes) = ap (λ b. tells_underused (journal_of node) || b) (any_of_map nodes)
+
+all_of_map : (nodes : List NodeHistory) → list_all has_order_9 (map journal_of nodes) ≡ list_all (λ node. has_order_9 (journal_of node)) nodes
+all_of_map [] = refl
+all_of_map (node ∷ nodes) = ap (λ b. has_order_9 (journal_of node) && b) (all_of_map nodes)
+
+-- the version of some nodes, by their tests
+pub version_underused : (nodes : List NodeHistory) → list_any (λ node. tells_underused (journal_of node)) nodes ≡ true → Underused ≡ version_of (map journal_of nodes)
+unfolding version_of
+version_underused nodes e = rw (any_of_map nodes ∙ e) refl
+
+pub version_plain : (nodes : List NodeHistory) → list_any (λ node. tells_underused (journal_of node)) nodes ≡ false → list_all (λ node. has_order_9 (journal_of node)) nodes ≡ true → Plain ≡ version_of (map journal_of nodes)
+unfolding version_of
+version_plain nodes e f = rw (any_of_map nodes ∙ e, all_of_map nodes ∙ f) refl
+
+pub version_orders : (nodes : List NodeHistory) → list_any (λ node. tells_underused (journal_of node)) nodes ≡ false → list_all (λ node. has_order_9 (journal_of node)) nodes ≡ false → Orders ≡ version_of (map journal_of nodes)
+unfolding version_of
+version_orders nodes e f = rw (any_of_map nodes ∙ e, all_of_map nodes ∙ f) refl
+
+-- the caller stands before what happened
+caller_first : (digits : List ℕ) (w : What) → line_of (digits ∷ what_words w) ≡ digits ++ 32 ∷ line_of (what_words w)
+caller_first digits (Alloc page block) = refl
+caller_first digits (MapWhole page) = refl
+caller_first digits (UnmapWhole outcome page released) = refl
+caller_first digits (MapSub page first count) = refl
+caller_first digits (UnmapSub outcome page first count released) = refl
+caller_first digits (SplitPmd page) = refl
+caller_first digits (Pin page) = refl
+caller_first digits (Unpin outcome page released) = refl
+caller_first digits (Write page first count) = refl
+caller_first digits (Zero page first count) = refl
+caller_first digits (Taken page) = refl
+caller_first digits (Split page released) = refl
+caller_first digits (Pinned page) = refl
+caller_first digits (Used page) = refl
+caller_first digits (Back page) = refl
+caller_first digits (Dropped page) = refl
+caller_first digits Close = refl
+
+-- the line of an event behind a text
+pub event_behind : (t t1 : List ℕ) (caller : ℕ) (e : Event) → caller ≡ e.caller → t1 ≡ t ++ decimal caller ++ 32 ∷ [] → t1 ++ ended (line_of (what_words e.what)) ≡ t ++ ended (event_line e)
+unfolding event_line event_words
+event_behind t t1 caller e same e1 =
+    go t1 t (decimal caller) (decimal e.caller) (line_of (what_words e.what)) (line_of (decimal e.caller ∷ what_words e.what)) e1 (ap decimal same) (caller_first (decimal e.caller) e.what) where
+      go : (t1 t c d w l : List ℕ) → t1 ≡ t ++ c ++ 32 ∷ [] → c ≡ d → l ≡ d ++ 32 ∷ w → t1 ++ (w ++ 10 ∷ []) ≡ t ++ (l ++ 10 ∷ [])
+      go t1 t c d w l f g h = rw (f, g, h) (simp append_assoc)
+
+-- the first line, piece by piece
+pub version_behind : (t t1 : List ℕ) (n : ℕ) (v : Version) → n ≡ version_number v → t1 ≡ t ++ codes "thp-journal " → t1 ++ decimal n ++ 10 ∷ [] ≡ t ++ ended (version_line v)
+version_behind t t1 n v e f = rw (f, e) (simp append_assoc)
+
+-- what a node tells of underused pages and of what was written
+pub told_by_switch : (j : Journal) (b : Bool) → b ≡ shrinks_underused j.0 → b ≡ true → b ≡ tells_underused j
+unfolding tells_underused
+told_by_switch j b e is = is ∙ sym (ap (λ x. x || some_event is_access j.1) (sym e ∙ is))
+
+pub told_by_events : (j : Journal) (b c : Bool) → b ≡ shrinks_underused j.0 → b ≡ false → c ≡ list_any (λ (event : Event). is_access event.what) j.1 → c ≡ tells_underused j
+unfolding tells_underused some_event
+told_by_events j b c e is f = f ∙ sym (ap (λ x. x || some_event is_access j.1) (sym e ∙ is))

@@ -1,0 +1,7 @@
+-- The histories of nodes as the journals that a text tells.
+use Rattle.thp_journal_writer.specs.declared.node_history.NodeHistory.{NodeHistory}
+use Rattle.thp_journal_writer.specs.Journals.{Journal}
+
+-- the node's shape and events
+abbrev pub journal_of : NodeHistory → Journal
+journal_of node = (node.shape, node.events.now)

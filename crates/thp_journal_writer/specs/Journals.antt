@@ -1,0 +1,90 @@
+-- Journals as text: what the nodes of a run were, and what happened on each (this project's journal format).
+use Rattle.std.specs.Prelude.{ℕ, ◌+◌, ◌==◌, ◌||◌, Bool, true, false, List, [], ◌∷◌, ◌++◌, map, Option, Some, None, is_some, codes, if◌then◌else◌}
+use Rattle.std.specs.List.{list_any, list_all, flat_map}
+use Rattle.std.specs.Fmt.{decimal}
+use Rattle.thp_model.specs.declared.events.What.{What}
+use Rattle.thp_model.specs.declared.events.What.TheVariants.{Write, Zero}
+use Rattle.thp_model.specs.declared.shape.Shape.{Shape}
+use Rattle.thp_model.specs.History.{History, some_event}
+use Rattle.thp_journal_writer.specs.declared.version.Version.{Version}
+use Rattle.thp_journal_writer.specs.declared.version.Version.TheVariants.{Plain, Orders, Underused}
+use Rattle.thp_journal_writer.specs.EventLines.{line_of, event_line}
+
+-- the shape of a node, and what happened there
+abbrev pub Journal : Type 0
+Journal = Shape × History
+
+-- data or zeros were written to subpages
+abbrev pub is_access : What → Bool
+is_access (Write page first count) = true
+is_access (Zero page first count) = true
+is_access _ = false
+
+-- the node looks for underused pages, or what was written to its pages was recorded
+unfoldable pub tells_underused : Journal → Bool
+tells_underused journal = is_some journal.0.underused || some_event is_access journal.1
+
+-- the pages of the node have the order of a THP on x86-64
+abbrev pub has_order_9 : Journal → Bool
+has_order_9 journal = journal.0.order == 9
+
+-- the least version that can tell these journals
+unfoldable pub version_of : List Journal → Version
+version_of journals =
+    if list_any tells_underused journals then Underused
+    else if list_all has_order_9 journals then Plain
+    else Orders
+
+-- versions count from 1
+abbrev pub version_number : Version → ℕ
+version_number Plain = 1
+version_number Orders = 2
+version_number Underused = 3
+
+-- the first line of a text
+abbrev pub version_line : Version → List ℕ
+version_line v = line_of (codes "thp-journal" ∷ decimal (version_number v) ∷ [])
+
+-- `off`, or the threshold
+abbrev pub underused_word : Option ℕ → List ℕ
+underused_word None = codes "off"
+underused_word (Some threshold) = decimal threshold
+
+-- the number of a node and its blocks
+abbrev pub blocks_words : ℕ → Shape → List (List ℕ)
+blocks_words n s = codes "node" ∷ decimal n ∷ codes "blocks" ∷ decimal s.blocks ∷ []
+
+-- the same and the order of its pages
+abbrev pub order_words : ℕ → Shape → List (List ℕ)
+order_words n s = blocks_words n s ++ codes "order" ∷ decimal s.order ∷ []
+
+-- what a version tells of node n
+abbrev pub node_words : Version → ℕ → Shape → List (List ℕ)
+node_words Plain n s = blocks_words n s
+node_words Orders n s = order_words n s
+node_words Underused n s = order_words n s ++ codes "underused" ∷ underused_word s.underused ∷ []
+
+-- the line of node n
+unfoldable pub node_line : Version → ℕ → Shape → List ℕ
+node_line v n s = line_of (node_words v n s)
+
+-- the lines of node n: its own, and one for each event
+unfoldable pub lines_of_node : Version → ℕ → Journal → List (List ℕ)
+lines_of_node v n journal = node_line v n journal.0 ∷ map event_line journal.1
+
+-- the lines of nodes that are numbered from n on
+abbrev pub lines_from : Version → ℕ → List Journal → List (List ℕ)
+lines_from v n [] = []
+lines_from v n (journal ∷ journals) = lines_of_node v n journal ++ lines_from v (n + 1) journals
+
+-- the lines of a journal text, without their line feeds
+unfoldable pub journal_lines : List Journal → List (List ℕ)
+journal_lines journals = version_line (version_of journals) ∷ lines_from (version_of journals) 0 journals ++ codes "end" ∷ []
+
+-- a line with its line feed (10)
+abbrev pub ended : List ℕ → List ℕ
+ended line = line ++ 10 ∷ []
+
+-- the text of the nodes' journals, numbered from 0 on
+unfoldable pub journal_text : List Journal → List ℕ
+journal_text journals = flat_map ended (journal_lines journals)

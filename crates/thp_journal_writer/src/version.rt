@@ -1,0 +1,27 @@
+//! Which version of the format tells a journal.
+ghost use Rattle.std.specs.Prelude.{◌≡◌};
+ghost use Rattle.thp_journal_writer.specs.Journals.{version_number};
+
+/// The version of a journal's text. Each later one tells more of a node; a text is of the least that can tell its nodes.
+#[derive(Clone, Copy, PartialEq, Eq, Debug)]
+pub enum Version {
+    /// Version 1: the blocks of each node, whose pages have order 9.
+    Plain,
+    /// Version 2: also the order of each node's pages.
+    Orders,
+    /// Version 3: also whether a node looks for underused pages, and what was written to pages.
+    Underused,
+}
+
+impl Version {
+    /// The number of the version, from 1 on.
+    pub fn number(self) -> u64
+        ensures { result ≡ version_number self }
+    {
+        match self {
+            Version::Plain => 1,
+            Version::Orders => 2,
+            Version::Underused => 3,
+        }
+    }
+}

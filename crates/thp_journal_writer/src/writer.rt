@@ -1,0 +1,125 @@
+//! Whole journals as text.
+ghost use Rattle.std.specs.Prelude.{◌≡◌, ◌+◌, [], ◌∷◌, ◌++◌, map, OnOk, IfOk, codes};
+ghost use Rattle.std.specs.List.{flat_map, list_any, list_all};
+ghost use Rattle.std.specs.Fmt.{decimal};
+ghost use Rattle.thp_journal_writer.specs.Histories.{journal_of};
+ghost use Rattle.thp_journal_writer.specs.Journals.{journal_text as text_of, version_of, version_line, node_line, lines_of_node, underused_word, tells_underused, has_order_9, ended};
+
+use crate::events::put_event;
+use crate::node_history::NodeHistory;
+use crate::numbers::{put, put_number};
+use crate::version::Version;
+use std::alloc::{AllocError, Global};
+use thp_model::Shape;
+
+/// The journal text of these nodes, which are numbered from 0 on: the first line tells the version, which is the least that
+/// can tell these nodes; then for each node come a line with its size and one for each event; the last line is `end`.
+///
+/// The blocks of new pages aren't told. The text is written into one buffer, which grows.
+pub fn journal_text(alloc: Global, nodes: &[NodeHistory<'_>]) -> Result<Vec<u8>, AllocError>
+    ensures { IfOk result (λ text. text.items ≡ text_of (map journal_of nodes.now)) }
+{
+    let version = least_version(nodes);
+    let mut text = Vec::new(alloc);
+    put_version(&mut text, version)?;
+    for (n, node) in nodes.iter().enumerate() {
+        put_node(&mut text, version, n, node)?;
+    }
+    put(&mut text, b"end\n")?;
+    Ok(text)
+}
+
+// the least version that can tell these nodes
+fn least_version(nodes: &[NodeHistory<'_>]) -> Version
+    ensures { result ≡ version_of (map journal_of nodes.now) }
+{
+    if tell_underused(nodes) {
+        Version::Underused
+    } else if have_order_9(nodes) {
+        Version::Plain
+    } else {
+        Version::Orders
+    }
+}
+
+// whether a node looks for underused pages, or what was written to its pages was recorded
+fn tell_underused(nodes: &[NodeHistory<'_>]) -> bool
+    ensures { result ≡ list_any (λ node. tells_underused (journal_of node)) nodes.now }
+{
+    nodes.iter().any(|node| node.tells_underused())
+}
+
+// whether the pages of each node have order 9
+fn have_order_9(nodes: &[NodeHistory<'_>]) -> bool
+    ensures { result ≡ list_all (λ node. has_order_9 (journal_of node)) nodes.now }
+{
+    nodes
+        .iter()
+        .all(|node| node.shape.order == Shape::MAX_ORDER)
+}
+
+// the first line
+fn put_version(text: &mut Vec<u8>, version: Version) -> Result<(), AllocError>
+    ensures { OnOk result (text.new.items ≡ text.old.items ++ ended (version_line version)) }
+{
+    put(text, b"thp-journal ")?;
+    put_number(text, version.number(), b'\n')
+}
+
+// the lines of node n
+fn put_node(
+    text: &mut Vec<u8>,
+    version: Version,
+    n: usize,
+    node: &NodeHistory<'_>,
+) -> Result<(), AllocError>
+    ensures { OnOk result (text.new.items ≡ text.old.items ++ flat_map ended (lines_of_node version n (journal_of node.now))) }
+{
+    put_shape(text, version, n, &node.shape)?;
+    for event in node.events {
+        put_event(text, event)?;
+    }
+    Ok(())
+}
+
+// the line of node n
+fn put_shape(
+    text: &mut Vec<u8>,
+    version: Version,
+    n: usize,
+    shape: &Shape,
+) -> Result<(), AllocError>
+    ensures { OnOk result (text.new.items ≡ text.old.items ++ ended (node_line version n shape.now)) }
+{
+    put(text, b"node ")?;
+    put_number(text, n as u64, b' ')?;
+    put(text, b"blocks ")?;
+    match version {
+        Version::Plain => put_number(text, u64::from(shape.blocks), b'\n'),
+        Version::Orders => { put_order(text, shape, b'\n') }
+        Version::Underused => {
+            put_order(text, shape, b' ')?;
+            put_underused(text, shape.underused)
+        }
+    }
+}
+
+// the blocks and the order, and the byte `after`
+fn put_order(text: &mut Vec<u8>, shape: &Shape, after: u8) -> Result<(), AllocError>
+    ensures { OnOk result (text.new.items ≡ text.old.items ++ decimal shape.now.blocks ++ codes " order " ++ decimal shape.now.order ++ after ∷ []) }
+{
+    put_number(text, u64::from(shape.blocks), b' ')?;
+    put(text, b"order ")?;
+    put_number(text, u64::from(shape.order), after)
+}
+
+// what the node looks for, and a line feed
+fn put_underused(text: &mut Vec<u8>, underused: Option<u32>) -> Result<(), AllocError>
+    ensures { OnOk result (text.new.items ≡ text.old.items ++ codes "underused " ++ ended (underused_word underused)) }
+{
+    put(text, b"underused ")?;
+    match underused {
+        None => put(text, b"off\n"),
+        Some(threshold) => put_number(text, u64::from(threshold), b'\n'),
+    }
+}

@@ -1,0 +1,143 @@
+-- What a loss comes to, by the page before and after it.
+use Rattle.std.proofs.Common.{◌≡◌, ℕ, ◌+◌, ◌<◌, ◌^◌, Bool, true, false, cond, not, ◌&&◌, ◌||◌, List, refl, ap, ap₂, sym, ◌∙◌, arith, nat_eq, nat_lt}
+use Rattle.std.proofs.lemmas.Bool.Decides.{nat_tests}
+use Rattle.thp_model.specs.declared.events.Outcome.{Outcome}
+use Rattle.thp_model.specs.declared.events.Outcome.TheVariants.{Freed, Queued, Stays}
+use Rattle.thp_model.specs.Counts.{is_freed}
+use Rattle.thp_model.specs.Pages.{PageState, Pinned, size, total_at, zero_at, holds, has_use, drops_use}
+use Rattle.thp_model.specs.PageChanges.{page_outcome, page_released}
+use Rattle.thp_model.specs.Sets.{set_of, has}
+use Rattle.thp_model.proofs.Below.{some_no, some_none}
+use Rattle.thp_model.proofs.Bools.{by_bool}
+use Rattle.thp_model.proofs.WordLemmas.{set_of-ext}
+use Rattle.thp_page.specs.declared.page.Change.{Change}
+use Rattle.thp_page.specs.Changes.{IsChange}
+use Rattle.thp_page.specs.declared.standing.Standing.{Standing}
+use Rattle.thp_page.specs.declared.standing.Standing.TheVariants as standing
+use Rattle.thp_live_pages.specs.PlacesState.{is_nowhere}
+use Rattle.thp_model.specs.declared.page_call.Loss.{Loss}
+use Rattle.thp_model.specs.declared.page_call.Loss.TheVariants as loss
+use Rattle.thp_model.specs.PageCalls.{Loses}
+use Rattle.thp_live_pages.specs.Outcomes.{outcome_by, released_after}
+
+same_sizes : (a b : PageState) → a.order ≡ b.order → size a ≡ size b
+unfolding size
+same_sizes a b e = ap (λ n. 2 ^ n) e
+
+neither : (a b : ℕ) → a ≡ b → (nat_lt 0 a && nat_eq b 0) ≡ false
+neither a b e = grind (arith, nat_tests)
+
+same_use : (x x' s s' g g' z z' : Bool) (a b : ℕ) → x ≡ x' → s ≡ s' → g ≡ g' → z ≡ z' → (x ≡ true → a ≡ b) →
+    (x && (not s || (nat_lt 0 a && not (g && z)))) ≡ (x' && (not s' || (nat_lt 0 b && not (g' && z'))))
+same_use true true s s' g g' z z' a b e f i j t =
+    ap₂ (λ (p q : Bool). not p || q) f (ap₂ (λ (n : ℕ) (r : Bool). nat_lt 0 n && not r) (t refl) (ap₂ (λ (u v : Bool). u && v) i j))
+same_use true false s s' g g' z z' a b e f i j t = absurd (cc)
+same_use false true s s' g g' z z' a b e f i j t = absurd (cc)
+same_use false false s s' g g' z z' a b e f i j t = refl
+
+below_size : (i n : ℕ) → nat_lt i n ≡ true → i < n
+below_size i n e = grind (arith, nat_tests)
+
+-- an unpin changes the use of no subpage
+pub unpin_change : (old new : PageState) (used : Bool) (none : List Bool) → Pinned new old → used ≡ has_use new → none ≡ set_of (λ i. false) →
+    IsChange old new (record { unused = false; used_left = used; released = none })
+unpin_change old new used none p u n = record {
+  unused = sym (some_no (size old) _ (λ i below. neither (total_at old i) (total_at new i) (totals i below)));
+  used_left = u;
+  released = n ∙ set_of-ext _ _ (λ i below. sym (gone (holds old i) (holds new i) (same i)));
+} where
+  totals : (i : ℕ) → i < size old → total_at old i ≡ total_at new i
+  totals i below = ap₂ (λ a b. a + b) p.whole (p.own i (omega (arith, same_sizes old new p.order)))
+
+  same : (i : ℕ) → holds old i ≡ holds new i
+  same i = same_use _ _ _ _ _ _ _ _ _ _ (ap (nat_lt i) (same_sizes old new p.order)) p.split p.kept.gave_zero (ap (λ (set : List Bool). has set i) p.kept.zero) (λ y. totals i (below_size i (size old) y))
+
+  gone : (a b : Bool) → a ≡ b → (a && not b) ≡ false
+  gone true true e = refl
+  gone true false e = absurd (cc)
+  gone false b e = refl
+
+-- a loss leaves the order of its page, and whether it is split
+pub loss_order : (l : Loss) (old new : PageState) → Loses l old new → old.order ≡ new.order
+loss_order loss.UnmapWhole old new w = sym w.order
+loss_order (loss.UnmapSub f n) old new w = sym w.order
+loss_order loss.Unpin old new w = w.order
+
+pub loss_split : (l : Loss) (old new : PageState) → Loses l old new → old.split ≡ new.split
+loss_split loss.UnmapWhole old new w = sym w.split
+loss_split (loss.UnmapSub f n) old new w = sym w.split
+loss_split loss.Unpin old new w = w.split
+
+-- the outcome, by the change
+pub outcome_is_by : (l : Loss) (old new : PageState) (change : Change) (closed nowhere : Bool) → Loses l old new → IsChange old new change →
+    outcome_by new change closed nowhere ≡ page_outcome old new closed (not nowhere)
+outcome_is_by l old new change closed nowhere w c =
+    go _ _ _ _ _ _ nowhere c.used_left c.unused (sym (loss_split l old new w)) where
+      go : (a a' b b' s s' n : Bool) → a ≡ a' → b ≡ b' → s ≡ s' →
+          cond (not a && nat_eq new.pins 0) Freed (cond (not s && (b && (a && (not closed && n)))) Queued Stays)
+          ≡ cond (not a' && nat_eq new.pins 0) Freed (cond (not s' && (b' && (a' && (not closed && not (not n))))) Queued Stays)
+      go a a' b b' s s' true e f g = cc
+      go a a' b b' s s' false e f g = cc
+
+freed_unused : (old new : PageState) (closed standing : Bool) (o : Outcome) → is_freed o ≡ true → o ≡ page_outcome old new closed standing → has_use new ≡ false
+freed_unused old new closed standing o f e = go o (has_use new) (nat_eq new.pins 0) _ f e where
+  go : (o : Outcome) (a b : Bool) (r : Bool) → is_freed o ≡ true → o ≡ cond (not a && b) Freed (cond r Queued Stays) → a ≡ false
+  go o true b true f e = absurd (let g : o ≡ Queued = e in cc)
+  go o true b false f e = absurd (let g : o ≡ Stays = e in cc)
+  go o false b r f e = refl
+
+power_size : (t : PageState) → 2 ^ t.order ≡ size t
+unfolding size
+power_size t = refl
+
+not_held : (x s u : Bool) → s ≡ true → (x ≡ true → u ≡ false) → (x && (not s || u)) ≡ false
+not_held true true u e f = f refl
+not_held true false u e f = absurd (cc)
+not_held false s u e f = refl
+
+partly_kept : (a b f : Bool) → f ≡ true → b ≡ false → (a && not b) ≡ (a && (f || not b))
+partly_kept a b f e g = cc
+
+whole_gone : (x y s u f h : Bool) → x ≡ y → s ≡ false → f ≡ true → x ≡ ((y && (not s || u)) && (f || not h))
+whole_gone true true false u true h d e g = refl
+whole_gone true true false u false h d e g = absurd (cc)
+whole_gone true true true u f h d e g = absurd (cc)
+whole_gone true false s u f h d e g = absurd (cc)
+whole_gone false true s u f h d e g = absurd (cc)
+whole_gone false false s u f h d e g = refl
+
+-- the frames given back, by the change
+pub released_is_by : (l : Loss) (old new : PageState) (change : Change) (closed standing : Bool) (o : Outcome) → Loses l old new → IsChange old new change →
+    o ≡ page_outcome old new closed standing → released_after new change o ≡ page_released old new o
+released_is_by l old new change closed standing o w c e =
+    by_bool (is_freed o) _
+    (λ f. by_bool new.split _
+    (λ y. pick (is_freed o && not new.split) (both_no (is_freed o) new.split y) ∙ c.released
+    ∙ set_of-ext _ _ (λ i below. partly_kept (holds old i) (holds new i) (is_freed o) f
+    (not_held (nat_lt i (size new)) new.split (nat_lt 0 (total_at new i) && not (new.gave_zero && zero_at new i)) y
+    (λ z. ap (λ u. u && not (new.gave_zero && zero_at new i)) (some_none (size new) (λ j. nat_lt 0 (total_at new j)) (freed_unused old new closed standing o f e) i (below_size i (size new) z))))))
+    (λ y. all (is_freed o && not new.split) (both_yes (is_freed o) new.split f y)
+    ∙ set_of-ext _ _ (λ i below. whole_gone (nat_lt i (2 ^ new.order)) (nat_lt i (size old)) old.split (nat_lt 0 (total_at old i) && not (old.gave_zero && zero_at old i)) (is_freed o) (holds new i)
+    (ap (nat_lt i) (power_size new ∙ same_sizes new old (sym (loss_order l old new w)))) (loss_split l old new w ∙ y) f)))
+    (λ f. pick (is_freed o && not new.split) (ap (λ x. x && not new.split) f) ∙ c.released
+    ∙ set_of-ext _ _ (λ i below. ap (λ x. holds old i && (x || not (holds new i))) (sym f))) where
+      pick : (b : Bool) → b ≡ false → cond b (set_of (λ i. nat_lt i (2 ^ new.order))) change.released ≡ change.released
+      pick b e = ap (λ x. cond x (set_of (λ i. nat_lt i (2 ^ new.order))) change.released) e
+
+      all : (b : Bool) → b ≡ true → cond b (set_of (λ i. nat_lt i (2 ^ new.order))) change.released ≡ set_of (λ i. nat_lt i (2 ^ new.order))
+      all b e = ap (λ x. cond x (set_of (λ i. nat_lt i (2 ^ new.order))) change.released) e
+
+      both_no : (a b : Bool) → b ≡ true → (a && not b) ≡ false
+      both_no true b e = ap not e
+      both_no false b e = refl
+
+      both_yes : (a b : Bool) → a ≡ true → b ≡ false → (a && not b) ≡ true
+      both_yes a b e f = cc
+
+-- a page that is queued stood nowhere
+pub queued_nowhere : (old new : PageState) (closed : Bool) (w : Standing) → Queued ≡ page_outcome old new closed (not (is_nowhere w)) → w ≡ standing.Queued → ⊥
+queued_nowhere old new closed w e q =
+    go (has_use new) (nat_eq new.pins 0) old.split (drops_use old new) closed (is_nowhere w) (ap is_nowhere q) e where
+      go : (a b s d k n : Bool) → n ≡ false → Queued ≡ cond (not a && b) Freed (cond (not s && (d && (a && (not k && not (not n))))) Queued Stays) → ⊥
+      go a b s d k true f e = cc
+      go a b s d k false f e = absurd (grind arith)

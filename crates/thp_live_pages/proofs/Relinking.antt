@@ -1,0 +1,275 @@
+-- The queue after an edit of one block: it still stands, with the blocks that it should have. What an edit does to one slot.
+use Rattle.std.proofs.Common.{◌≡◌, ◌≢◌, ℕ, true, false, zero, suc, ◌+◌, ◌<◌, ◌≤◌, List, [], ◌∷◌, ◌++◌, Option, Some, None, IsSome, length, drop, refl, ap, ap₂, sym, ◌∙◌, subst, arith, inl, inr, get_or, length-set, replicate}
+use Rattle.std.specs.Prelude.{slice_set, slice_get}
+use Rattle.std.specs.List.{Contains}
+use Rattle.std.specs.Option.{IfSome}
+use Rattle.std.proofs.lemmas.List.{get_or-set_same, get_or-set_other, length-replicate}
+use Rattle.std.proofs.lemmas.List.Elements.{Contains-append_cases}
+use Rattle.std.proofs.lemmas.Bool.Decides.{eqb_tells}
+use Rattle.thp_links.specs.declared.link.Link.{Link}
+use Rattle.thp_links.specs.Indices.{Distinct, without}
+use Rattle.thp_links.specs.Standing.{Stands, SameOutside}
+use Rattle.thp_links.proofs.Members.{Contains-cons_cases, Contains-head, Contains-behind, Contains-nil, first_and_rest, Contains-from_without, Contains-without, Contains-from_rest, Distinct-head, without_absent}
+use Rattle.thp_links.proofs.OneTable.{Stands-nil}
+use Rattle.thp_model.specs.declared.events.Outcome.{Outcome}
+use Rattle.thp_model.specs.Pages.{PageState}
+use Rattle.thp_page.specs.declared.standing.Standing.{Standing}
+use Rattle.thp_page.specs.declared.standing.Standing.TheVariants.{Nowhere, Queued}
+use Rattle.thp_page.specs.Table.{Slot, Table}
+use Rattle.thp_page.specs.Slots.{slot_at, with_slot, stood, paged, page_in}
+use Rattle.thp_page.proofs.TableSlots.{slot_at-with_slot-same, slot_at-inside, slot_at-new}
+use Rattle.thp_live_pages.specs.PlacesState.{PlacesState, Edits, EmptyLinksStay, Placed, slot_after, queue_after}
+use Rattle.thp_live_pages.specs.Linking.{IsQueued, IsListed, IsLinked}
+
+queued_none : (o : Option Slot) → IsQueued o → o ≡ None → ⊥
+queued_none None q e = q
+queued_none (Some x) q e = cc
+
+-- a list's other members stay
+pub record SameBut (xs ys : List ℕ) (b : ℕ) : Type 0 where
+  pub to : (k : ℕ) → k ≢ b → Contains xs k → Contains ys k
+  pub from : (k : ℕ) → k ≢ b → Contains ys k → Contains xs k
+
+pub same_list : (xs : List ℕ) (b : ℕ) → SameBut xs xs b
+same_list xs b = record { to = λ k n m. m; from = λ k n m. m }
+
+pub same_pushed : (xs : List ℕ) (b : ℕ) → SameBut xs (xs ++ b ∷ []) b
+same_pushed xs b = record {
+  to = λ k n m. left xs k m;
+  from = λ k n m. elim (Contains-append_cases xs (b ∷ []) k m) [ inl y ↦ y | inr y ↦ absurd (elim (Contains-cons_cases b [] k y) [ inl z ↦ n z | inr z ↦ none k z ]) ];
+} where
+  none : (k : ℕ) → Contains [] k → ⊥
+  none k m = let below : m.0 < 0 = m.1 in omega arith
+
+  left : (ys : List ℕ) (k : ℕ) → Contains ys k → Contains (ys ++ b ∷ []) k
+  left [] k m = absurd (none k m)
+  left (y ∷ ys) k m = elim (Contains-cons_cases y ys k m) [
+    | inl e ↦ let P : ℕ → Type 0 = λ z. Contains (y ∷ (ys ++ b ∷ [])) z in subst P (sym e) (Contains-head y (ys ++ b ∷ []))
+    | inr n ↦ Contains-behind y (ys ++ b ∷ []) k (left ys k n)
+  ]
+
+pub same_front : (xs : List ℕ) (b : ℕ) → SameBut xs (b ∷ xs) b
+same_front xs b = record {
+  to = λ k n m. Contains-behind b xs k m;
+  from = λ k n m. elim (Contains-cons_cases b xs k m) [ inl e ↦ absurd (n e) | inr y ↦ y ];
+}
+
+pub same_rest : (xs : List ℕ) (b : ℕ) → slice_get xs 0 ≡ Some b → SameBut xs (drop 1 xs) b
+same_rest xs b first = record {
+  to = λ k n m. let P : List ℕ → Type 0 = λ ys. Contains ys k in elim (Contains-cons_cases b (drop 1 xs) k (subst P (first_and_rest xs b first) m)) [ inl e ↦ absurd (n e) | inr y ↦ y ];
+  from = λ k n m. Contains-from_rest xs k m;
+}
+
+pub same_without : (xs : List ℕ) (b : ℕ) → SameBut xs (without b xs) b
+same_without xs b = record {
+  to = λ k n m. Contains-without b xs k m n;
+  from = λ k n m. (Contains-from_without b xs k m).0;
+}
+
+-- the queue after an edit of the slot of block b
+relinked : (t u : Table) (q r : List ℕ) (b : ℕ) (o : Option Slot) → IsLinked t q → u.slots ≡ slice_set t.slots b o → b < length t.slots → length u.links ≡ length t.links →
+    Stands r u.links → SameBut q r b → IsListed o r b → IsLinked u r
+relinked t u q r b o m slots inside links queue same at = record {
+  sizes = ap length slots ∙ length-set t.slots b o ∙ m.sizes ∙ sym links;
+  queue_stands = queue;
+  listed = λ k.
+      elim (eqb_tells k b) [
+        | inl y ↦
+            let P : Option Slot → Type 0 = λ z. IsListed z r k in
+            let Q : ℕ → Type 0 = λ z. IsListed o r z in
+            subst P (sym (ap (slot_at u) y.1 ∙ ap (λ xs. get_or xs b None) slots ∙ get_or-set_same t.slots b o None inside)) (subst Q (sym y.1) at)
+        | inr y ↦
+            let P : Option Slot → Type 0 = λ z. IsListed z r k in
+            let old = m.listed k in
+            subst P (sym (ap (λ xs. get_or xs k None) slots ∙ get_or-set_other t.slots b k o None y.1))
+            (record { queued = λ i. old.queued (same.from k y.1 i); in_queue = λ i. same.to k y.1 (old.in_queue i) })
+      ];
+}
+
+-- what stands in a block is in the queue exactly where the queue has the block
+listed_at : (t : Table) (q : List ℕ) (b : ℕ) (o : Option Slot) → IsLinked t q → slot_at t b ≡ o → IsListed o q b
+listed_at t q b o m at = let P : Option Slot → Type 0 = λ z. IsListed z q b in subst P at (m.listed b)
+
+-- a slot's page changes: what stands there stands as before
+pub linked_paged : (t u : Table) (q : List ℕ) (b : ℕ) (x y : Slot) → IsLinked t q → slot_at t b ≡ Some x → b < length t.slots → y.standing ≡ x.standing →
+    u.slots ≡ slice_set t.slots b (Some y) → u.links ≡ t.links → IsLinked u q
+linked_paged t u q b x y m at inside same slots links =
+    let S : List Link → Type 0 = λ ls. Stands q ls in
+    let old = listed_at t q b (Some x) m at in
+    relinked t u q q b (Some y) m slots inside (ap length links) (subst S (sym links) m.queue_stands) (same_list q b)
+    (record { queued = λ i. same ∙ old.queued i; in_queue = λ i. old.in_queue (sym same ∙ i) })
+
+-- what isn't in the queue becomes something else that isn't
+pub linked_outside : (t u : Table) (q : List ℕ) (b : ℕ) (o p : Option Slot) → IsLinked t q → slot_at t b ≡ o → b < length t.slots → (IsQueued o → ⊥) → (IsQueued p → ⊥) →
+    u.slots ≡ slice_set t.slots b p → u.links ≡ t.links → IsLinked u q
+linked_outside t u q b o p m at inside was is slots links =
+    let S : List Link → Type 0 = λ ls. Stands q ls in
+    let old = listed_at t q b o m at in
+    relinked t u q q b p m slots inside (ap length links) (subst S (sym links) m.queue_stands) (same_list q b)
+    (record { queued = λ i. absurd (was (old.queued i)); in_queue = λ i. absurd (is i) })
+
+-- a page that isn't in the queue joins it
+pub linked_queued : (t u : Table) (q : List ℕ) (b : ℕ) (y : Slot) → IsLinked t q → b < length t.slots → y.standing ≡ Queued →
+    u.slots ≡ slice_set t.slots b (Some y) → Stands (q ++ b ∷ []) u.links → SameOutside (q ++ b ∷ []) t.links u.links → IsLinked u (q ++ b ∷ [])
+linked_queued t u q b y m inside is slots stands outside =
+    relinked t u q (q ++ b ∷ []) b (Some y) m slots inside outside.same_length stands (same_pushed q b) (record { queued = λ i. is; in_queue = λ i. last q }) where
+      last : (xs : List ℕ) → Contains (xs ++ b ∷ []) b
+      last [] = Contains-head b []
+      last (z ∷ xs) = Contains-behind z (xs ++ b ∷ []) b (last xs)
+
+-- the first page of the queue leaves it
+pub linked_popped : (t u : Table) (q : List ℕ) (b : ℕ) (y : Slot) → IsLinked t q → slice_get q 0 ≡ Some b → b < length t.slots → y.standing ≢ Queued →
+    u.slots ≡ slice_set t.slots b (Some y) → Stands (drop 1 q) u.links → SameOutside q t.links u.links → IsLinked u (drop 1 q)
+linked_popped t u q b y m first inside is slots stands outside =
+    relinked t u q (drop 1 q) b (Some y) m slots inside outside.same_length stands (same_rest q b first)
+    (record {
+      queued = λ i. absurd (Distinct-head b (drop 1 q) (let P : List ℕ → Type 0 = λ xs. Distinct xs in subst P (first_and_rest q b first) m.queue_stands.distinct) i);
+      in_queue = λ i. absurd (is i);
+    })
+
+-- a page leaves the queue from wherever it stands there
+pub linked_unqueued : (t u : Table) (q : List ℕ) (b : ℕ) (y : Slot) → IsLinked t q → b < length t.slots → y.standing ≢ Queued →
+    u.slots ≡ slice_set t.slots b (Some y) → Stands (without b q) u.links → SameOutside q t.links u.links → IsLinked u (without b q)
+linked_unqueued t u q b y m inside is slots stands outside =
+    relinked t u q (without b q) b (Some y) m slots inside outside.same_length stands (same_without q b)
+    (record { queued = λ i. absurd ((Contains-from_without b q b i).1 refl); in_queue = λ i. absurd (is i) })
+
+-- a block of the queue has a page that stands in it
+pub queued_slot : (t : Table) (q : List ℕ) (b : ℕ) → IsLinked t q → Contains q b → (x : Slot) × (slot_at t b ≡ Some x) × (x.standing ≡ Queued)
+queued_slot t q b m i = go (slot_at t b) ((m.listed b).queued i) where
+  go : (o : Option Slot) → IsQueued o → (x : Slot) × (o ≡ Some x) × (x.standing ≡ Queued)
+  go None h = absurd h
+  go (Some x) h = (x, refl, h)
+
+-- a page that doesn't stand in the queue isn't taken out of it
+pub not_listed : (t : Table) (q : List ℕ) (b : ℕ) (x : Slot) → IsLinked t q → slot_at t b ≡ Some x → x.standing ≢ Queued → without b q ≡ q
+not_listed t q b x m at n = without_absent b q (λ i. n ((listed_at t q b (Some x) m at).queued i))
+
+-- a table with no page and an empty queue
+pub linked_new : (t : Table) (q : List ℕ) (n : ℕ) → q ≡ [] → t.slots ≡ replicate n None → length t.links ≡ n → IsLinked t q
+linked_new t q n none slots links = record {
+  sizes = ap length slots ∙ length-replicate n None ∙ sym links;
+  queue_stands = let P : List ℕ → Type 0 = λ xs. Stands xs t.links in subst P (sym none) (Stands-nil t.links);
+  listed = λ b. record {
+    queued = λ i. absurd (let P : List ℕ → Type 0 = λ xs. Contains xs b in Contains-nil b (subst P none i));
+    in_queue = λ i. absurd (queued_none (slot_at t b) i (slot_at-new t n b slots));
+  };
+}
+
+-- a block without a page isn't in the queue
+pub not_queued : (t : Table) (q : List ℕ) (b : ℕ) → IsLinked t q → slot_at t b ≡ None → Contains q b → ⊥
+not_queued t q b m e i = queued_none (slot_at t b) ((m.listed b).queued i) e
+
+-- the pairs of empty blocks stay where no pair changes
+pub links_same : (t u : Table) (b : ℕ) → u.links ≡ t.links → EmptyLinksStay t u b
+links_same t u b e k n none = ap (λ ls. slice_get ls k) e
+
+-- and where only those of the queue and of block b do
+pub links_outside : (t u : Table) (q r : List ℕ) (b : ℕ) → IsLinked t q → SameBut q r b → SameOutside r t.links u.links → EmptyLinksStay t u b
+links_outside t u q r b m same out k n none = out.same_pairs k (λ i. not_queued t q k m none (same.from k n i))
+
+-- the same, as seen from outside
+pub links_seen : (n : PlacesState) (t u : Table) (q : List ℕ) (b : ℕ) → record { table = t; queue = q } ≡ n → EmptyLinksStay t u b → EmptyLinksStay n.table u b
+links_seen n t u q b e m = subst (λ (z : PlacesState). EmptyLinksStay z.table u b) e m
+
+-- after an edit of block b, an edit of it
+pub links_then : (t u v : Table) (b : ℕ) (o : Option Slot) → u.slots ≡ slice_set t.slots b o → EmptyLinksStay t u b → EmptyLinksStay u v b → EmptyLinksStay t v b
+links_then t u v b o slots first second k n none =
+    second k n (ap (λ xs. get_or xs k None) slots ∙ get_or-set_other t.slots b k o None n ∙ none) ∙ first k n none
+
+-- what stands in an occupied block
+pub taken : (o : Option Slot) → IsSome o → (x : Slot) × (o ≡ Some x)
+taken None h = absurd (cc)
+taken (Some x) h = (x, refl)
+
+-- a write over a write
+pub set_twice : (xs : List (Option Slot)) (b : ℕ) (x y : Option Slot) → slice_set (slice_set xs b x) b y ≡ slice_set xs b y
+set_twice [] b x y = refl
+set_twice (z ∷ xs) zero x y = refl
+set_twice (z ∷ xs) (suc b) x y = ap (λ zs. z ∷ zs) (set_twice xs b x y)
+
+-- a slot whose page stands elsewhere now
+pub stood_slot : (t u : Table) (b : ℕ) (x : Slot) (w : Standing) → slot_at t b ≡ Some x → u ≡ with_slot t b (stood (slot_at t b) w) → slot_at u b ≡ Some (record x { standing = w })
+stood_slot t u b x w at e =
+    ap (λ (v : Table). slot_at v b) e ∙ slot_at-with_slot-same t b (stood (slot_at t b) w) (slot_at-inside t b x at) ∙ ap (λ (o : Option Slot). stood o w) at
+
+pub stood_slots : (t u : Table) (b : ℕ) (x : Slot) (w : Standing) → slot_at t b ≡ Some x → u ≡ with_slot t b (stood (slot_at t b) w) → u.slots ≡ slice_set t.slots b (Some (record x { standing = w }))
+stood_slots t u b x w at e = ap (λ (v : Table). v.slots) e ∙ ap (λ (o : Option Slot). slice_set t.slots b (stood o w)) at
+
+same_page : (p r : PageState) → Some p ≡ Some r → p ≡ r
+same_page p r e = cc
+
+-- the page that was found in a slot
+pub page_there : (u : Table) (b : ℕ) (y : Slot) (p : PageState) → slot_at u b ≡ Some y → ◌≡◌ {A = Option PageState} (Some p) (page_in (slot_at u b)) → p ≡ y.page
+page_there u b y p at e = same_page p y.page (e ∙ ap page_in at)
+
+-- a slot whose page stands elsewhere and then changes
+pub stood_paged : (t u : Table) (b : ℕ) (x : Slot) (w : Standing) (p : PageState) → slot_at t b ≡ Some x → u ≡ with_slot t b (stood (slot_at t b) w) →
+    slice_set u.slots b (paged (slot_at u b) p) ≡ slice_set t.slots b (Some (record x { page = p; standing = w }))
+stood_paged t u b x w p at e =
+    ap₂ (λ (xs : List (Option Slot)) (o : Option Slot). slice_set xs b (paged o p)) (stood_slots t u b x w at e) (stood_slot t u b x w at e)
+    ∙ set_twice t.slots b (Some (record x { standing = w })) (Some (record x { page = p; standing = w }))
+
+-- what stands in the block that was edited
+pub edited_slot : (old new : PlacesState) (b : ℕ) (x : Slot) (o : Option Slot) (q : List ℕ) (most : ℕ) → slot_at old.table b ≡ Some x → Edits old new b o q most → slot_at new.table b ≡ o
+edited_slot old new b x o q most at e = ap (λ (xs : List (Option Slot)). get_or xs b None) e.slots ∙ get_or-set_same old.table.slots b o None (slot_at-inside old.table b x at)
+
+-- and in a block that was empty before, where it is one of the table's
+pub placed_slot : (old new : PlacesState) (b : ℕ) (o : Option Slot) (q : List ℕ) (most : ℕ) → b < length old.table.slots → Edits old new b o q most → slot_at new.table b ≡ o
+placed_slot old new b o q most inside e = ap (λ (xs : List (Option Slot)). get_or xs b None) e.slots ∙ get_or-set_same old.table.slots b o None inside
+
+-- a write of what stands there
+pub set_same : (xs : List (Option Slot)) (b : ℕ) (x : Slot) → get_or xs b None ≡ Some x → slice_set xs b (Some x) ≡ xs
+set_same [] b x e = refl
+set_same (z ∷ xs) zero x e = ap (λ (o : Option Slot). o ∷ xs) (sym e)
+set_same (z ∷ xs) (suc b) x e = ap (λ zs. z ∷ zs) (set_same xs b x e)
+
+-- no edit
+pub edits_none : (old : PlacesState) (b : ℕ) (x : Slot) → slot_at old.table b ≡ Some x → Edits old old b (Some x) old.queue 0
+edits_none old b x at = record { slots = sym (set_same old.table.slots b x at); order = refl; queue_is = refl; links = λ k n e. refl; work = omega arith }
+
+-- an edit after an edit of the same block
+pub edits_then : (old mid new : PlacesState) (b : ℕ) (o p : Option Slot) (q r : List ℕ) (m n : ℕ) → Edits old mid b o q m → Edits mid new b p r n → Edits old new b p r (m + n)
+edits_then old mid new b o p q r m n d e = record {
+  slots = e.slots ∙ ap (λ (xs : List (Option Slot)). slice_set xs b p) d.slots ∙ set_twice old.table.slots b o p;
+  order = e.order ∙ d.order;
+  queue_is = e.queue_is;
+  links = links_then old.table mid.table new.table b o d.slots d.links e.links;
+  work = omega (arith, d.work, e.work);
+}
+
+-- an edit with another queue of the same blocks, within more accesses
+pub edits_as : (old new : PlacesState) (b : ℕ) (o : Option Slot) (q r : List ℕ) (m n : ℕ) → q ≡ r → m ≤ n → Edits old new b o q m → Edits old new b o r n
+edits_as old new b o q r m n same l e = record { slots = e.slots; order = e.order; queue_is = e.queue_is ∙ same; links = e.links; work = omega (arith, e.work, l) }
+
+-- a new page and then its place in the queue
+pub placed_queued : (id : ℕ) (old mid new : PlacesState) (b : ℕ) → b < length old.table.slots → Placed id false old mid b →
+    ((x : Slot) → slot_at mid.table b ≡ Some x → Edits mid new b (Some (record x { standing = Queued })) (mid.queue ++ b ∷ []) 4) → Placed id true old new b
+placed_queued id old mid new b inside d e =
+    let x : Slot = record { id = id; page = d.page; standing = Nowhere } in
+    let y : Slot = record { id = id; page = d.page; standing = Queued } in
+    record {
+      page = d.page;
+      fresh = d.fresh;
+      edits = edits_as old new b (Some y) (mid.queue ++ b ∷ []) (old.queue ++ b ∷ []) (0 + 4) 4 (ap (λ q. q ++ b ∷ []) d.edits.queue_is) (omega arith)
+          (edits_then old mid new b (Some x) (Some y) old.queue (mid.queue ++ b ∷ []) 0 4 d.edits (e x (placed_slot old mid b (Some x) old.queue 0 inside d.edits)));
+    }
+
+-- a page changes and then goes where its outcome says
+pub edits_settled : (old mid new : PlacesState) (b : ℕ) (y : Slot) (o : Outcome) (n : ℕ) → Edits old mid b (Some y) old.queue 0 → Edits mid new b (slot_after o y) (queue_after o b mid.queue) n → n ≤ 6 →
+    Edits old new b (slot_after o y) (queue_after o b old.queue) 6
+edits_settled old mid new b y o n d e l =
+    edits_as old new b (slot_after o y) (queue_after o b mid.queue) (queue_after o b old.queue) (0 + n) 6 (ap (queue_after o b) d.queue_is) (omega (arith, l))
+    (edits_then old mid new b (Some y) (slot_after o y) old.queue (queue_after o b mid.queue) 0 n d e)
+
+-- a fact of what stands there
+pub if_at : (o : Option Slot) (x : Slot) (P : Slot → Type 0) → o ≡ Some x → IfSome o P → P x
+if_at o x P e h = subst (λ (z : Option Slot). IfSome z P) e h
+
+pub some_of : (o : Option Slot) (x : Slot) → o ≡ Some x → IsSome o
+some_of o x e = subst (λ (z : Option Slot). IsSome z) (sym e) refl
+
+pub same_slot : (o : Option Slot) (x y : Slot) → o ≡ Some x → o ≡ Some y → y ≡ x
+same_slot o x y e f = go x y (sym e ∙ f) where
+  go : (x y : Slot) → Some x ≡ Some y → y ≡ x
+  go x y e = cc

@@ -1,0 +1,375 @@
+//! The pages of a node with their places: the table of their descriptors, and the queue that is linked through it.
+ghost use Rattle.std.specs.Prelude.{◌≡◌, ◌≢◌, ℕ, ◌+◌, ◌<◌, ◌≤◌, [], ◌∷◌, ◌++◌, length, drop, slice_get, Option, Some, None, IsSome, IfSome, IfNone, IfOk, MatchOption, IsTrue, ◌↔◌, Contains, false};
+ghost use Rattle.std.specs.Bool.{OnTrue, OnFalse};
+ghost use Rattle.thp_links.specs.Indices.{without};
+ghost use Rattle.thp_links.specs.Standing.{Stands};
+ghost use Rattle.thp_model.specs.Pages.{gives_frames, is_worth, page_refusal, PageSplit, PageState};
+ghost use Rattle.thp_page.specs.Slots.{slot_at, HoldsPage};
+ghost use Rattle.thp_page.specs.Table.{Slot};
+ghost use Rattle.thp_live_pages.specs.Flying.{IsFlyingAt};
+ghost use Rattle.thp_live_pages.specs.FreeChains.{IsFreeChain, Relinks};
+ghost use Rattle.thp_model.specs.PageCalls.{gain_call, loss_call, page_call, Gains};
+ghost use Rattle.thp_live_pages.specs.PlacesState.{AtSlot, Edits, batch_of, IsElsewhere, LeavesQueue, Lost, Placed, Reduced, TakesFirst};
+
+use crate::page_call::{gain_by, lose_by, refusal_of};
+use std::alloc::{AllocError, Global};
+use std::marker::Model;
+use thp_links::{FreeChain, LinkTable, Queue};
+use thp_model::{Done, Gain, Loss, Outcome, PageCall, PageId, Refusal, Shape, SubSet};
+use thp_page::{PageTable, Standing};
+
+/// The live pages of a node by block, and the queue of those that wait to be split.
+///
+/// A block stands in the queue exactly where its page's standing says so. Contracts see the table of pages and the blocks
+/// of the queue, the oldest first; a clause on accesses bounds how many link pairs a call reads and writes.
+#[derive(Drop)]
+pub struct Places {
+    table: PageTable,
+    queue: Queue,
+}
+
+impl Model for Places {
+    ghost use Rattle.thp_live_pages.specs.PlacesState.{PlacesState};
+    ghost use Rattle.thp_live_pages.specs.Linking.{IsLinked};
+
+    ghost Value = { PlacesState };
+
+    ghost view = { λ p. record { table = p.table; queue = p.queue } };
+
+    ghost invariant = { λ p. IsLinked p.table p.queue };
+}
+
+impl Places {
+    /// No page in any of the shape's blocks. It takes all memory that the pages will need, and fails where that isn't there.
+    pub fn new(alloc: Global, shape: Shape) -> Result<Places, AllocError>
+        requires least { 2 ≤ shape.order }
+        requires most { shape.order ≤ 9 }
+        ensures size { IfOk result (λ p. length p.table.slots ≡ shape.blocks) }
+        ensures order { IfOk result (λ p. p.table.order ≡ shape.order) }
+        ensures empty { IfOk result (λ p. (i : ℕ) → slot_at p.table i ≡ None) }
+        ensures queue { IfOk result (λ p. p.queue ≡ []) }
+    {
+        let table = PageTable::new(alloc, shape.blocks, shape.order)?;
+        Ok(Places {
+            table,
+            queue: Queue::new(),
+        })
+    }
+
+    /// The table of pages.
+    pub fn table(&self) -> &PageTable
+        ensures { result.now ≡ self.now.table }
+    {
+        &self.table
+    }
+
+    /// The queue.
+    pub fn queue(&self) -> &Queue
+        ensures value { result.now ≡ self.now.queue }
+        ensures stands { Stands self.now.queue self.now.table.links }
+    {
+        &self.queue
+    }
+
+    /// Whether there is such a block, and no page in it.
+    pub fn is_free(&self, block: u32) -> bool
+        ensures inside { OnTrue result (block < length self.now.table.slots) }
+        ensures empty { OnTrue result (slot_at self.now.table block ≡ None) }
+        ensures taken { OnFalse result (block < length self.now.table.slots → IsSome (slot_at self.now.table block)) }
+    {
+        if block >= self.table.len() {
+            return false;
+        }
+        match self.table.page(block) {
+            Some(_) => false,
+            None => true,
+        }
+    }
+
+    /// Puts a new page into a free block, and at the queue's tail where it is to be queued.
+    pub fn place(&mut self, block: u32, page: PageId, queued: bool)
+        requires inside { block < length self.old.table.slots }
+        requires free { slot_at self.old.table block ≡ None }
+        requires new { (b : ℕ) → HoldsPage (slot_at self.old.table b) page → ⊥ }
+        ensures { Placed page queued self.old self.new block }
+    {
+        self.put(block, page);
+        if queued {
+            self.enqueue(block);
+        }
+    }
+
+    /// The block of a page.
+    #[inline(always)]
+    pub fn find(&self, page: PageId) -> Option<u32>
+        ensures { MatchOption result ((b : ℕ) → HoldsPage (slot_at self.now.table b) page → ⊥) (λ b. HoldsPage (slot_at self.now.table b) page) }
+    {
+        self.table.block_of(page)
+    }
+
+    /// Why the page of a block would refuse a call, if it would.
+    #[inline(always)]
+    pub fn refusal(&self, block: u32, call: PageCall) -> Option<Refusal>
+        requires { IsSome (slot_at self.now.table block) }
+        ensures { AtSlot self.now.table block (λ x. (p : ℕ) → result ≡ page_refusal x.page (page_call call p)) }
+    {
+        match self.table.page(block) {
+            Some((_, page)) => refusal_of(call, page),
+            None => unreachable!(),
+        }
+    }
+
+    /// Gives the page of a block mappings or a pin, or fills subpages of it, which isn't refused.
+    #[inline(always)]
+    pub fn gain(&mut self, block: u32, gain: Gain)
+        requires occupied { IsSome (slot_at self.old.table block) }
+        requires allowed { AtSlot self.old.table block (λ x. page_refusal x.page (gain_call gain 0) ≡ None) }
+        ensures { AtSlot self.old.table block (λ x. (p : PageState) × Gains gain x.page p × Edits self.old self.new block (Some (record x { page = p })) self.old.queue 0) }
+    {
+        match self.table.page_mut(block) {
+            Some(page) => gain_by(gain, page),
+            None => unreachable!(),
+        }
+    }
+
+    /// Takes mappings or a pin from the page of a block, which isn't refused, and then queues or frees the page, or leaves
+    /// it. Answers that and the frames given back, and the caller whose batch the page left. The block of a page that is
+    /// freed has no page then.
+    #[inline(always)]
+    pub fn lose(&mut self, block: u32, loss: Loss, closed: bool) -> (Done, Option<u32>)
+        requires occupied { IsSome (slot_at self.old.table block) }
+        requires allowed { AtSlot self.old.table block (λ x. page_refusal x.page (loss_call loss 0) ≡ None) }
+        ensures { AtSlot self.old.table block (λ x. Lost loss closed x self.old self.new block result.0 result.1) }
+    {
+        let standing = self.table.standing(block);
+        let done = self.reduce(block, loss, closed);
+        let left = match done.outcome {
+            Outcome::Stays => None,
+            Outcome::Queued => {
+                self.enqueue(block);
+                None
+            }
+            Outcome::Freed => {
+                self.release(block);
+                batch_of(standing)
+            }
+        };
+        (done, left)
+    }
+
+    /// Takes the oldest page of the queue, which isn't empty, into a caller's batch.
+    pub fn take_first(&mut self, caller: u32) -> PageId
+        requires { 0 < length self.old.queue }
+        ensures { TakesFirst self.old self.new caller result }
+    {
+        match self.queue.pop_front(&mut self.table) {
+            Some(block) => {
+                self.table.set_standing(block, Standing::Batch(caller));
+                self.number(block)
+            }
+            None => unreachable!(),
+        }
+    }
+
+    /// Whether the page of a block stands in a caller's batch.
+    pub fn is_in_batch(&self, block: u32, caller: u32) -> bool
+        requires { IsSome (slot_at self.now.table block) }
+        ensures { AtSlot self.now.table block (λ x. IsTrue result ↔ (x.standing ≡ Standing.Batch caller)) }
+    {
+        self.table.standing(block) == Standing::Batch(caller)
+    }
+
+    /// The block of a page that stands in a caller's batch.
+    pub fn find_in_batch(&self, page: PageId, caller: u32) -> Option<u32>
+        ensures none { IfNone result (IsElsewhere self.now.table caller page) }
+        ensures there { IfSome result (IsFlyingAt self.now.table caller page) }
+    {
+        match self.find(page) {
+            Some(block) => {
+                if self.table.standing(block) == Standing::Batch(caller) {
+                    Some(block)
+                } else {
+                    None
+                }
+            }
+            None => None,
+        }
+    }
+
+    /// The number of the page of a block.
+    pub fn number(&self, block: u32) -> PageId
+        requires { IsSome (slot_at self.now.table block) }
+        ensures { AtSlot self.now.table block (λ x. result ≡ x.id) }
+    {
+        match self.table.page(block) {
+            Some((id, _)) => id,
+            None => unreachable!(),
+        }
+    }
+
+    /// The pins of the page of a block.
+    pub fn pins(&self, block: u32) -> u32
+        requires { IsSome (slot_at self.now.table block) }
+        ensures { AtSlot self.now.table block (λ x. result ≡ x.page.pins) }
+    {
+        match self.table.page(block) {
+            Some((_, page)) => page.pins(),
+            None => unreachable!(),
+        }
+    }
+
+    /// The entire map count of the page of a block.
+    pub fn whole(&self, block: u32) -> u32
+        requires { IsSome (slot_at self.now.table block) }
+        ensures { AtSlot self.now.table block (λ x. result ≡ x.page.whole) }
+    {
+        match self.table.page(block) {
+            Some((_, page)) => page.whole(),
+            None => unreachable!(),
+        }
+    }
+
+    /// Whether the page of a block is partly mapped: an unmap took a subpage out of use and left another in use.
+    pub fn is_partly(&self, block: u32) -> bool
+        requires { IsSome (slot_at self.now.table block) }
+        ensures { AtSlot self.now.table block (λ x. result ≡ x.page.partly) }
+    {
+        match self.table.page(block) {
+            Some((_, page)) => page.is_partly(),
+            None => unreachable!(),
+        }
+    }
+
+    /// Whether the page of a block is worth a split: it is partly mapped, or more of its subpages are zero-filled than the
+    /// threshold says, where there is one.
+    pub fn is_worth(&self, block: u32, threshold: Option<u32>) -> bool
+        requires { IsSome (slot_at self.now.table block) }
+        ensures { AtSlot self.now.table block (λ x. result ≡ is_worth threshold x.page) }
+    {
+        match self.table.page(block) {
+            Some((_, page)) => page.is_worth(threshold),
+            None => unreachable!(),
+        }
+    }
+
+    /// Splits the page of a block, which stands in a batch, and takes it out of the batch. Answers the frames given back:
+    /// those of the subpages out of use, and of the zero-filled ones too where `give_zero` says so.
+    pub fn split(&mut self, block: u32, give_zero: bool) -> SubSet
+        requires occupied { IsSome (slot_at self.old.table block) }
+        requires allowed { AtSlot self.old.table block (λ x. (x.page.split ≡ false) × (x.page.pins ≡ 0) × (x.standing ≢ Standing.Queued)) }
+        ensures { AtSlot self.old.table block (λ x. (p : PageState) × PageSplit give_zero x.page p × (result ≡ gives_frames x.page p) × Edits self.old self.new block (Some (record x { page = p; standing = Standing.Nowhere })) self.old.queue 0) }
+    {
+        self.table.set_standing(block, Standing::Nowhere);
+        match self.table.page_mut(block) {
+            Some(page) => page.split(give_zero),
+            None => unreachable!(),
+        }
+    }
+
+    /// Puts the page of a block, which isn't in the queue, at the queue's tail.
+    pub fn enqueue(&mut self, block: u32)
+        requires occupied { IsSome (slot_at self.old.table block) }
+        requires outside { AtSlot self.old.table block (λ x. x.standing ≢ Standing.Queued) }
+        ensures { AtSlot self.old.table block (λ x. Edits self.old self.new block (Some (record x { standing = Standing.Queued })) (self.old.queue ++ block ∷ []) 4) }
+    {
+        self.table.set_standing(block, Standing::Queued);
+        self.queue.push_back(&mut self.table, block);
+    }
+
+    /// Takes the page of a block, which isn't in the queue, out of its batch.
+    pub fn drop_out(&mut self, block: u32)
+        requires occupied { IsSome (slot_at self.old.table block) }
+        requires outside { AtSlot self.old.table block (λ x. x.standing ≢ Standing.Queued) }
+        ensures { AtSlot self.old.table block (λ x. Edits self.old self.new block (Some (record x { standing = Standing.Nowhere })) self.old.queue 0) }
+    {
+        self.table.set_standing(block, Standing::Nowhere);
+    }
+
+    /// Puts a block without a page before all others of a chain of such blocks, which stands in the links beside the queue.
+    pub fn push_free(&mut self, chain: &mut FreeChain, block: u32)
+        requires chain { IsFreeChain self.old.table chain.old }
+        requires inside { block < length self.old.table.slots }
+        requires empty { slot_at self.old.table block ≡ None }
+        requires absent { ¬ Contains chain.old block }
+        ensures list { chain.new ≡ block ∷ chain.old }
+        ensures chain { IsFreeChain self.new.table chain.new }
+        ensures same { Relinks self.old self.new 2 }
+    {
+        chain.push(&mut self.table, block);
+    }
+
+    /// Takes the first block out of a chain of blocks without a page, or answers `None` where the chain is empty.
+    pub fn pop_free(&mut self, chain: &mut FreeChain) -> Option<u32>
+        requires chain { IsFreeChain self.old.table chain.old }
+        ensures value { result ≡ slice_get chain.old 0 }
+        ensures list { chain.new ≡ drop 1 chain.old }
+        ensures chain { IsFreeChain self.new.table chain.new }
+        ensures same { Relinks self.old self.new 2 }
+    {
+        chain.pop(&mut self.table)
+    }
+
+    // Takes mappings or a pin from the page of a block, which isn't refused, and answers what becomes of it.
+    #[inline(always)]
+    fn reduce(&mut self, block: u32, loss: Loss, closed: bool) -> Done
+        requires occupied { IsSome (slot_at self.old.table block) }
+        requires allowed { AtSlot self.old.table block (λ x. page_refusal x.page (loss_call loss 0) ≡ None) }
+        ensures { AtSlot self.old.table block (λ x. Reduced loss closed x self.old self.new block result) }
+    {
+        let standing = self.table.standing(block);
+        match self.table.page_mut(block) {
+            Some(page) => lose_by(loss, page, standing, closed),
+            None => unreachable!(),
+        }
+    }
+
+    // Puts a new page into a free block, and nowhere else.
+    fn put(&mut self, block: u32, page: PageId)
+        requires inside { block < length self.old.table.slots }
+        requires free { slot_at self.old.table block ≡ None }
+        requires new { (b : ℕ) → HoldsPage (slot_at self.old.table b) page → ⊥ }
+        ensures { Placed page false self.old self.new block }
+    {
+        self.table.place(block, page);
+    }
+
+    // Takes the page of a block out of the table, and out of the queue where it stands there.
+    fn release(&mut self, block: u32)
+        requires { IsSome (slot_at self.old.table block) }
+        ensures { Edits self.old self.new block None (without block self.old.queue) 6 }
+    {
+        self.leave_queue(block);
+        self.vacate(block);
+    }
+
+    // Takes the page of a block out of the queue, wherever it stands there, if it does.
+    fn leave_queue(&mut self, block: u32)
+        requires { IsSome (slot_at self.old.table block) }
+        ensures { LeavesQueue self.old self.new block }
+    {
+        let Standing::Queued = self.table.standing(block) else {
+            return;
+        };
+        self.queue.remove(&mut self.table, block);
+        self.table.set_standing(block, Standing::Nowhere);
+    }
+
+    // Takes a page that isn't in the queue out of the table.
+    fn vacate(&mut self, block: u32)
+        requires occupied { IsSome (slot_at self.old.table block) }
+        requires outside { AtSlot self.old.table block (λ x. x.standing ≢ Standing.Queued) }
+        ensures { Edits self.old self.new block None self.old.queue 0 }
+    {
+        self.table.clear(block);
+    }
+}
+
+// The caller in whose batch a page stands, if it is in one.
+fn batch_of(standing: Standing) -> Option<u32>
+    ensures { result ≡ batch_of standing }
+{
+    match standing {
+        Standing::Batch(caller) => Some(caller),
+        _ => None,
+    }
+}

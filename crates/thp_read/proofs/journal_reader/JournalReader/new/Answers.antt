@@ -1,5 +1,0 @@
-use Rattle.thp_read.proofs.PartLaws.{tells_all}
-use Rattle.thp_read.proofs.journal_reader.JournalReader.new.Goals as goal
-
-pub returns : goal.returns
-returns c = λ text. rw c.new.ensures (tells_all text)

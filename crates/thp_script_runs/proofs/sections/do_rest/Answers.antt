@@ -1,0 +1,74 @@
+use Rattle.std.proofs.Common.{◌≡◌, ◌∙◌, ◌+◌, ◌<◌, ap, length, subst, arith, Some}
+use Rattle.std.specs.Prelude.{All, slice_get}
+use Rattle.std.specs.Vec.Iter.{into_iter_items}
+use Rattle.std.proofs.lemmas.List.Elements.{All-head, All-nil, All-push, All-rest}
+use Rattle.thp_sections.specs.Fronts.{Fronts, Goes}
+use Rattle.thp_sections.specs.Sections.{IsKept, Works}
+use Rattle.thp_script_runs.proofs.RestLaws.{at_index, below, has_all_later, rest_first, rest_more, rest_works}
+use Rattle.thp_script_runs.proofs.sections.do_rest.Goals as goal
+
+pub loop-worked-init : goal.loop-worked-init
+loop-worked-init g c =
+    let gives = c.into_iter-worked-iterator.ensures.into_iter_gives in
+    let same = ap length gives.0 in
+    record {
+      rest = rest_first c.requires.worked.0 (g.P.Steps.fronts c.args.passes.now) c.args.workers.now c.args.worked.items c.new-done.result.items (into_iter_items c.into_iter-worked-iterator.result) c.requires.worked.1 c.new-done.ensures.items gives.0;
+      keeps = λ keeps all. (rw c.new-done.ensures.items (All-nil (IsKept keeps)), rw gives.0 all);
+      left = omega (arith, same, gives.1);
+    }
+
+pub work_rest-requires-clause-worked : goal.work_rest-requires-clause-worked
+work_rest-requires-clause-worked g c =
+    let fronts = g.P.Steps.fronts in
+    let first = fronts c.args.passes.now in
+    let f = fronts c.loop-worked.passes in
+    let vs = c.args.workers.now in
+    let v = c.index-workers-index.result in
+    let done = c.loop-worked.done.items in
+    let items = into_iter_items c.loop-worked.worked-iterator in
+    let rest = into_iter_items c.next.new.self in
+    let w = c.in-Some.worked in
+    let inv = c.loop-worked.invariant.rest in
+    let is = c.in-Some.ensures.steps.0 in
+    let lt : length done < length vs = below first f f vs v c.args.worked.items done items w rest inv is in
+    let place : c.len-index.result ≡ length done = c.len-index.ensures ∙ c.loop-worked.done.ok.0 in
+    let at : slice_get vs (length done) ≡ Some v = at_index vs v c.len-index.result (length done) place lt c.index-workers-index.is in
+    let a = c.requires.worked in
+    (a.0, rw (c.as_slice.ensures.value, place) (rest_works first f f vs v c.args.worked.items done items w rest inv is a.0 a.1 at))
+
+pub loop-worked-preserved : goal.loop-worked-preserved
+loop-worked-preserved g c =
+    let fronts = g.P.Steps.fronts in
+    let first = fronts c.args.passes.now in
+    let f = fronts c.loop-worked.passes in
+    let h = fronts c.work_rest.new.steps in
+    let vs = c.args.workers.now in
+    let v = c.index-workers-index.result in
+    let done = c.loop-worked.done.items in
+    let items = into_iter_items c.loop-worked.worked-iterator in
+    let rest = into_iter_items c.next.new.self in
+    let w = c.in-Some.worked in
+    let w' = c.in_ok-rest.rest in
+    let inv = c.loop-worked.invariant.rest in
+    let steps = c.in-Some.ensures.steps in
+    let is = steps.0 in
+    let lt : length done < length vs = below first f f vs v c.args.worked.items done items w rest inv is in
+    let place : c.len-index.result ≡ length done = c.len-index.ensures ∙ c.loop-worked.done.ok.0 in
+    let at : slice_get vs (length done) ≡ Some v = at_index vs v c.len-index.result (length done) place lt c.index-workers-index.is in
+    let goes : Goes (1 + length done) f h = subst (λ k. Goes (1 + k) f h) place c.in_ok-rest.ensures.goes in
+    let works : (old : Fronts) → Works (1 + length done) old f v.items w → Works (1 + length done) old h v.items w' =
+    subst (λ k. (old : Fronts) → Works (1 + k) old f v.items w → Works (1 + k) old h v.items w') place
+    (subst (λ cs. (old : Fronts) → Works (1 + c.len-index.result) old f cs w → Works (1 + c.len-index.result) old h cs w') c.as_slice.ensures.value c.in_ok-rest.ensures.works) in
+    let shorter = ap length is in
+    record {
+      rest = rw c.in_ok-push.ensures.items (rest_more first f h vs v c.args.worked.items done items w rest inv is w' c.requires.holds c.requires.callers at goes works (c.in_ok-rest.ensures.done (has_all_later first f inv.goes c.requires.holds)));
+      keeps = λ keeps all.
+          let was = c.loop-worked.invariant.keeps keeps all in (
+            rw c.in_ok-push.ensures.items (All-push (IsKept keeps) done w' was.0 (c.in_ok-rest.ensures.keeps ∙ All-head (IsKept keeps) w rest (subst (All (IsKept keeps)) is was.1))),
+            All-rest (IsKept keeps) w rest items is was.1,
+          );
+      left = omega (arith, shorter, steps.1, c.loop-worked.invariant.left);
+    }
+
+pub returns-clause-keeps : goal.returns-clause-keeps
+returns-clause-keeps g c = λ keeps all. (c.loop-worked.invariant.keeps keeps all).0

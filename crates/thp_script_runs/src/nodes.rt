@@ -1,0 +1,52 @@
+//! The nodes of a run.
+ghost use Rattle.std.specs.Prelude.{◌≡◌, ◌<◌, [], All, IfOk};
+ghost use Rattle.thp_node.specs.NodeState.{NodeState};
+ghost use Rattle.thp_script_runs.specs.NewNodes.{shape_of, AreNodesFor};
+
+use std::alloc::{AllocError, Global};
+use thp_model::Shape;
+use thp_node::{NewFault, Node};
+use thp_text::Settings;
+
+/// The nodes that the settings ask for, on which nothing has happened. Where there is memory for it, each has room for so many
+/// events from the start; its journal grows where that isn't enough.
+pub(crate) fn new_nodes(
+    alloc: Global,
+    settings: &Settings,
+    events: u32,
+) -> Result<Vec<Node>, AllocError>
+    ensures shapes { IfOk result (λ r. AreNodesFor settings.now r.items) }
+    ensures new { IfOk result (λ r. All (λ (node : NodeState). node.journal ≡ []) r.items) }
+{
+    let mut nodes = Vec::new(alloc);
+    for index in 0..settings.nodes {
+        let mut node = new_node(alloc, settings, index)?;
+        make_room(&mut node, events);
+        nodes.push(node)?;
+    }
+    Ok(nodes)
+}
+
+/// The node of this number. The settings are within the limits of nodes, so only memory can be wanting.
+fn new_node(alloc: Global, settings: &Settings, index: u32) -> Result<Node, AllocError>
+    requires { index < settings.now.nodes }
+    ensures shape { IfOk result (λ node. node.shape ≡ shape_of settings.now index) }
+    ensures new { IfOk result (λ node. node.journal ≡ []) }
+{
+    let shape = Shape {
+        blocks: settings.blocks,
+        order: settings.orders[index as usize],
+        underused: settings.underused[index as usize],
+    };
+    match Node::new(alloc, shape) {
+        Ok(node) => Ok(node),
+        Err(NewFault::BadSize | NewFault::OutOfMemory) => Err(AllocError),
+    }
+}
+
+/// Makes room for so many events, if there is memory for it: a node does without until it records them.
+fn make_room(node: &mut Node, events: u32)
+    ensures { node.new ≡ record node.old { room = node.new.room } }
+{
+    let _ = node.reserve(events);
+}

@@ -1,0 +1,124 @@
+//! Runs of whole scripts.
+ghost use Rattle.std.specs.Prelude.{◌≡◌, ◌+◌, ◌≤◌, ◌<◌, ◌^◌, [], true, All, IfOk, length, map};
+ghost use Rattle.thp_cell.specs.Views.{PassState};
+ghost use Rattle.thp_text.specs.Scripts.{IsScriptFor};
+ghost use Rattle.thp_script_runs.specs.NewNodes.{histories_of, shapes_of, AreNodesFor};
+ghost use Rattle.thp_script_runs.specs.Runs.{IsRun};
+ghost use Rattle.thp_text.specs.declared.settings.Report.TheVariants.{Answers};
+ghost use Rattle.thp_script_runs.specs.Sections.{IsFitScript, KeepsAnswers};
+ghost use Rattle.thp_script_runs.specs.Sharing.{cell_of, AreFew, IsFresh, RunsOn};
+
+use crate::nodes::new_nodes;
+use crate::sections::run_sections;
+use crate::sharing::{close, finish, open, share};
+use std::alloc::{AllocError, Global};
+use std::thread::Threads;
+use thp_cell::{NodeCell, Pass};
+use thp_node::Node;
+use thp_sections::{Gate, NodePasses, Section};
+use thp_text::{Report, Script, Settings};
+
+/// What a run leaves: the nodes, and the answers of each section.
+#[derive(Drop)]
+pub struct Ran {
+    /// The nodes, by number.
+    pub nodes: Vec<Node>,
+    /// The answers of `setup`, and then those of each worker; they are kept where the report is of answers.
+    pub sections: Vec<Section>,
+}
+
+/// Runs a script on new nodes: `setup` as caller 0, then the section of each worker as its caller, on a thread of its own,
+/// and then what busy nodes made the workers postpone, workers ascending. Want of memory anywhere ends the run once all
+/// workers have ended; a section of 2^32 commands or more counts as such.
+pub fn run_script<R: Threads + Sync, G: Gate + Sync>(
+    rt: &R,
+    alloc: Global,
+    settings: &Settings,
+    script: Script,
+    gate: &G,
+) -> Result<Ran, AllocError>
+    requires { IsScriptFor settings.now script }
+    ensures nodes { IfOk result (λ r. AreNodesFor settings.now r.nodes.items) }
+    ensures answers { settings.now.report ≡ Answers → IfOk result (λ r. All (KeepsAnswers true) r.sections.items) }
+    ensures run { IfOk result (λ r. IsRun settings.now.nodes (shapes_of r.nodes.items) script (histories_of r.nodes.items) r.sections.items) }
+{
+    if !are_few(&script) {
+        return Err(AllocError);
+    }
+    let callers = settings.workers + 1;
+    let nodes = new_nodes(alloc, settings, room_of_each(&script, settings.nodes))?;
+    let (cells, passes) = share(alloc, nodes, callers)?;
+    let keeps = tells_answers(settings.report);
+    let (passes, sections) = run_on(
+        rt,
+        alloc,
+        cells.as_slice(),
+        passes,
+        callers,
+        script,
+        keeps,
+        gate,
+    )?;
+    let nodes = finish(alloc, cells, passes)?;
+    Ok(Ran { nodes, sections })
+}
+
+/// Runs a script by the passes of all callers.
+fn run_on<R: Threads + Sync, G: Gate + Sync>(
+    rt: &R,
+    alloc: Global,
+    cells: &[NodeCell],
+    passes: Vec<Pass>,
+    callers: u32,
+    script: Script,
+    keeps: bool,
+    gate: &G,
+) -> Result<(Vec<Pass>, Vec<Section>), AllocError>
+    requires cells { map cell_of passes.items ≡ cells.now }
+    requires callers { callers ≡ 1 + length script.workers }
+    requires fresh { All (IsFresh callers) passes.items }
+    requires few { length passes.items ≤ 8 }
+    requires fits { IsFitScript (length passes.items) script }
+    ensures runs { IfOk result (λ r. RunsOn passes.items r.0.items script r.1.items) }
+    ensures keeps { IfOk result (λ r. All (KeepsAnswers keeps) r.1.items) }
+{
+    let nodes = open(alloc, cells, passes)?;
+    let passes = NodePasses::new(nodes, callers, 0, callers);
+    let (passes, sections) = run_sections(rt, alloc, passes, script, keeps, gate)?;
+    Ok((close(alloc, passes)?, sections))
+}
+
+/// For how many events each node gets room: twice its share of the script's commands. A command leaves one event or none, but
+/// for those of batches, and room that isn't used costs no memory.
+fn room_of_each(script: &Script, nodes: u32) -> u32
+    requires { 1 ≤ nodes }
+{
+    let setup = script.setup.as_slice().len();
+    let all = script.workers.as_slice().iter().fold(
+        setup,
+        |all, commands| all.saturating_add(commands.as_slice().len()),
+    );
+    u32::try_from(all / nodes as usize)
+        .unwrap_or(u32::MAX)
+        .saturating_mul(2)
+}
+
+/// Whether a report tells answers; no other one does.
+fn tells_answers(report: Report) -> bool
+    ensures { report ≡ Answers → result ≡ true }
+{
+    matches!(report, Report::Answers)
+}
+
+/// Each section has fewer than 2^32 commands.
+fn are_few(script: &Script) -> bool
+    ensures { result ≡ true → AreFew script.now }
+{
+    let most = u32::MAX as usize;
+    script.setup.as_slice().len() <= most
+        && script
+            .workers
+            .as_slice()
+            .iter()
+            .all(|commands| commands.as_slice().len() <= most)
+}

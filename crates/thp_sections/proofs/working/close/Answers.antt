@@ -1,0 +1,67 @@
+use Rattle.std.proofs.Common.{◌∙◌, arith, sym, refl}
+use Rattle.thp_sections.specs.Turns.{first_begun}
+use Rattle.thp_sections.specs.Sections.{PutsBack}
+use Rattle.thp_sections.proofs.StepLaws.{goes_trans}
+use Rattle.thp_sections.proofs.CommandLaws.{ended_comes}
+use Rattle.thp_sections.proofs.SectionLaws.{room_for_one, ends_more, ends_stop, shut_more, shut_put, not_open, works_end, works_closing}
+use Rattle.thp_sections.proofs.working.close.Goals.{then-is_open+else-lacks_memory+else-is_busy, else-is_open}
+use Rattle.thp_sections.proofs.working.close.Goals as goal
+
+pub returns-then-lacks_memory-clause-goes : goal.returns-then-lacks_memory-clause-goes
+returns-then-lacks_memory-clause-goes g c =
+    let fronts = g.S.Steps.fronts in
+    goes_trans c.args.worker (fronts c.args.steps.now) (fronts c.loop-node.steps) (fronts c.put_back-called.new.steps) c.loop-node.invariant.goes c.put_back-called.ensures.goes
+
+pub overflow_add-closed : goal.overflow_add-closed
+overflow_add-closed g c =
+    let fronts = g.S.Steps.fronts in
+    let inv = c.loop-node.invariant in
+    let old = c.requires.ends.0 in
+    let e = inv.ends old c.requires.ends.1 in
+    let nodes = c.requires.ends.1.grows.same.nodes in
+    let room = room_for_one c.args.worker c.loop-node.node old (fronts c.loop-node.steps) c.args.commands.now c.args.answers.items c.loop-node.closed e (omega (arith, c.loop-node-test.true, c.nodes-nodes.ensures, nodes)) inv.shut (sym c.is_open.ensures ∙ c.if-is_open.true) in
+    omega (arith, room, nodes, c.nodes-nodes.ensures, c.nodes-nodes.type_inv)
+
+pub returns-then-is_busy-clause-goes : goal.returns-then-is_busy-clause-goes
+returns-then-is_busy-clause-goes g c =
+    let fronts = g.S.Steps.fronts in
+    goes_trans c.args.worker (fronts c.args.steps.now) (fronts c.loop-node.steps) (fronts c.put_back-called.new.steps) c.loop-node.invariant.goes c.put_back-called.ensures.goes
+
+pub returns-then-is_busy-clause-works : goal.returns-then-is_busy-clause-works
+returns-then-is_busy-clause-works g c =
+    let fronts = g.S.Steps.fronts in
+    let back = rw c.if-is_busy.ensures.busy at c.put_back-called.ensures.back in
+    λ old e. rw c.loop-node.invariant.same (works_closing c.args.worker old (fronts c.put_back-called.new.steps) c.args.commands.now c.args.answers c.loop-node.closed _ c.requires.room
+    (ends_stop c.args.worker c.loop-node.node old (fronts c.loop-node.steps) (fronts c.put_back-called.new.steps) c.args.commands.now c.args.answers.items c.loop-node.closed first_begun (c.loop-node.invariant.ends old e) c.put_back-called.ensures.goes back) refl refl)
+
+pub loop-node-preserved : goal.loop-node-preserved
+loop-node-preserved g c =
+    let fronts = g.S.Steps.fronts in
+    let inv = c.loop-node.invariant in
+    let f0 = fronts c.args.steps.now in
+    let mid = fronts c.loop-node.steps in
+    let who = c.args.worker in
+    let node = c.loop-node.node in
+    elim c.if-is_open.branch [
+      | then-is_open+else-lacks_memory+else-is_busy w ↦
+          let new = fronts w.put_back-called.new.steps in
+          let back = ended_comes first_begun (PutsBack who node mid new) w.put_back-called.result w.put_back-called.new.reply w.if-is_busy.ensures.free w.if-lacks_memory.ensures.some w.put_back-called.ensures.back in
+          rw (w.steps-is, w.closed-is) (record {
+            goes = goes_trans who f0 mid new inv.goes w.put_back-called.ensures.goes;
+            ends = λ old e. ends_more who node old mid c.args.commands.now c.args.answers.items c.loop-node.closed (inv.ends old e) (omega (arith, c.loop-node-test.true, c.nodes-nodes.ensures, e.grows.same.nodes)) inv.shut (sym c.is_open.ensures ∙ w.if-is_open.true) new back.0 w.put_back-called.ensures.goes back.1;
+            same = inv.same;
+            shut = shut_put who node mid new back.0 inv.shut back.1;
+          })
+      | else-is_open w ↦
+          rw (w.steps-is, w.closed-is) (record {
+            goes = inv.goes;
+            ends = inv.ends;
+            same = inv.same;
+            shut = shut_more who node mid inv.shut (not_open (mid.batches who node) (sym c.is_open.ensures ∙ w.if-is_open.false));
+          })
+    ]
+
+pub returns-clause-works : goal.returns-clause-works
+returns-clause-works g c =
+    let fronts = g.S.Steps.fronts in
+    λ old e. rw c.loop-node.invariant.same (works_end c.args.worker old (fronts c.loop-node.steps) c.args.commands.now c.args.answers c.loop-node.closed c.loop-node.node c.requires.room (c.loop-node.invariant.ends old e) (omega (arith, c.loop-node-test.false, c.nodes-nodes.ensures, e.grows.same.nodes)) c.loop-node.invariant.shut)

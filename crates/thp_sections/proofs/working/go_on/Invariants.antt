@@ -1,0 +1,15 @@
+use Rattle.std.proofs.Common.{◌≡◌, ◌≤◌, length}
+use Rattle.thp_sections.specs.Fronts.{Fronts, Goes}
+use Rattle.thp_sections.specs.Sections.{Begins}
+use Rattle.thp_sections.proofs.working.go_on.Given as goal
+
+abbrev pub invariant-loop-index : goal.invariant-loop-index
+invariant-loop-index g l =
+    let fronts = g.S.Steps.fronts in
+    record {
+      goes : Goes l.worker (fronts l.fn.steps) (fronts l.steps);
+      begins : (old : Fronts) → Begins l.worker old (fronts l.fn.steps) l.commands l.fn.answers.items l.fn.begun → Begins l.worker old (fronts l.steps) l.commands l.answers.items l.begun;
+      count : length l.answers.items ≡ l.index;
+      keeps : l.answers.keeps ≡ l.fn.answers.keeps;
+      room : length l.commands ≤ l.answers.room;
+    }

@@ -1,0 +1,120 @@
+-- What one step of a caller does to its node and to its open batch there, and what it is answered.
+use Rattle.std.specs.Prelude.{◌≡◌, ℕ, ◌≤◌, ⊤, Bool, List, [], ◌∷◌, Option, Some, None, Result, Ok, Err, length, take}
+use Rattle.thp_model.specs.declared.events.Event.{Event}
+use Rattle.thp_model.specs.declared.events.Outcome.{Outcome}
+use Rattle.thp_model.specs.declared.events.What.{What}
+use Rattle.thp_model.specs.declared.events.What.TheVariants as what
+use Rattle.thp_model.specs.declared.refusal.Refusal.{Refusal}
+use Rattle.thp_model.specs.declared.refusal.Refusal.TheVariants.{HasBatch}
+use Rattle.thp_model.specs.declared.shape.Shape.{Shape}
+use Rattle.thp_model.specs.Counts.{allocations}
+use Rattle.thp_model.specs.History.{History, by}
+use Rattle.thp_model.specs.Places.{queue}
+use Rattle.thp_model.specs.Refusals.{Call, refusal}
+use Rattle.thp_model.specs.Refusals as call
+use Rattle.thp_model.specs.Runs.{take_events, split_next_events, put_back_events, next_page, rest_after, still_flying}
+use Rattle.thp_model.specs.PageCalls.{gain_what, loss_what, page_call}
+use Rattle.thp_model.specs.declared.page_call.Done.{Done}
+use Rattle.thp_model.specs.declared.page_call.PageCall.{PageCall}
+use Rattle.thp_model.specs.declared.page_call.PageCall.TheVariants as either
+use Rattle.thp_node.specs.Batches.{BatchState, rest, tried, back_reply}
+use Rattle.thp_text.specs.declared.script.Op.{Op}
+use Rattle.thp_text.specs.declared.script.Op.TheVariants as op
+use Rattle.thp_sections.specs.declared.steps.Step.{Step}
+use Rattle.thp_sections.specs.declared.steps.Step.TheVariants.{One, Take, SplitNext, PutBack}
+use Rattle.thp_sections.specs.declared.reply.Reply.{Reply}
+use Rattle.thp_sections.specs.declared.reply.Reply.TheVariants as reply
+
+-- what a step or a command is answered: its reply, or why it was refused
+abbrev pub Reaction : Type 0
+Reaction = Result Reply Refusal
+
+-- the answer of a call that leaves its reply in a place, where this one stands now
+abbrev pub answer_of : {E : Type 0} → Result (Unit {0}) E → Reply → Result Reply E
+answer_of (Ok x) reply = Ok reply
+answer_of (Err why) reply = Err why
+
+-- an open batch: the pages taken, and those of them that are still to be tried
+pub record Open : Type 0 where
+  pub pages : List ℕ
+  pub left : List ℕ
+
+abbrev pub open_of : BatchState → Open
+open_of b = record { pages = b.pages; left = rest b }
+
+-- the refusal of a step of caller c at h: a try, a put-back and a count are never refused
+abbrev pub refusal_of_op : Shape → History → Op → Option Refusal
+refusal_of_op s h op.Alloc = refusal s h call.alloc_page
+refusal_of_op s h (op.Page p c) = refusal s h (page_call c p)
+refusal_of_op s h op.Close = refusal s h call.close
+refusal_of_op s h _ = None
+
+abbrev pub refusal_of : Shape → History → ℕ → Step → Option Refusal
+refusal_of s h c (One o) = refusal_of_op s h o
+refusal_of s h c (Take n) = refusal s h (call.take c)
+refusal_of s h c _ = None
+
+-- caller c's one event is this, and there is nothing to answer
+abbrev pub DoesOne : ℕ → What → List Event → Reaction → Type 0
+DoesOne c w own answer = (own ≡ by c w ∷ []) × (answer ≡ Ok reply.Unit)
+
+-- caller c's one event is this, with what became of its page and the frames given back, and those are the answer
+abbrev pub DoesLoss : ℕ → (Outcome → List Bool → What) → List Event → Reaction → Type 0
+DoesLoss c w own answer = (d : Done) × (own ≡ by c (w d.outcome d.released) ∷ []) × (answer ≡ Ok (reply.Done d))
+
+-- caller c made this call of page p
+abbrev pub DoesCall : ℕ → ℕ → PageCall → List Event → Reaction → Type 0
+DoesCall c p (either.Gain g) own answer = DoesOne c (gain_what g p) own answer
+DoesCall c p (either.Loss l) own answer = DoesLoss c (loss_what l p) own answer
+
+-- the events and the answer of a step that isn't refused, of a command that is one call; a new page's block is free to choose
+abbrev pub DoesOp : Shape → History → ℕ → Op → List Event → Reaction → Type 0
+DoesOp s h c op.Alloc own answer = (block : ℕ) × (own ≡ by c (what.Alloc (allocations h) block) ∷ []) × (answer ≡ Ok (reply.Page (allocations h)))
+DoesOp s h c (op.Page p call) own answer = DoesCall c p call own answer
+DoesOp s h c op.Close own answer = DoesOne c what.Close own answer
+DoesOp s h c op.Count own answer = (own ≡ []) × (answer ≡ Ok (reply.Count (length (queue s h))))
+DoesOp s h c _ own answer = ⊥
+
+-- nothing happens, and this is the answer
+abbrev pub Nothing : Option Open → List Event → Reaction → Option Open → Reaction → Type 0
+Nothing batch own answer after said = (own ≡ []) × (answer ≡ said) × (after ≡ batch)
+
+-- where there is no refusal, or else the refusal
+abbrev pub Unless : Option Refusal → (own : List Event) → Reaction → Option Open → Option Open → Type 0 → Type 0
+Unless (Some why) own answer batch after P = Nothing batch own answer after (Err why)
+Unless None own answer batch after P = P
+
+-- Of a step of caller c at h, with this open batch on the node: its own events, its answer, and the open batch after it.
+-- A caller has one open batch at most: the runner refuses a take beside it, and answers that there is none.
+unfoldable pub Does : Shape → History → ℕ → Option Open → Step → List Event → Reaction → Option Open → Type 0
+Does s h c batch (One o) own answer after = Unless (refusal_of_op s h o) own answer batch after (DoesOp s h c o own answer × (after ≡ batch))
+Does s h c (Some b) (Take n) own answer after = Nothing (Some b) own answer after (Err HasBatch)
+Does s h c None (Take n) own answer after =
+    Unless (refusal s h (call.take c)) own answer None after
+    ((own ≡ take_events s h c n) × (answer ≡ Ok (reply.Taken (length (take n (queue s h))))) × (after ≡ Some (record { pages = take n (queue s h); left = take n (queue s h) })))
+Does s h c None SplitNext own answer after = Nothing None own answer after (Ok reply.NoBatch)
+Does s h c (Some b) SplitNext own answer after =
+    (own ≡ split_next_events s h c b.left) × (answer ≡ Ok (reply.Tried (tried s h (next_page h c b.left)))) × (after ≡ Some (record { pages = b.pages; left = rest_after h c b.left }))
+Does s h c None PutBack own answer after = Nothing None own answer after (Ok reply.NoBatch)
+Does s h c (Some b) PutBack own answer after =
+    (own ≡ put_back_events s h c b.pages) × (answer ≡ Ok (reply.Back (back_reply s h (still_flying h c b.pages)))) × (after ≡ None)
+
+-- a command that is one call of the node, and needs no batch
+abbrev pub IsPlain : Op → Type 0
+IsPlain (op.Scan n) = ⊥
+IsPlain (op.Take n) = ⊥
+IsPlain op.SplitNext = ⊥
+IsPlain op.PutBack = ⊥
+IsPlain _ = ⊤
+
+-- a step that there is: a take is of as many pages as a batch holds
+abbrev pub IsStep : Step → Type 0
+IsStep (One o) = IsPlain o
+IsStep (Take n) = n ≤ 128
+IsStep _ = ⊤
+
+-- a command that there is
+abbrev pub IsFit : Op → Type 0
+IsFit (op.Scan n) = n ≤ 128
+IsFit (op.Take n) = n ≤ 128
+IsFit _ = ⊤

@@ -1,0 +1,93 @@
+-- What the holder of a pass of one node has, and what a step does to it.
+use Rattle.std.specs.Prelude.{◌≡◌, ◌≢◌, ℕ, ◌+◌, ◌-◌, nat_le, List, [], ◌++◌, All, Option, Some, None, Result, Ok, Err, length, slice_get, take, drop, if◌then◌else◌}
+use Rattle.atomic_table.specs.Seated.{TableId}
+use Rattle.thp_model.specs.declared.events.Event.{Event}
+use Rattle.thp_model.specs.declared.refusal.Refusal.TheVariants.{OutOfMemory}
+use Rattle.thp_model.specs.Legal.{IsLegal}
+use Rattle.thp_model.specs.declared.page_call.Done.{Done}
+use Rattle.thp_node.specs.Batches.{BatchState, IsInFront}
+use Rattle.thp_cell.specs.declared.fault.CellFault.{CellFault}
+use Rattle.thp_cell.specs.declared.fault.CellFault.TheVariants.{Busy, Refused}
+use Rattle.thp_cell.specs.Calls.{at_front, below, from}
+use Rattle.thp_cell.specs.Rule.{IsOther}
+use Rattle.thp_cell.specs.Views.{PassState, HasAll, HasCaller}
+use Rattle.thp_sections.specs.declared.steps.Step.{Step}
+use Rattle.thp_sections.specs.declared.reply.Reply.{Reply}
+use Rattle.thp_sections.specs.declared.reply.Reply.TheVariants as reply
+use Rattle.thp_sections.specs.Does.{Open, Reaction, Does, open_of, refusal_of}
+
+-- the pass, and of each of its callers the open batch on the node
+pub record Held : Type 0 where
+  pub pass : PassState
+  pub batches : List (Option BatchState)
+
+-- Each caller has its place. An open batch is its caller's, and what is left of it comes first in the caller's flight.
+pub record IsHeld (cell : TableId) (pass : PassState) (batches : List (Option BatchState)) : Type 0 where
+  pub cell_is : pass.cell ≡ cell
+  pub callers : pass.first + length batches ≡ pass.end
+  pub each : (k : ℕ) (b : BatchState) → slice_get batches k ≡ Some (Some b) → (b.caller ≡ pass.first + k) × IsInFront pass.front b
+
+abbrev pub open_in : Option (Option BatchState) → Option Open
+open_in (Some (Some b)) = Some (open_of b)
+open_in (Some None) = None
+open_in None = None
+
+-- the open batch of caller c
+abbrev pub batch_of : Held → ℕ → Option Open
+batch_of h c = if nat_le h.pass.first c then open_in (slice_get h.batches (c - h.pass.first)) else None
+
+-- the node went on by events of others and then by these of caller c, whose open batch is `after`
+pub record Acts (c : ℕ) (old new : Held) (others own : List Event) (after : Option Open) : Type 0 where
+  pub pass : new.pass ≡ at_front old.pass new.pass.front
+  pub by_others : All (IsOther old.pass.first old.pass.end) others
+  pub by_caller : All (λ (e : Event). e.caller ≡ c) own
+  pub front : new.pass.front ≡ old.pass.front ++ others ++ own
+  pub legal : IsLegal old.pass.shape old.pass.front → IsLegal old.pass.shape new.pass.front
+  pub batch : batch_of new c ≡ after
+  pub other_batches : (d : ℕ) → d ≢ c → batch_of new d ≡ batch_of old d
+
+-- a step of caller c that was answered
+pub record HeldAnswered (c : ℕ) (step : Step) (old new : Held) (answer : Reaction) : Type 0 where
+  pub others : List Event
+  pub own : List Event
+  pub after : Option Open
+  pub acts : Acts c old new others own after
+  pub does : Does old.pass.shape (old.pass.front ++ others) c (batch_of old c) step own answer after
+
+-- a step for whose events there was no memory
+pub record HeldOutOf (c : ℕ) (step : Step) (old new : Held) : Type 0 where
+  pub others : List Event
+  pub acts : Acts c old new others [] (batch_of old c)
+  pub allowed : refusal_of old.pass.shape (old.pass.front ++ others) c step ≡ None
+
+-- a step of caller c
+abbrev pub HeldDone : ℕ → Step → Held → Held → Result Reply CellFault → Type 0
+HeldDone c step old new (Ok reply) = HeldAnswered c step old new (Ok reply)
+HeldDone c step old new (Err Busy) = (new ≡ old) × (HasAll old.pass → ⊥)
+HeldDone c step old new (Err (Refused OutOfMemory)) = HeldOutOf c step old new
+HeldDone c step old new (Err (Refused why)) = HeldAnswered c step old new (Err why)
+
+-- what a call that tells nothing is answered
+abbrev pub unit_reply : Result (Unit {0}) CellFault → Result Reply CellFault
+unit_reply (Ok x) = Ok reply.Unit
+unit_reply (Err fault) = Err fault
+
+-- what a call that may give frames back is answered
+abbrev pub loss_reply : Result Done CellFault → Result Reply CellFault
+loss_reply (Ok done) = Ok (reply.Done done)
+loss_reply (Err fault) = Err fault
+
+-- there is an open batch
+abbrev pub IsSomeBatch : Option (Option BatchState) → Type 0
+IsSomeBatch b = (batch : BatchState) × (b ≡ Some (Some batch))
+
+-- the open batches of the callers stay
+abbrev pub OpenStay : Held → Held → Type 0
+OpenStay old new = (c : ℕ) → HasCaller old.pass c → batch_of new c ≡ batch_of old c
+
+-- the callers below `at`, and those from it on, each with its place
+abbrev pub lower_part : Held → ℕ → Held
+lower_part h at = record { pass = below h.pass at; batches = take (at - h.pass.first) h.batches }
+
+abbrev pub upper_part : Held → ℕ → Held
+upper_part h at = record { pass = from h.pass at; batches = drop (at - h.pass.first) h.batches }

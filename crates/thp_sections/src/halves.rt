@@ -1,0 +1,98 @@
+//! Workers side by side, by halves.
+ghost use Rattle.std.specs.Prelude.{◌≡◌, ◌<◌, All, IfOk, IsOkAnd, List, [], ◌∷◌, ◌++◌};
+ghost use Rattle.std.specs.Thread.{IsSync};
+ghost use Rattle.thp_sections.specs.Fronts.{Fronts};
+ghost use Rattle.thp_sections.specs.Halves.{CanJoin, CanRun, IsJoined, IsSplit, Ran};
+ghost use Rattle.thp_sections.specs.Sections.{IsKept};
+ghost use Rattle.thp_sections.specs.declared.reply.Worked.{Worked};
+
+use crate::gate::Gate;
+use crate::reply::Worked;
+use crate::steps::Steps;
+use crate::working::work;
+use std::alloc::{AllocError, Global};
+use std::thread::{Threads, join};
+use thp_text::Command;
+
+/// Nodes whose callers can part and come together.
+pub trait Passes: Steps + Sized {
+    /// Divides the callers: those below `at`, and those from it on.
+    fn split(self, alloc: Global, at: u32) -> Result<(Self, Self), AllocError>
+        requires after { (Self.fronts self).first < at }
+        requires before { at < (Self.fronts self).end }
+        ensures { IfOk result (λ r. IsSplit at (Self.fronts self) (Self.fronts r.0) (Self.fronts r.1)) };
+
+    /// Joins the passes of the same nodes whose callers adjoin.
+    fn join(self, alloc: Global, other: Self) -> Result<Self, AllocError>
+        requires { CanJoin (Self.fronts self) (Self.fronts other) }
+        ensures { IfOk result (λ r. IsJoined (Self.fronts self) (Self.fronts other) (Self.fronts r)) };
+}
+
+/// Does the sections of the workers from `first` on, each on a thread of its own. Their answers are kept or aren't.
+pub fn run_range<R: Threads + Sync, P: Passes + Send + Drop, G: Gate + Sync>(
+    rt: &R,
+    alloc: Global,
+    passes: P,
+    first: u32,
+    workers: &[Vec<Command>],
+    keeps: bool,
+    gate: &G,
+) -> Result<(P, Vec<Worked>), AllocError>
+    requires { CanRun (P.fronts passes) first workers.now }
+    ensures ran { IfOk result (λ r. Ran first (P.fronts passes) (P.fronts r.0) workers.now r.1.items) }
+    ensures keeps { IfOk result (λ r. All (IsKept keeps) r.1.items) }
+{
+    if workers.len() == 1 {
+        return run_one(alloc, passes, first, &workers[0], keeps, gate);
+    }
+    let middle = workers.len() / 2;
+    let (low, high) = workers.split_at(middle);
+    let at = first + middle as u32;
+    let (left, right) = passes.split(alloc, at)?;
+    let (left, right) = join(
+        rt,
+        move || -> Result<(P, Vec<Worked>), AllocError>
+            requires { IsSync R.row × IsSync G.row × CanRun (P.fronts left) first low.now }
+            ensures ran { IfOk result (λ r. Ran first (P.fronts left) (P.fronts r.0) low.entry.now r.1.items) }
+            ensures keeps { IfOk result (λ r. All (IsKept keeps) r.1.items) }
+        { run_range(rt, alloc, left, first, low, keeps, gate) },
+        move || -> Result<(P, Vec<Worked>), AllocError>
+            requires { IsSync R.row × IsSync G.row × CanRun (P.fronts right) at high.now }
+            ensures ran { IfOk result (λ r. Ran at (P.fronts right) (P.fronts r.0) high.entry.now r.1.items) }
+            ensures keeps { IfOk result (λ r. All (IsKept keeps) r.1.items) }
+        { run_range(rt, alloc, right, at, high, keeps, gate) },
+    );
+    let (left, done) = left?;
+    let (right, more) = right?;
+    let both = left.join(alloc, right)?;
+    Ok((both, append(done, more)?))
+}
+
+/// Does the section of one worker.
+fn run_one<P: Passes + Drop, G: Gate>(
+    alloc: Global,
+    passes: P,
+    worker: u32,
+    commands: &Vec<Command>,
+    keeps: bool,
+    gate: &G,
+) -> Result<(P, Vec<Worked>), AllocError>
+    requires { CanRun (P.fronts passes) worker (commands.now ∷ []) }
+    ensures ran { IfOk result (λ r. Ran worker (P.fronts passes) (P.fronts r.0) (commands.now ∷ []) r.1.items) }
+    ensures keeps { IfOk result (λ r. All (IsKept keeps) r.1.items) }
+{
+    let mut passes = passes;
+    let worked = work(alloc, commands, worker, keeps, &mut passes, gate)?;
+    let mut all = Vec::new(alloc);
+    all.push(worked)?;
+    Ok((passes, all))
+}
+
+fn append(done: Vec<Worked>, more: Vec<Worked>) -> Result<Vec<Worked>, AllocError>
+    ensures { IfOk result (λ all. all.items ≡ done.items ++ more.items) }
+{
+    let mut all = done;
+    let mut more = more;
+    all.append(&mut more)?;
+    Ok(all)
+}

@@ -1,0 +1,304 @@
+//! A pass of one node, with the open batches of its callers there.
+ghost use Rattle.std.specs.Prelude.{◌≡◌, ◌<◌, ◌≤◌, ℕ, length, slice_get, slice_set, IfOk, MatchBool, None, Some};
+ghost use Rattle.thp_model.specs.Legal.{IsLegal};
+ghost use Rattle.thp_cell.specs.Calls.{IsJoined, PartsStay};
+ghost use Rattle.thp_cell.specs.Views.{HasCaller};
+ghost use Rattle.thp_sections.specs.Does.{answer_of, IsPlain, IsStep};
+ghost use Rattle.thp_sections.specs.Sections.{is_open};
+ghost use Rattle.thp_sections.specs.Holdings.{batch_of, lower_part, loss_reply, unit_reply, upper_part, HeldDone, IsSomeBatch, OpenStay};
+
+use crate::reply::Reply;
+use crate::steps::Step;
+use std::alloc::{AllocError, Global};
+use std::marker::Model;
+use thp_cell::{CellFault, NodeCell, Pass};
+use thp_model::{PageCall, PageId, Refusal};
+use thp_node::{Batch, Done};
+use thp_text::Op;
+
+/// A pass of one node, and for each of its callers at most one open batch.
+#[derive(Drop)]
+pub struct NodePass<'a> {
+    cell: &'a NodeCell,
+    pass: Pass,
+    // by caller, from the pass's first on
+    batches: Vec<Option<Batch>>,
+}
+
+impl<'a> Model for NodePass<'a> {
+    ghost use Rattle.thp_sections.specs.Holdings.{Held, IsHeld};
+
+    ghost Value = { Held };
+
+    ghost view = { λ p. record { pass = p.pass; batches = p.batches.items } };
+
+    ghost invariant = { λ p. IsHeld p.cell.now p.pass p.batches.items };
+}
+
+impl<'a> NodePass<'a> {
+    /// A pass of a cell whose callers have no batch open.
+    pub fn new(alloc: Global, cell: &'a NodeCell, pass: Pass) -> Result<NodePass<'a>, AllocError>
+        requires cell { pass.cell ≡ cell.now }
+        requires some { pass.first ≤ pass.end }
+        ensures pass { IfOk result (λ p. p.pass ≡ pass) }
+        ensures none { IfOk result (λ p. (c : ℕ) → batch_of p c ≡ None) }
+    {
+        let (first, end) = pass.callers();
+        let mut batches = Vec::new(alloc);
+        for _ in first..end {
+            batches.push(None)?;
+        }
+        Ok(NodePass {
+            cell,
+            pass,
+            batches,
+        })
+    }
+
+    /// The pass. Open batches are let go: their pages stay in flight.
+    pub fn into_pass(self) -> Pass
+        ensures { result ≡ self.entry.pass }
+    {
+        let NodePass {
+            cell: _,
+            pass,
+            batches: _,
+        } = self;
+        pass
+    }
+
+    /// The caller has an open batch.
+    pub(crate) fn is_open(&self, caller: u32) -> bool
+        requires { HasCaller self.now.pass caller }
+        ensures { result ≡ is_open (batch_of self.now caller) }
+    {
+        let (first, _) = self.pass.callers();
+        is_open(&self.batches, (caller - first) as usize)
+    }
+
+    /// One step of a caller. What it is replied stands in `reply`, which after a fault says nothing.
+    pub(crate) fn step(
+        &mut self,
+        caller: u32,
+        step: Step,
+        reply: &mut Reply,
+    ) -> Result<(), CellFault>
+        requires caller { HasCaller self.old.pass caller }
+        requires step { IsStep step }
+        ensures { HeldDone caller step self.old self.new (answer_of result reply.new) }
+    {
+        match step {
+            Step::One(op) => self.one(caller, op, reply),
+            Step::Take(count) => self.take(caller, count, reply),
+            Step::SplitNext => self.split_next(caller, reply),
+            Step::PutBack => self.put_back(caller, reply),
+        }
+    }
+
+    /// Divides the callers: those below `at`, and those from it on, each with its open batch.
+    pub(crate) fn split(self, at: u32) -> Result<(NodePass<'a>, NodePass<'a>), AllocError>
+        requires after { self.pass.first < at }
+        requires before { at < self.pass.end }
+        ensures left { IfOk result (λ r. r.0 ≡ lower_part self.entry at) }
+        ensures right { IfOk result (λ r. r.1 ≡ upper_part self.entry at) }
+    {
+        let NodePass {
+            cell,
+            pass,
+            batches,
+        } = self;
+        let mut batches = batches;
+        let (first, _) = pass.callers();
+        let rest = batches.split_off((at - first) as usize)?;
+        let (left, right) = cell.split(pass, at);
+        Ok((
+            NodePass {
+                cell,
+                pass: left,
+                batches,
+            },
+            NodePass {
+                cell,
+                pass: right,
+                batches: rest,
+            },
+        ))
+    }
+
+    /// Joins the passes of one cell whose callers adjoin, with their open batches.
+    pub(crate) fn join(self, other: NodePass<'a>) -> Result<NodePass<'a>, AllocError>
+        requires cell { other.pass.cell ≡ self.pass.cell }
+        requires adjacent { self.pass.end ≡ other.pass.first }
+        ensures passes { IfOk result (λ r. IsJoined self.entry.pass other.entry.pass r.pass) }
+        ensures legal { IfOk result (λ r. IsLegal r.pass.shape r.pass.front) }
+        ensures left_parts { IfOk result (λ r. PartsStay self.entry.pass r.pass) }
+        ensures right_parts { IfOk result (λ r. PartsStay other.entry.pass r.pass) }
+        ensures left_batches { IfOk result (λ r. OpenStay self.entry r) }
+        ensures right_batches { IfOk result (λ r. OpenStay other.entry r) }
+    {
+        let NodePass {
+            cell,
+            pass,
+            batches,
+        } = self;
+        let NodePass {
+            cell: _,
+            pass: right,
+            batches: more,
+        } = other;
+        let mut batches = batches;
+        let mut more = more;
+        batches.append(&mut more)?;
+        let pass = cell.join(pass, right);
+        Ok(NodePass {
+            cell,
+            pass,
+            batches,
+        })
+    }
+
+    fn one(&mut self, caller: u32, op: Op, reply: &mut Reply) -> Result<(), CellFault>
+        requires caller { HasCaller self.old.pass caller }
+        requires plain { IsPlain op }
+        ensures { HeldDone caller (Step.One op) self.old self.new (answer_of result reply.new) }
+    {
+        match op {
+            Op::Alloc => match self.cell.alloc_page(&mut self.pass, caller) {
+                Ok(page) => {
+                    *reply = Reply::Page(page);
+                    Ok(())
+                }
+                Err(fault) => Err(fault),
+            },
+            Op::Page { page, call } => self.call(caller, page, call, reply),
+            Op::Close => unit(self.cell.close(&mut self.pass, caller), reply),
+            Op::Count => {
+                *reply = Reply::Count(self.cell.count(&mut self.pass));
+                Ok(())
+            }
+            Op::Scan { .. } | Op::Take { .. } | Op::SplitNext | Op::PutBack => {
+                *reply = Reply::NoBatch;
+                Ok(())
+            }
+        }
+    }
+
+    fn call(
+        &mut self,
+        caller: u32,
+        page: u64,
+        call: PageCall,
+        reply: &mut Reply,
+    ) -> Result<(), CellFault>
+        requires caller { HasCaller self.old.pass caller }
+        ensures { HeldDone caller (Step.One (Op.Page page call)) self.old self.new (answer_of result reply.new) }
+    {
+        let page = PageId(page);
+        match call {
+            PageCall::Gain(gain) => unit(self.cell.gain(&mut self.pass, caller, page, gain), reply),
+            PageCall::Loss(kind) => loss(self.cell.lose(&mut self.pass, caller, page, kind), reply),
+        }
+    }
+
+    fn take(&mut self, caller: u32, count: u32, reply: &mut Reply) -> Result<(), CellFault>
+        requires caller { HasCaller self.old.pass caller }
+        requires step { IsStep (Step.Take count) }
+        ensures { HeldDone caller (Step.Take count) self.old self.new (answer_of result reply.new) }
+    {
+        let (first, _) = self.pass.callers();
+        let place = (caller - first) as usize;
+        if is_open(&self.batches, place) {
+            return Err(CellFault::Refused(Refusal::HasBatch));
+        }
+        match self.cell.take(&mut self.pass, caller, count) {
+            Ok(batch) => {
+                let taken = batch.pages().len() as u32;
+                put_at(&mut self.batches, place, batch);
+                *reply = Reply::Taken(taken);
+                Ok(())
+            }
+            Err(fault) => Err(fault),
+        }
+    }
+
+    fn split_next(&mut self, caller: u32, reply: &mut Reply) -> Result<(), CellFault>
+        requires caller { HasCaller self.old.pass caller }
+        ensures { HeldDone caller Step.SplitNext self.old self.new (answer_of result reply.new) }
+    {
+        let (first, _) = self.pass.callers();
+        let place = (caller - first) as usize;
+        let Some(batch) = &mut self.batches[place] else {
+            *reply = Reply::NoBatch;
+            return Ok(());
+        };
+        match self.cell.split_next(&mut self.pass, batch) {
+            Ok(tried) => {
+                *reply = Reply::Tried(tried);
+                Ok(())
+            }
+            Err(fault) => Err(fault),
+        }
+    }
+
+    fn put_back(&mut self, caller: u32, reply: &mut Reply) -> Result<(), CellFault>
+        requires caller { HasCaller self.old.pass caller }
+        ensures { HeldDone caller Step.PutBack self.old self.new (answer_of result reply.new) }
+    {
+        let (first, _) = self.pass.callers();
+        let place = (caller - first) as usize;
+        let Some(batch) = take_at(&mut self.batches, place) else {
+            *reply = Reply::NoBatch;
+            return Ok(());
+        };
+        match self.cell.put_back(&mut self.pass, batch) {
+            Ok(back) => {
+                *reply = Reply::Back(back);
+                Ok(())
+            }
+            Err((batch, fault)) => {
+                put_at(&mut self.batches, place, batch);
+                Err(fault)
+            }
+        }
+    }
+}
+
+/// There is an open batch at this place.
+fn is_open(batches: &Vec<Option<Batch>>, place: usize) -> bool
+    requires { place < length batches.now.items }
+    ensures { MatchBool result (IsSomeBatch (slice_get batches.now.items place)) (slice_get batches.now.items place ≡ Some None) }
+{
+    batches[place].is_some()
+}
+
+/// Takes the open batch at this place out.
+fn take_at(batches: &mut Vec<Option<Batch>>, place: usize) -> Option<Batch>
+    requires { place < length batches.old.items }
+    ensures was { slice_get batches.old.items place ≡ Some result }
+    ensures now { batches.new.items ≡ slice_set batches.old.items place None }
+{
+    batches[place].take()
+}
+
+/// Puts an open batch to this place.
+fn put_at(batches: &mut Vec<Option<Batch>>, place: usize, batch: Batch)
+    requires { place < length batches.old.items }
+    ensures { batches.new.items ≡ slice_set batches.old.items place (Some batch) }
+{
+    batches[place] = Some(batch);
+}
+
+fn unit(called: Result<(), CellFault>, reply: &mut Reply) -> Result<(), CellFault>
+    ensures { answer_of result reply.new ≡ unit_reply called }
+{
+    called?;
+    *reply = Reply::Unit;
+    Ok(())
+}
+
+fn loss(called: Result<Done, CellFault>, reply: &mut Reply) -> Result<(), CellFault>
+    ensures { answer_of result reply.new ≡ loss_reply called }
+{
+    *reply = Reply::Done(called?);
+    Ok(())
+}

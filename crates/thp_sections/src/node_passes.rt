@@ -1,0 +1,166 @@
+//! Passes of all nodes, with the open batches of their callers.
+ghost use Rattle.std.specs.Prelude.{◌≡◌, ◌++◌, All, IfOk, map};
+ghost use Rattle.thp_sections.specs.Passes.{fronts_of, high_part, low_part, Agree, EachAdjoins, EachJoint, IsCut};
+
+use crate::halves::Passes;
+use crate::node_pass::NodePass;
+use crate::reply::Reply;
+use crate::steps::{Step, Steps};
+use std::alloc::{AllocError, Global};
+use std::marker::Model;
+use thp_cell::CellFault;
+
+/// A pass of each node, all of the same callers. Contracts see what the holder knows of the nodes.
+#[derive(Drop)]
+pub struct NodePasses<'a> {
+    callers: u32,
+    first: u32,
+    end: u32,
+    nodes: Vec<NodePass<'a>>,
+}
+
+impl<'a> Model for NodePasses<'a> {
+    ghost use Rattle.thp_sections.specs.Passes.{Passes, Agree};
+
+    ghost Value = { Passes };
+
+    ghost view = { λ s. record { callers = s.callers; first = s.first; end = s.end; held = s.nodes.items } };
+
+    ghost invariant = { λ s. Agree s.callers s.first s.end s.nodes.items };
+}
+
+impl<'a> Steps for NodePasses<'a> {
+    ghost use Rattle.thp_sections.specs.Passes.{fronts_in};
+
+    ghost fronts = { fronts_in };
+
+    fn nodes(&self) -> u32 {
+        self.nodes.len() as u32
+    }
+
+    fn is_open(&self, caller: u32, node: u32) -> bool {
+        self.nodes[node as usize].is_open(caller)
+    }
+
+    fn step(
+        &mut self,
+        caller: u32,
+        node: u32,
+        step: Step,
+        reply: &mut Reply,
+    ) -> Result<(), CellFault> {
+        self.nodes[node as usize].step(caller, step, reply)
+    }
+}
+
+impl<'a> NodePasses<'a> {
+    /// The passes of the nodes, each of the callers from `first` on and before `end`, of so many callers.
+    pub fn new(nodes: Vec<NodePass<'a>>, callers: u32, first: u32, end: u32) -> NodePasses<'a>
+        requires { Agree callers first end nodes.items }
+        ensures { result ≡ record { callers = callers; first = first; end = end; held = nodes.entry.items } }
+    {
+        NodePasses {
+            callers,
+            first,
+            end,
+            nodes,
+        }
+    }
+
+    /// The passes of the nodes.
+    pub fn into_nodes(self) -> Vec<NodePass<'a>>
+        ensures items { result.items ≡ self.entry.held }
+        ensures agree { Agree self.entry.callers self.entry.first self.entry.end result.items }
+    {
+        self.nodes
+    }
+}
+
+impl<'a> Passes for NodePasses<'a> {
+    fn split(self, alloc: Global, at: u32) -> Result<(Self, Self), AllocError> {
+        let NodePasses {
+            callers,
+            first,
+            end,
+            nodes,
+        } = self;
+        let (low, high) = split_each(alloc, nodes, at)?;
+        Ok((
+            NodePasses {
+                callers,
+                first,
+                end: at,
+                nodes: low,
+            },
+            NodePasses {
+                callers,
+                first: at,
+                end,
+                nodes: high,
+            },
+        ))
+    }
+
+    fn join(self, alloc: Global, other: Self) -> Result<Self, AllocError> {
+        let NodePasses {
+            callers,
+            first,
+            end: _,
+            nodes,
+        } = self;
+        let NodePasses {
+            callers: _,
+            first: _,
+            end,
+            nodes: more,
+        } = other;
+        let nodes = join_each(alloc, nodes, more)?;
+        Ok(NodePasses {
+            callers,
+            first,
+            end,
+            nodes,
+        })
+    }
+}
+
+/// Divides the callers of each pass: those below `at`, and those from it on.
+fn split_each<'a>(
+    alloc: Global,
+    nodes: Vec<NodePass<'a>>,
+    at: u32,
+) -> Result<(Vec<NodePass<'a>>, Vec<NodePass<'a>>), AllocError>
+    requires { All (IsCut at) nodes.items }
+    ensures low { IfOk result (λ r. r.0.items ≡ map (low_part at) nodes.entry.items) }
+    ensures high { IfOk result (λ r. r.1.items ≡ map (high_part at) nodes.entry.items) }
+{
+    let mut low = Vec::new(alloc);
+    let mut high = Vec::new(alloc);
+    for node in nodes {
+        let (left, right) = node.split(at)?;
+        low.push(left)?;
+        high.push(right)?;
+    }
+    Ok((low, high))
+}
+
+/// Joins each pass with the one at its place.
+fn join_each<'a>(
+    alloc: Global,
+    nodes: Vec<NodePass<'a>>,
+    more: Vec<NodePass<'a>>,
+) -> Result<Vec<NodePass<'a>>, AllocError>
+    requires { EachAdjoins nodes.items more.items }
+    ensures { IfOk result (λ r. EachJoint nodes.entry.items more.entry.items r.items) }
+{
+    let mut all = Vec::new(alloc);
+    let mut more = more.into_iter();
+    for low in nodes {
+        match more.next() {
+            Some(high) => all.push(low.join(high)?)?,
+            // there are as many of both
+            None => {}
+        }
+    }
+    Ok(all)
+}

@@ -1,0 +1,119 @@
+//! Steps of callers on nodes, whoever keeps the nodes.
+ghost use Rattle.std.specs.Bool.{OnTrue, OnFalse};
+ghost use Rattle.std.specs.Prelude.{◌≡◌, ◌≢◌, ◌<◌, Err};
+ghost use Rattle.thp_sections.specs.Does.{answer_of, IsStep};
+ghost use Rattle.thp_sections.specs.Fronts.{Fronts, Goes, HasCaller, StepDone};
+ghost use Rattle.thp_sections.specs.Sections.{is_open};
+ghost use Rattle.thp_sections.specs.Turns.{by_cell};
+
+use crate::reply::Reply;
+use std::hint::spin_loop;
+use thp_cell::CellFault;
+use thp_model::Refusal;
+use thp_text::Op;
+
+/// One call of a node: one of a command that is one call, or of the three of a batch.
+#[derive(Clone, Copy, Debug, PartialEq, Eq)]
+pub enum Step {
+    /// The one step of such a command.
+    One(Op),
+    /// A take of up to so many pages.
+    Take(u32),
+    /// A try of the next page of the open batch.
+    SplitNext,
+    /// A put-back of the open batch.
+    PutBack,
+}
+
+/// Nodes on which the holder of some callers makes steps.
+pub trait Steps {
+    /// What the holder knows of the nodes.
+    ghost fronts: { Self → Fronts };
+
+    /// How many nodes there are.
+    fn nodes(&self) -> u32
+        ensures { result ≡ (fronts self.now).nodes };
+
+    /// The caller has an open batch on the node.
+    fn is_open(&self, caller: u32, node: u32) -> bool
+        requires caller { HasCaller (fronts self.now) caller }
+        requires node { node < (fronts self.now).nodes }
+        ensures { result ≡ is_open ((fronts self.now).batches caller node) };
+
+    /// One step of a caller: one call of a node at most. What it is replied stands in `reply`, which after a fault says nothing.
+    fn step(
+        &mut self,
+        caller: u32,
+        node: u32,
+        step: Step,
+        reply: &mut Reply,
+    ) -> Result<(), CellFault>
+        requires caller { HasCaller (fronts self.old) caller }
+        requires node { node < (fronts self.old).nodes }
+        requires step { IsStep step }
+        ensures goes { Goes caller (fronts self.old) (fronts self.new) }
+        ensures done { StepDone caller node step (fronts self.old) (fronts self.new) (answer_of result reply.new) };
+}
+
+/// A step, tried again where the node is busy, 64 times in all, with a pause between two tries.
+pub(crate) fn try_step<S: Steps>(
+    steps: &mut S,
+    caller: u32,
+    node: u32,
+    step: Step,
+    reply: &mut Reply,
+) -> Result<(), CellFault>
+    requires caller { HasCaller (S.fronts steps.old) caller }
+    requires node { node < (S.fronts steps.old).nodes }
+    requires step { IsStep step }
+    ensures goes { Goes caller (S.fronts steps.old) (S.fronts steps.new) }
+    ensures done { StepDone caller node step (S.fronts steps.old) (S.fronts steps.new) (answer_of result reply.new) }
+{
+    for tries in 0..63u32 {
+        let called = steps.step(caller, node, step, reply);
+        if !is_busy(called) {
+            return called;
+        }
+        pause(tries);
+    }
+    steps.step(caller, node, step, reply)
+}
+
+/// A pause that doubles from one to the next, 1 spin at first, and 64 from the seventh on.
+#[cold]
+fn pause(tries: u32) {
+    for _ in 0..1u32 << tries.min(6) {
+        spin_loop();
+    }
+}
+
+/// Whether the node was busy.
+#[inline(always)]
+pub(crate) fn is_busy(called: Result<(), CellFault>) -> bool
+    ensures busy { OnTrue result (called ≡ Err CellFault.Busy) }
+    ensures free { OnFalse result (called ≢ Err CellFault.Busy) }
+{
+    matches!(called, Err(CellFault::Busy))
+}
+
+/// Whether there was no memory for the events.
+#[inline(always)]
+pub(crate) fn lacks_memory(called: Result<(), CellFault>) -> bool
+    ensures none { OnTrue result (called ≡ Err (CellFault.Refused Refusal.OutOfMemory)) }
+    ensures some { OnFalse result (called ≢ Err (CellFault.Refused Refusal.OutOfMemory)) }
+{
+    matches!(called, Err(CellFault::Refused(Refusal::OutOfMemory)))
+}
+
+/// What a node answered that wasn't busy.
+#[inline(always)]
+pub(crate) fn told(called: Result<(), CellFault>) -> Result<(), Refusal>
+    requires { called ≢ Err CellFault.Busy }
+    ensures { called ≡ by_cell result }
+{
+    match called {
+        Ok(()) => Ok(()),
+        Err(CellFault::Refused(refusal)) => Err(refusal),
+        Err(CellFault::Busy) => unreachable!(),
+    }
+}

@@ -1,0 +1,190 @@
+//! The commands of a section, one after another, and the put-backs at its end.
+ghost use Rattle.std.specs.Prelude.{◌≡◌, ◌^◌, ◌≤◌, ◌<◌, All, IfOk, length};
+ghost use Rattle.thp_sections.specs.Does.{answer_of};
+ghost use Rattle.thp_sections.specs.Fronts.{Fronts, Goes, HasAll, HasCaller};
+ghost use Rattle.thp_sections.specs.Turns.{Comes, first_begun, IsShared};
+ghost use Rattle.thp_sections.specs.Sections.{Begins, Ends, IsCommandFor, IsDoneFor, IsKept, PutsBack, Works};
+
+use crate::answer_log::AnswerLog;
+use crate::command::do_command;
+use crate::gate::{Gate, NoGate};
+use crate::reply::{Reply, Rest, Worked};
+use crate::scanning::{Begun, first_begun};
+use crate::steps::{Steps, is_busy, lacks_memory, told};
+use std::alloc::{AllocError, Global};
+use thp_cell::CellFault;
+use thp_text::{Command, Op};
+
+/// Does the commands of a section, in order, as steps of one caller, and puts back the batches that it left open.
+///
+/// It stops at the first step that stays busy, and tells where. Without memory it stops too: the log of answers has room for
+/// all before the first command, so a step that was done never lacks room for its answer. The log keeps them or doesn't.
+pub fn work<S: Steps, G: Gate>(
+    alloc: Global,
+    commands: &[Command],
+    worker: u32,
+    keeps: bool,
+    steps: &mut S,
+    gate: &G,
+) -> Result<Worked, AllocError>
+    requires caller { HasCaller (S.fronts steps.old) worker }
+    requires few { length commands.now < 2 ^ 32 }
+    requires commands { All (IsCommandFor (S.fronts steps.old).nodes) commands.now }
+    ensures goes { Goes worker (S.fronts steps.old) (S.fronts steps.new) }
+    ensures works { IfOk result (Works worker (S.fronts steps.old) (S.fronts steps.new) commands.now) }
+    ensures keeps { IfOk result (IsKept keeps) }
+    ensures done { HasAll (S.fronts steps.old) → IfOk result IsDoneFor }
+{
+    let answers = AnswerLog::new(alloc, commands.len(), keeps)?;
+    go_on(commands, worker, answers, first_begun(), steps, gate)
+}
+
+/// Does what is left of a section that stopped, by the passes of all callers, which are never busy: the rest of the command
+/// that was begun, the commands behind it, and the put-backs.
+pub fn work_rest<S: Steps>(
+    commands: &[Command],
+    worker: u32,
+    worked: Worked,
+    steps: &mut S,
+) -> Result<Worked, AllocError>
+    requires caller { HasCaller (S.fronts steps.old) worker }
+    requires few { length commands.now < 2 ^ 32 }
+    requires commands { All (IsCommandFor (S.fronts steps.old).nodes) commands.now }
+    requires worked { (old : Fronts) × Works worker old (S.fronts steps.old) commands.now worked }
+    ensures goes { Goes worker (S.fronts steps.old) (S.fronts steps.new) }
+    ensures works { (old : Fronts) → Works worker old (S.fronts steps.old) commands.now worked → IfOk result (Works worker old (S.fronts steps.new) commands.now) }
+    ensures keeps { IfOk result (IsKept worked.answers.keeps) }
+    ensures done { HasAll (S.fronts steps.old) → IfOk result IsDoneFor }
+{
+    let Worked { answers, rest } = worked;
+    let Some(rest) = rest else {
+        return Ok(Worked {
+            answers,
+            rest: None,
+        });
+    };
+    if rest.command as usize == commands.len() {
+        return close(commands, worker, answers, rest.steps, steps);
+    }
+    let begun = Begun {
+        steps: rest.steps,
+        so_far: rest.so_far,
+    };
+    go_on(commands, worker, answers, begun, steps, &NoGate)
+}
+
+/// Does the commands behind those that are answered, the next one from where it was begun, and the put-backs.
+fn go_on<S: Steps, G: Gate>(
+    commands: &[Command],
+    worker: u32,
+    answers: AnswerLog,
+    begun: Begun,
+    steps: &mut S,
+    gate: &G,
+) -> Result<Worked, AllocError>
+    requires caller { HasCaller (S.fronts steps.old) worker }
+    requires few { length commands.now < 2 ^ 32 }
+    requires commands { All (IsCommandFor (S.fronts steps.old).nodes) commands.now }
+    requires room { length commands.now ≤ answers.room }
+    requires begun { (old : Fronts) × Begins worker old (S.fronts steps.old) commands.now answers.items begun }
+    ensures goes { Goes worker (S.fronts steps.old) (S.fronts steps.new) }
+    ensures works { (old : Fronts) → Begins worker old (S.fronts steps.old) commands.now answers.items begun → IfOk result (Works worker old (S.fronts steps.new) commands.now) }
+    ensures keeps { IfOk result (IsKept answers.keeps) }
+    ensures done { HasAll (S.fronts steps.old) → IfOk result IsDoneFor }
+{
+    let mut answers = answers;
+    let mut begun = begun;
+    let mut reply = Reply::Unit;
+    for index in answers.len()..commands.len() {
+        let number = index as u32;
+        gate.pass(worker, number);
+        let command = commands[index];
+        let node = command.node;
+        let called = do_command(command, worker, &mut begun, steps, &mut reply);
+        if lacks_memory(called) {
+            return Err(AllocError);
+        }
+        if is_busy(called) {
+            let rest = Rest {
+                command: number,
+                steps: begun.steps,
+                so_far: begun.so_far,
+            };
+            return Ok(Worked {
+                answers,
+                rest: Some(rest),
+            });
+        }
+        answers.push(number, node, told(called), &reply);
+        begun = first_begun();
+    }
+    gate.pass(worker, commands.len() as u32);
+    close(commands, worker, answers, 0, steps)
+}
+
+/// Puts back the open batches of a caller whose commands are all answered, nodes ascending; so many went back already.
+fn close<S: Steps>(
+    commands: &[Command],
+    worker: u32,
+    answers: AnswerLog,
+    closed: u32,
+    steps: &mut S,
+) -> Result<Worked, AllocError>
+    requires caller { HasCaller (S.fronts steps.old) worker }
+    requires few { length commands.now < 2 ^ 32 }
+    requires room { length commands.now ≤ answers.room }
+    requires ends { (old : Fronts) × Ends worker old (S.fronts steps.old) commands.now answers.items closed }
+    ensures goes { Goes worker (S.fronts steps.old) (S.fronts steps.new) }
+    ensures works { (old : Fronts) → Ends worker old (S.fronts steps.old) commands.now answers.items closed → IfOk result (Works worker old (S.fronts steps.new) commands.now) }
+    ensures keeps { IfOk result (IsKept answers.keeps) }
+    ensures done { HasAll (S.fronts steps.old) → IfOk result IsDoneFor }
+{
+    let mut closed = closed;
+    let mut reply = Reply::Unit;
+    let nodes = steps.nodes();
+    for node in 0..nodes {
+        if steps.is_open(worker, node) {
+            let called = put_back(worker, node, steps, &mut reply);
+            if lacks_memory(called) {
+                return Err(AllocError);
+            }
+            if is_busy(called) {
+                let rest = Rest {
+                    command: commands.len() as u32,
+                    steps: closed,
+                    so_far: first_begun().so_far,
+                };
+                return Ok(Worked {
+                    answers,
+                    rest: Some(rest),
+                });
+            }
+            closed += 1;
+        }
+    }
+    Ok(Worked {
+        answers,
+        rest: None,
+    })
+}
+
+/// Puts back the open batch of a caller on a node, unless the node stays busy.
+fn put_back<S: Steps>(
+    caller: u32,
+    node: u32,
+    steps: &mut S,
+    reply: &mut Reply,
+) -> Result<(), CellFault>
+    requires caller { HasCaller (S.fronts steps.old) caller }
+    requires node { node < (S.fronts steps.old).nodes }
+    ensures goes { Goes caller (S.fronts steps.old) (S.fronts steps.new) }
+    ensures back { Comes first_begun (answer_of result reply.new) (PutsBack caller node (S.fronts steps.old) (S.fronts steps.new)) }
+    ensures shared { Comes first_begun (answer_of result reply.new) (IsShared (S.fronts steps.old)) }
+{
+    let command = Command {
+        node,
+        op: Op::PutBack,
+    };
+    let mut begun = first_begun();
+    do_command(command, caller, &mut begun, steps, reply)
+}
