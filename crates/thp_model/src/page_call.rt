@@ -12,15 +12,15 @@ pub enum Gain {
     /// One more mapping of the whole page.
     MapWhole,
     /// One more mapping of each of the `count` subpages from `first` on.
-    MapSub { first: u32, count: u32 },
+    MapSub { first: u16, count: u16 },
     /// One mapping of the whole page becomes one of each subpage.
     SplitPmd,
     /// One more pin.
     Pin,
     /// Data into each of the `count` subpages from `first` on.
-    Write { first: u32, count: u32 },
+    Write { first: u16, count: u16 },
     /// Zeros into each of the `count` subpages from `first` on.
-    Zero { first: u32, count: u32 },
+    Zero { first: u16, count: u16 },
 }
 
 /// What takes mappings or a pin away. The page can be queued or freed by it.
@@ -29,7 +29,7 @@ pub enum Loss {
     /// One mapping of the whole page less.
     UnmapWhole,
     /// One mapping of each of the `count` subpages from `first` on less.
-    UnmapSub { first: u32, count: u32 },
+    UnmapSub { first: u16, count: u16 },
     /// One pin less.
     Unpin,
 }
@@ -56,11 +56,23 @@ impl Gain {
     {
         match self {
             Gain::MapWhole => What::MapWhole { page },
-            Gain::MapSub { first, count } => What::MapSub { page, first, count },
+            Gain::MapSub { first, count } => What::MapSub {
+                page,
+                first: u32::from(first),
+                count: u32::from(count),
+            },
             Gain::SplitPmd => What::SplitPmd { page },
             Gain::Pin => What::Pin { page },
-            Gain::Write { first, count } => What::Write { page, first, count },
-            Gain::Zero { first, count } => What::Zero { page, first, count },
+            Gain::Write { first, count } => What::Write {
+                page,
+                first: u32::from(first),
+                count: u32::from(count),
+            },
+            Gain::Zero { first, count } => What::Zero {
+                page,
+                first: u32::from(first),
+                count: u32::from(count),
+            },
         }
     }
 
@@ -91,8 +103,8 @@ impl Loss {
             Loss::UnmapSub { first, count } => What::UnmapSub {
                 outcome,
                 page,
-                first,
-                count,
+                first: u32::from(first),
+                count: u32::from(count),
                 released,
             },
             Loss::Unpin => What::Unpin {
