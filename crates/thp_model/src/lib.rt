@@ -23,7 +23,7 @@ pub use laws::{
     live_pages_are_apart, no_page_stands_twice, none_is_underused_while_off,
     nothing_enters_after_close, oldest_are_taken, others_only_free, requests_decide,
 };
-pub use page_call::{Done, Gain, Loss, PageCall};
+pub use page_call::{Done, Gain, Loss, PageCall, narrowed};
 pub use refusal::Refusal;
 pub use rows::{
     first_run_is_legal, pinned_goes_to_the_tail_is_legal, small_page_split_is_legal,

@@ -1,5 +1,5 @@
 //! What a call asks of one page, as a value, and the event that it leaves.
-ghost use Rattle.std.specs.Prelude.{◌≡◌};
+ghost use Rattle.std.specs.Prelude.{◌≡◌, min};
 ghost use Rattle.thp_model.specs.PageCalls.{gain_splits, gain_what, loss_what};
 
 use crate::events::{Outcome, PageId, What};
@@ -46,6 +46,19 @@ pub enum PageCall {
 pub struct Done {
     pub outcome: Outcome,
     pub released: SubSet,
+}
+
+/// An operand of a page call in 16 bits, the greatest such number for each above it. A page has 512 subpages at most, so a
+/// range with either number is refused alike.
+#[inline(always)]
+pub fn narrowed(operand: u32) -> u16
+    ensures { result ≡ min operand 65535 }
+{
+    if operand < 65535 {
+        operand as u16
+    } else {
+        u16::MAX
+    }
 }
 
 impl Gain {
