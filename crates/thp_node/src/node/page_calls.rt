@@ -1,5 +1,5 @@
 //! The calls about one page: its mappings and its pins.
-ghost use Rattle.std.specs.Prelude.{◌≡◌, ℕ, ◌<◌, ◌≤◌, [], ◌∷◌, None, Some, IfOk, IfErr, OnOk};
+ghost use Rattle.std.specs.Prelude.{◌≡◌, ℕ, ◌<◌, ◌≤◌, [], ◌∷◌, None, Some, IfOk, IfErr, OnOk, min};
 ghost use Rattle.thp_model.specs.History.{by};
 ghost use Rattle.thp_model.specs.Frames.{outcome, released};
 ghost use Rattle.thp_model.specs.Refusals.{refusal};
@@ -11,7 +11,7 @@ ghost use Rattle.thp_model.specs.PageCalls.{gain_call, loss_call, page_call, gai
 
 use crate::journal::Unsaid;
 use crate::node::Node;
-use thp_model::{Done, Gain, Loss, PageCall, PageId, Refusal, What};
+use thp_model::{Done, Gain, Loss, PageCall, PageId, Refusal, What, narrowed};
 
 impl Node {
     /// One more mapping of the whole page, by a PMD entry. Refused as `NoPage`, `IsSplit` and `TooMany`.
@@ -53,6 +53,7 @@ impl Node {
         ensures refused { IfErr result (Refused self.old self.new (refusal self.old.shape self.old.journal (call.map_sub page first count)) 1) }
         ensures fronts { FrontsStay self.old.journal self.new.journal }
     {
+        let (first, count) = self.operands(first, count);
         self.gain(caller, page, Gain::MapSub { first, count })
     }
 
@@ -75,6 +76,7 @@ impl Node {
         ensures refused { IfErr result (Refused self.old self.new (refusal self.old.shape self.old.journal (call.unmap_sub page first count)) 1) }
         ensures fronts { FrontsStay self.old.journal self.new.journal }
     {
+        let (first, count) = self.operands(first, count);
         self.lose(caller, page, Loss::UnmapSub { first, count })
     }
 
@@ -129,6 +131,7 @@ impl Node {
         ensures refused { IfErr result (Refused self.old self.new (refusal self.old.shape self.old.journal (call.write page first count)) 1) }
         ensures fronts { FrontsStay self.old.journal self.new.journal }
     {
+        let (first, count) = self.operands(first, count);
         self.gain(caller, page, Gain::Write { first, count })
     }
 
@@ -140,6 +143,7 @@ impl Node {
         ensures refused { IfErr result (Refused self.old self.new (refusal self.old.shape self.old.journal (call.zero_fill page first count)) 1) }
         ensures fronts { FrontsStay self.old.journal self.new.journal }
     {
+        let (first, count) = self.operands(first, count);
         self.gain(caller, page, Gain::Zero { first, count })
     }
 
@@ -177,6 +181,18 @@ impl Node {
         self.journal
             .record(caller, loss.what(page, &done), Unsaid::FreedFrom(left));
         Ok(done)
+    }
+
+    // The operands of a range as a page call keeps them.
+    #[inline(always)]
+    fn operands(&self, first: u32, count: u32) -> (u16, u16)
+        ensures first { result.0 ≡ min first 65535 }
+        ensures count { result.1 ≡ min count 65535 }
+        ensures low { self.now.shape.order ≤ 9 }
+    {
+        // Tells the proof of what order the pages are at most.
+        let _ = self.shape();
+        (narrowed(first), narrowed(count))
     }
 
     // The block of a page of which a call may be made, with room in the journal for its event; or why it is refused.
