@@ -4,15 +4,11 @@ use Rattle.std.proofs.Common.{◌≡◌, ◌<◌, ◌≤◌, ◌-◌, ℕ, zero,
 use Rattle.std.specs.Prelude.{All}
 use Rattle.std.specs.List.{AllByRecursion, list_all, list_any}
 use Rattle.std.proofs.lemmas.List.Elements.{All-cons}
-use Rattle.thp_model.specs.declared.page_call.Gain.TheVariants as gain
-use Rattle.thp_model.specs.declared.page_call.Loss.TheVariants as loss
-use Rattle.thp_model.specs.declared.page_call.PageCall.{PageCall}
-use Rattle.thp_model.specs.declared.page_call.PageCall.TheVariants.{Gain, Loss}
 use Rattle.thp_text.specs.declared.fault.TextKind.{TextKind}
 use Rattle.thp_text.specs.declared.fault.TextKind.TheVariants.{BadByte, BadOrder, BadWord}
 use Rattle.thp_text.specs.declared.script.Command.{Command}
 use Rattle.thp_text.specs.declared.script.Op.{Op}
-use Rattle.thp_text.specs.declared.script.Op.TheVariants.{Alloc, Page, Close, Scan, Count, Take, SplitNext, PutBack}
+use Rattle.thp_text.specs.declared.script.Op.TheVariants.{Alloc, MapWhole, UnmapWhole, Map, Unmap, Write, Zero, SplitPmd, Pin, Unpin, Close, Scan, Count, Take, SplitNext, PutBack}
 use Rattle.thp_text.specs.declared.settings.Settings.{Settings}
 use Rattle.thp_text.specs.declared.statement.Statement.{Statement}
 use Rattle.thp_text.specs.declared.statement.Statement.TheVariants.{Nothing, Section, Call}
@@ -70,11 +66,11 @@ module _ (s : Settings) where
       }
   batch_read op name (a ∷ b ∷ d ∷ words) command plain fits e = absurd cc
 
-  page_read : (call : PageCall) (name : Text) (words : List Text) (command : Command) → IsPlain name → page_command call s words ≡ Ok command → IsReadCommand s name words command
+  page_read : (op : ℕ → Op) (name : Text) (words : List Text) (command : Command) → IsPlain name → ((page : ℕ) → FitsBatch (op page)) → page_command op s words ≡ Ok command → IsReadCommand s name words command
   unfolding page_command
-  page_read call name [] command plain e = absurd cc
-  page_read call name (a ∷ []) command plain e = absurd cc
-  page_read call name (a ∷ b ∷ []) command plain e =
+  page_read op name [] command plain fits e = absurd cc
+  page_read op name (a ∷ []) command plain fits e = absurd cc
+  page_read op name (a ∷ b ∷ []) command plain fits e =
       let node = bind_ok (node_number s a) _ command e in
       let there = node_exists node.0 a node.1 in
       let page = bind_ok (number_up_to 18446744073709551615 b) _ command node.2 in
@@ -82,17 +78,17 @@ module _ (s : Settings) where
       record {
         name_plain = plain;
         words_plain = All-cons IsPlain a (b ∷ []) there.0 (one_plain b within.0);
-        in_range = command_in_range node.0 (Page page.0 call) command there.1 tt page.2;
+        in_range = command_in_range node.0 (op page.0) command there.1 (fits page.0) page.2;
       }
-  page_read call name (a ∷ b ∷ d ∷ words) command plain e = absurd cc
+  page_read op name (a ∷ b ∷ d ∷ words) command plain fits e = absurd cc
 
-  range_read : (call : ℕ → ℕ → PageCall) (name : Text) (words : List Text) (command : Command) → IsPlain name → range_command call s words ≡ Ok command → IsReadCommand s name words command
+  range_read : (op : ℕ → ℕ → ℕ → Op) (name : Text) (words : List Text) (command : Command) → IsPlain name → ((page first count : ℕ) → FitsBatch (op page first count)) → range_command op s words ≡ Ok command → IsReadCommand s name words command
   unfolding range_command
-  range_read call name [] command plain e = absurd cc
-  range_read call name (a ∷ []) command plain e = absurd cc
-  range_read call name (a ∷ b ∷ []) command plain e = absurd cc
-  range_read call name (a ∷ b ∷ d ∷ []) command plain e = absurd cc
-  range_read call name (a ∷ b ∷ d ∷ f ∷ []) command plain e =
+  range_read op name [] command plain fits e = absurd cc
+  range_read op name (a ∷ []) command plain fits e = absurd cc
+  range_read op name (a ∷ b ∷ []) command plain fits e = absurd cc
+  range_read op name (a ∷ b ∷ d ∷ []) command plain fits e = absurd cc
+  range_read op name (a ∷ b ∷ d ∷ f ∷ []) command plain fits e =
       let node = bind_ok (node_number s a) _ command e in
       let there = node_exists node.0 a node.1 in
       let page = bind_ok (number_up_to 18446744073709551615 b) _ command node.2 in
@@ -104,9 +100,9 @@ module _ (s : Settings) where
       record {
         name_plain = plain;
         words_plain = All-cons IsPlain a (b ∷ d ∷ f ∷ []) there.0 (All-cons IsPlain b (d ∷ f ∷ []) page-plain.0 (All-cons IsPlain d (f ∷ []) first-plain.0 (one_plain f count-plain.0)));
-        in_range = command_in_range node.0 (Page page.0 (call first.0 count.0)) command there.1 tt count.2;
+        in_range = command_in_range node.0 (op page.0 first.0 count.0) command there.1 (fits page.0 first.0 count.0) count.2;
       }
-  range_read call name (a ∷ b ∷ d ∷ f ∷ g ∷ words) command plain e = absurd cc
+  range_read op name (a ∷ b ∷ d ∷ f ∷ g ∷ words) command plain fits e = absurd cc
 
 section_is : (n k : ℕ) → section_of n ≡ Ok k → n ≡ k
 section_is zero k e = absurd cc
@@ -124,11 +120,11 @@ module _ (s : Settings) (word : Text) (plain : IsPlain word) where
   of_node : (op : Op) → FitsBatch op → IsEntry s (word, node_command op)
   of_node op fits = record { plain = plain; reads = λ words command e. node_read s op word words command plain fits e }
 
-  of_page : (call : PageCall) → IsEntry s (word, page_command call)
-  of_page call = record { plain = plain; reads = λ words command e. page_read s call word words command plain e }
+  of_page : (op : ℕ → Op) → ((page : ℕ) → FitsBatch (op page)) → IsEntry s (word, page_command op)
+  of_page op fits = record { plain = plain; reads = λ words command e. page_read s op word words command plain fits e }
 
-  of_range : (call : ℕ → ℕ → PageCall) → IsEntry s (word, range_command call)
-  of_range call = record { plain = plain; reads = λ words command e. range_read s call word words command plain e }
+  of_range : (op : ℕ → ℕ → ℕ → Op) → ((page first count : ℕ) → FitsBatch (op page first count)) → IsEntry s (word, range_command op)
+  of_range op fits = record { plain = plain; reads = λ words command e. range_read s op word words command plain fits e }
 
   of_batch : (op : ℕ → Op) → ((n : ℕ) → n ≤ 128 → FitsBatch (op n)) → IsEntry s (word, batch_command op)
   of_batch op fits = record { plain = plain; reads = λ words command e. batch_read s op word words command plain fits e }
@@ -137,23 +133,23 @@ entries : (s : Settings) → AllByRecursion (IsEntry s) commands
 entries s = (
   of_node s (codes "alloc") (record { printable = refl; some = refl }) Alloc tt,
   (
-    of_page s (codes "mapwhole") (record { printable = refl; some = refl }) (Gain gain.MapWhole),
+    of_page s (codes "mapwhole") (record { printable = refl; some = refl }) (λ page. MapWhole page) (λ page. tt),
     (
-      of_page s (codes "unmapwhole") (record { printable = refl; some = refl }) (Loss loss.UnmapWhole),
+      of_page s (codes "unmapwhole") (record { printable = refl; some = refl }) (λ page. UnmapWhole page) (λ page. tt),
       (
-        of_range s (codes "map") (record { printable = refl; some = refl }) (λ first count. Gain (gain.MapSub first count)),
+        of_range s (codes "map") (record { printable = refl; some = refl }) (λ page first count. Map first count page) (λ page first count. tt),
         (
-          of_range s (codes "unmap") (record { printable = refl; some = refl }) (λ first count. Loss (loss.UnmapSub first count)),
+          of_range s (codes "unmap") (record { printable = refl; some = refl }) (λ page first count. Unmap first count page) (λ page first count. tt),
           (
-            of_page s (codes "splitpmd") (record { printable = refl; some = refl }) (Gain gain.SplitPmd),
+            of_page s (codes "splitpmd") (record { printable = refl; some = refl }) (λ page. SplitPmd page) (λ page. tt),
             (
-              of_page s (codes "pin") (record { printable = refl; some = refl }) (Gain gain.Pin),
+              of_page s (codes "pin") (record { printable = refl; some = refl }) (λ page. Pin page) (λ page. tt),
               (
-                of_page s (codes "unpin") (record { printable = refl; some = refl }) (Loss loss.Unpin),
+                of_page s (codes "unpin") (record { printable = refl; some = refl }) (λ page. Unpin page) (λ page. tt),
                 (
-                  of_range s (codes "write") (record { printable = refl; some = refl }) (λ first count. Gain (gain.Write first count)),
+                  of_range s (codes "write") (record { printable = refl; some = refl }) (λ page first count. Write first count page) (λ page first count. tt),
                   (
-                    of_range s (codes "zero") (record { printable = refl; some = refl }) (λ first count. Gain (gain.Zero first count)),
+                    of_range s (codes "zero") (record { printable = refl; some = refl }) (λ page first count. Zero first count page) (λ page first count. tt),
                     (
                       of_node s (codes "close") (record { printable = refl; some = refl }) Close tt,
                       (

@@ -1,15 +1,11 @@
 -- The commands of scripts by their words (this project's script format).
 use Rattle.std.specs.Prelude.{◌≤◌, ◌<◌, ℕ, ◌-◌, ⊤, List, [], ◌∷◌, Result, Ok, Err, codes, ok_or, if◌then◌else◌}
 use Rattle.std.specs.Str.{bytes_eq}
-use Rattle.thp_model.specs.declared.page_call.Gain.TheVariants as gain
-use Rattle.thp_model.specs.declared.page_call.Loss.TheVariants as loss
-use Rattle.thp_model.specs.declared.page_call.PageCall.{PageCall}
-use Rattle.thp_model.specs.declared.page_call.PageCall.TheVariants.{Gain, Loss}
 use Rattle.thp_text.specs.declared.fault.TextKind.{TextKind}
 use Rattle.thp_text.specs.declared.fault.TextKind.TheVariants.{BadWord, BadCount, BadNumber}
 use Rattle.thp_text.specs.declared.script.Command.{Command}
 use Rattle.thp_text.specs.declared.script.Op.{Op}
-use Rattle.thp_text.specs.declared.script.Op.TheVariants.{Alloc, Page, Close, Scan, Count, Take, SplitNext, PutBack}
+use Rattle.thp_text.specs.declared.script.Op.TheVariants.{Alloc, MapWhole, UnmapWhole, Map, Unmap, Write, Zero, SplitPmd, Pin, Unpin, Close, Scan, Count, Take, SplitNext, PutBack}
 use Rattle.thp_text.specs.declared.settings.Settings.{Settings}
 use Rattle.thp_text.specs.Readings.{◌>>=◌}
 use Rattle.thp_text.specs.Words.{Text, number_of}
@@ -45,22 +41,22 @@ node_command op s words = do
   Ok (record { node = node; op = op })
 
 -- a command on a page: `NODE PAGE`
-unfoldable pub page_command : PageCall → Settings → List Text → Result Command TextKind
-page_command call s words = do
+unfoldable pub page_command : (ℕ → Op) → Settings → List Text → Result Command TextKind
+page_command op s words = do
   word ← two_words words
   node ← node_number s word.0
   page ← number_up_to 18446744073709551615 word.1
-  Ok (record { node = node; op = Page page call })
+  Ok (record { node = node; op = op page })
 
 -- a command on a range of a page's subpages: `NODE PAGE FIRST COUNT`
-unfoldable pub range_command : (ℕ → ℕ → PageCall) → Settings → List Text → Result Command TextKind
-range_command call s words = do
+unfoldable pub range_command : (ℕ → ℕ → ℕ → Op) → Settings → List Text → Result Command TextKind
+range_command op s words = do
   word ← four_words words
   node ← node_number s word.0
   page ← number_up_to 18446744073709551615 word.1
   first ← number_up_to 65535 word.2
   count ← number_up_to 65535 word.3
-  Ok (record { node = node; op = Page page (call first count) })
+  Ok (record { node = node; op = op page first count })
 
 -- a scan or a take: `NODE COUNT`
 unfoldable pub batch_command : (ℕ → Op) → Settings → List Text → Result Command TextKind
@@ -78,15 +74,15 @@ Reading = Settings → List Text → Result Command TextKind
 abbrev pub commands : List (Text × Reading)
 commands =
     (codes "alloc", node_command Alloc)
-    ∷ (codes "mapwhole", page_command (Gain gain.MapWhole))
-    ∷ (codes "unmapwhole", page_command (Loss loss.UnmapWhole))
-    ∷ (codes "map", range_command (λ first count. Gain (gain.MapSub first count)))
-    ∷ (codes "unmap", range_command (λ first count. Loss (loss.UnmapSub first count)))
-    ∷ (codes "splitpmd", page_command (Gain gain.SplitPmd))
-    ∷ (codes "pin", page_command (Gain gain.Pin))
-    ∷ (codes "unpin", page_command (Loss loss.Unpin))
-    ∷ (codes "write", range_command (λ first count. Gain (gain.Write first count)))
-    ∷ (codes "zero", range_command (λ first count. Gain (gain.Zero first count)))
+    ∷ (codes "mapwhole", page_command MapWhole)
+    ∷ (codes "unmapwhole", page_command UnmapWhole)
+    ∷ (codes "map", range_command (λ page first count. Map first count page))
+    ∷ (codes "unmap", range_command (λ page first count. Unmap first count page))
+    ∷ (codes "splitpmd", page_command SplitPmd)
+    ∷ (codes "pin", page_command Pin)
+    ∷ (codes "unpin", page_command Unpin)
+    ∷ (codes "write", range_command (λ page first count. Write first count page))
+    ∷ (codes "zero", range_command (λ page first count. Zero first count page))
     ∷ (codes "close", node_command Close)
     ∷ (codes "scan", batch_command (λ count. Scan count))
     ∷ (codes "count", node_command Count)

@@ -1,4 +1,4 @@
--- The commands on a range of a page's subpages and on a batch, by the kinds that the reader tells apart. No public clause cites this
+-- The calls on a range of a page's subpages and the commands on a batch, by the kinds that the reader tells apart. No public clause cites this
 -- module.
 use Rattle.std.specs.Prelude.{ℕ}
 use Rattle.thp_model.specs.declared.page_call.Gain.TheVariants as gain

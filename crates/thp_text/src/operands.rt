@@ -2,6 +2,7 @@
 ghost use Rattle.std.specs.Prelude.{◌≡◌, ◌≤◌, ◌<◌, IfOk};
 ghost use Rattle.thp_text.specs.Commands.{batch_command, command_of, node_command, node_number, number_up_to, page_command, range_command};
 ghost use Rattle.thp_text.specs.Operands.{batch_op, call_on};
+ghost use Rattle.thp_text.specs.PageCommands.{op_on, IsShort};
 
 use crate::fault::TextKind;
 use crate::script::{Command, Op};
@@ -20,9 +21,11 @@ enum RangeCall {
 
 impl RangeCall {
     #[inline(always)]
-    fn on(self, first: u32, count: u32) -> PageCall
-        ensures { result ≡ call_on self first count }
+    fn on(self, first: u16, count: u16) -> PageCall
+        ensures call { result ≡ call_on self first count }
+        ensures short { IsShort result }
     {
+        let (first, count) = (u32::from(first), u32::from(count));
         match self {
             RangeCall::Map => PageCall::Gain(Gain::MapSub { first, count }),
             RangeCall::Unmap => PageCall::Loss(Loss::UnmapSub { first, count }),
@@ -95,7 +98,8 @@ fn node_command(settings: &Settings, op: Op, mut words: Words) -> Result<Command
 #[tactic(auto, unfolding(crate::specs::Commands::page_command))]
 #[inline(always)]
 fn page_command(settings: &Settings, call: PageCall, mut words: Words) -> Result<Command, TextKind>
-    ensures { result ≡ page_command call settings.now words.entry }
+    requires { IsShort call }
+    ensures { result ≡ page_command (λ page. op_on page call) settings.now words.entry }
 {
     let (Some(node), Some(page), None) = (words.next(), words.next(), words.next()) else {
         return Err(TextKind::BadCount);
@@ -104,7 +108,7 @@ fn page_command(settings: &Settings, call: PageCall, mut words: Words) -> Result
     let page = number_up_to(u64::MAX, page)?;
     Ok(Command {
         node,
-        op: Op::Page { page, call },
+        op: Op::on_page(page, call),
     })
 }
 
@@ -116,7 +120,7 @@ fn range_command(
     call: RangeCall,
     mut words: Words,
 ) -> Result<Command, TextKind>
-    ensures { result ≡ range_command (call_on call) settings.now words.entry }
+    ensures { result ≡ range_command (λ page first count. op_on page (call_on call first count)) settings.now words.entry }
 {
     let (Some(node), Some(page), Some(first), Some(count), None) = (
         words.next(),
@@ -129,14 +133,11 @@ fn range_command(
     };
     let node = node_number(settings, node)?;
     let page = number_up_to(u64::MAX, page)?;
-    let first = u32::from(small_number_up_to(65_535, first)?);
-    let count = u32::from(small_number_up_to(65_535, count)?);
+    let first = small_number_up_to(65_535, first)?;
+    let count = small_number_up_to(65_535, count)?;
     Ok(Command {
         node,
-        op: Op::Page {
-            page,
-            call: call.on(first, count),
-        },
+        op: Op::on_page(page, call.on(first, count)),
     })
 }
 
