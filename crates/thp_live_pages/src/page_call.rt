@@ -1,33 +1,14 @@
 //! What a call asks of one page, and what it does to the page.
-ghost use Rattle.std.specs.Prelude.{◌≡◌, ℕ, None, not};
-ghost use Rattle.thp_model.specs.PageCalls.{gain_call, Gains, loss_call, Loses, page_call};
-ghost use Rattle.thp_model.specs.Pages.{page_refusal, PageState, Pinned, has_use};
+ghost use Rattle.std.specs.Prelude.{◌≡◌, None, not};
+ghost use Rattle.thp_model.specs.PageCalls.{gain_call, Gains, loss_call, Loses};
+ghost use Rattle.thp_model.specs.Pages.{page_refusal};
 ghost use Rattle.thp_model.specs.PageChanges.{page_outcome, page_released};
-ghost use Rattle.thp_model.specs.Refusals.{unpin as unpin_call};
 ghost use Rattle.thp_page.specs.Changes.{IsChange};
 ghost use Rattle.thp_live_pages.specs.Outcomes.{outcome_by, released_after};
 ghost use Rattle.thp_live_pages.specs.PlacesState.{is_nowhere};
 
-use thp_model::{Done, Gain, Loss, Outcome, PageCall, Refusal, SubSet};
+use thp_model::{Done, Gain, Loss, Outcome, SubSet};
 use thp_page::{Change, Page, Standing};
-
-// Why a page would refuse a call, if it would.
-#[inline(always)]
-pub(crate) fn refusal_of(call: PageCall, page: &Page) -> Option<Refusal>
-    ensures { (p : ℕ) → result ≡ page_refusal page.now (page_call call p) }
-{
-    match call {
-        PageCall::Gain(Gain::MapWhole) => page.refusal_map_whole(),
-        PageCall::Gain(Gain::MapSub { first, count }) => page.refusal_map_sub(first, count),
-        PageCall::Gain(Gain::SplitPmd) => page.refusal_split_pmd(),
-        PageCall::Gain(Gain::Pin) => page.refusal_pin(),
-        PageCall::Gain(Gain::Write { first, count }) => page.refusal_write(first, count),
-        PageCall::Gain(Gain::Zero { first, count }) => page.refusal_zero(first, count),
-        PageCall::Loss(Loss::UnmapWhole) => page.refusal_unmap_whole(),
-        PageCall::Loss(Loss::UnmapSub { first, count }) => page.refusal_unmap_sub(first, count),
-        PageCall::Loss(Loss::Unpin) => page.refusal_unpin(),
-    }
-}
 
 // Gives it to a page that doesn't refuse it.
 #[inline(always)]
@@ -35,13 +16,9 @@ pub(crate) fn gain_by(gain: Gain, page: &mut Page)
     requires { page_refusal page.old (gain_call gain 0) ≡ None }
     ensures { Gains gain page.old page.new }
 {
-    match gain {
-        Gain::MapWhole => page.do_map_whole(),
-        Gain::MapSub { first, count } => page.do_map_sub(first, count),
-        Gain::SplitPmd => page.do_split_pmd(),
-        Gain::Pin => page.do_pin(),
-        Gain::Write { first, count } => page.do_write(first, count),
-        Gain::Zero { first, count } => page.do_zero(first, count),
+    match page.gain(gain) {
+        Ok(()) => {}
+        Err(_) => unreachable!(),
     }
 }
 
@@ -67,24 +44,9 @@ fn take(loss: Loss, page: &mut Page) -> Change
     ensures page { Loses loss page.old page.new }
     ensures change { IsChange page.old page.new result }
 {
-    match loss {
-        Loss::UnmapWhole => page.do_unmap_whole(),
-        Loss::UnmapSub { first, count } => page.do_unmap_sub(first, count),
-        Loss::Unpin => unpin(page),
-    }
-}
-
-// Takes a pin, which changes the use of no subpage.
-fn unpin(page: &mut Page) -> Change
-    requires { page_refusal page.old (unpin_call 0) ≡ None }
-    ensures page { Pinned page.new page.old }
-    ensures change { IsChange page.old page.new result }
-{
-    page.do_unpin();
-    Change {
-        unused: false,
-        used_left: page.has_use(),
-        released: SubSet::empty(),
+    match page.lose(loss) {
+        Ok(change) => change,
+        Err(_) => unreachable!(),
     }
 }
 

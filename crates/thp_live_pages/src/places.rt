@@ -11,7 +11,7 @@ ghost use Rattle.thp_live_pages.specs.FreeChains.{IsFreeChain, Relinks};
 ghost use Rattle.thp_model.specs.PageCalls.{gain_call, loss_call, page_call, Gains};
 ghost use Rattle.thp_live_pages.specs.PlacesState.{AtSlot, Edits, batch_of, IsElsewhere, LeavesQueue, Lost, Placed, Reduced, TakesFirst};
 
-use crate::page_call::{gain_by, lose_by, refusal_of};
+use crate::page_call::{gain_by, lose_by};
 use std::alloc::{AllocError, Global};
 use std::marker::Model;
 use thp_links::{FreeChain, LinkTable, Queue};
@@ -114,7 +114,7 @@ impl Places {
         ensures { AtSlot self.now.table block (λ x. (p : ℕ) → result ≡ page_refusal x.page (page_call call p)) }
     {
         match self.table.page(block) {
-            Some((_, page)) => refusal_of(call, page),
+            Some((_, page)) => page.refusal(call),
             None => unreachable!(),
         }
     }

@@ -37,3 +37,4 @@ pub mod WorkedRows
 pub mod WordLemmas
 mod WordMarks
 mod WordCounts
+pub mod Narrowing

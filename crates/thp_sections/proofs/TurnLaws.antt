@@ -156,21 +156,7 @@ single o begun told answer other is = elim is.so_far [ inl none ↦ rw none.0 re
 -- one step more
 pub turned : (o : Op) (begun : Begun) (answer : Reaction) (told : List Told) → IsBegun o told begun → Reacts o begun answer → Turned o (told ++ record { step = next_step o begun; answer = answer } ∷ []) (goes_on o begun answer)
 turned (op.Scan n) begun answer told is reacts = turned_by n begun answer told is reacts
-turned op.Alloc begun answer told is reacts = single op.Alloc begun told answer (λ n e. cc) is
-turned (op.MapWhole p) begun answer told is reacts = single (op.MapWhole p) begun told answer (λ n e. cc) is
-turned (op.UnmapWhole p) begun answer told is reacts = single (op.UnmapWhole p) begun told answer (λ n e. cc) is
-turned (op.Map f k p) begun answer told is reacts = single (op.Map f k p) begun told answer (λ n e. cc) is
-turned (op.Unmap f k p) begun answer told is reacts = single (op.Unmap f k p) begun told answer (λ n e. cc) is
-turned (op.Write f k p) begun answer told is reacts = single (op.Write f k p) begun told answer (λ n e. cc) is
-turned (op.Zero f k p) begun answer told is reacts = single (op.Zero f k p) begun told answer (λ n e. cc) is
-turned (op.SplitPmd p) begun answer told is reacts = single (op.SplitPmd p) begun told answer (λ n e. cc) is
-turned (op.Pin p) begun answer told is reacts = single (op.Pin p) begun told answer (λ n e. cc) is
-turned (op.Unpin p) begun answer told is reacts = single (op.Unpin p) begun told answer (λ n e. cc) is
-turned op.Close begun answer told is reacts = single op.Close begun told answer (λ n e. cc) is
-turned op.Count begun answer told is reacts = single op.Count begun told answer (λ n e. cc) is
-turned (op.Take k) begun answer told is reacts = single (op.Take k) begun told answer (λ n e. cc) is
-turned op.SplitNext begun answer told is reacts = single op.SplitNext begun told answer (λ n e. cc) is
-turned op.PutBack begun answer told is reacts = single op.PutBack begun told answer (λ n e. cc) is
+turned o begun answer told is reacts = single o begun told answer (λ n e. cc) is
 
 -- ---- what a step leaves the next one
 
@@ -183,20 +169,7 @@ cond_step n false false le = tt
 pub step_fits : (o : Op) (begun : Begun) → IsFit o → IsStep (next_step o begun)
 step_fits (op.Scan n) begun fit = cond_step n _ _ fit
 step_fits (op.Take n) begun fit = fit
-step_fits op.SplitNext begun fit = tt
-step_fits op.PutBack begun fit = tt
-step_fits op.Alloc begun fit = tt
-step_fits (op.MapWhole p) begun fit = tt
-step_fits (op.UnmapWhole p) begun fit = tt
-step_fits (op.Map f k p) begun fit = tt
-step_fits (op.Unmap f k p) begun fit = tt
-step_fits (op.Write f k p) begun fit = tt
-step_fits (op.Zero f k p) begun fit = tt
-step_fits (op.SplitPmd p) begun fit = tt
-step_fits (op.Pin p) begun fit = tt
-step_fits (op.Unpin p) begun fit = tt
-step_fits op.Close begun fit = tt
-step_fits op.Count begun fit = tt
+step_fits _ begun fit = tt
 
 some_left : (test : ℕ → Bool) (xs : List ℕ) (p : ℕ) → find test xs ≡ Some p → 0 < length xs
 some_left test [] p e = absurd (cc)
@@ -271,21 +244,7 @@ scan_fares s h c n batch begun own answer after le ready does =
 pub fares : (s : Shape) (h : History) (c : ℕ) (o : Op) (batch : Option Open) (begun : Begun) (own : List Event) (answer : Reaction) (after : Option Open) → IsFit o → IsReady batch begun → Does s h c batch (next_step o begun) own answer after
     → Reacts o begun answer × StaysReady after (goes_on o begun answer)
 fares s h c (op.Scan n) batch begun own answer after fit ready does = scan_fares s h c n batch begun own answer after fit ready does
-fares s h c (op.Take n) batch begun own answer after fit ready does = (tt, tt)
-fares s h c op.SplitNext batch begun own answer after fit ready does = (tt, tt)
-fares s h c op.PutBack batch begun own answer after fit ready does = (tt, tt)
-fares s h c op.Alloc batch begun own answer after fit ready does = (tt, tt)
-fares s h c (op.MapWhole p) batch begun own answer after fit ready does = (tt, tt)
-fares s h c (op.UnmapWhole p) batch begun own answer after fit ready does = (tt, tt)
-fares s h c (op.Map f k p) batch begun own answer after fit ready does = (tt, tt)
-fares s h c (op.Unmap f k p) batch begun own answer after fit ready does = (tt, tt)
-fares s h c (op.Write f k p) batch begun own answer after fit ready does = (tt, tt)
-fares s h c (op.Zero f k p) batch begun own answer after fit ready does = (tt, tt)
-fares s h c (op.SplitPmd p) batch begun own answer after fit ready does = (tt, tt)
-fares s h c (op.Pin p) batch begun own answer after fit ready does = (tt, tt)
-fares s h c (op.Unpin p) batch begun own answer after fit ready does = (tt, tt)
-fares s h c op.Close batch begun own answer after fit ready does = (tt, tt)
-fares s h c op.Count batch begun own answer after fit ready does = (tt, tt)
+fares s h c _ batch begun own answer after fit ready does = (tt, tt)
 
 -- a command that goes on has one step more
 scan_longer : (begun more : Begun) (answer : Reaction) → scan_goes_on begun answer ≡ On more → more.steps ≡ begun.steps + 1

@@ -1,7 +1,8 @@
 -- The steps of a command, one after another, and its answer.
-use Rattle.std.specs.Prelude.{◌≡◌, ◌⊎◌, ℕ, ◌+◌, ◌≤◌, nat_eq, ⊤, Bool, true, false, List, [], ◌∷◌, ◌++◌, All, Option, Some, Result, Ok, Err, length, map, filter, if◌then◌else◌}
+use Rattle.std.specs.Prelude.{◌≡◌, ◌⊎◌, ℕ, ◌+◌, ◌≤◌, nat_eq, ⊤, Bool, true, false, List, [], ◌∷◌, ◌++◌, All, Option, Some, None, Result, Ok, Err, length, map, filter, if◌then◌else◌}
 use Rattle.thp_cell.specs.declared.fault.CellFault.{CellFault}
 use Rattle.thp_cell.specs.declared.fault.CellFault.TheVariants.{Busy, Refused}
+use Rattle.thp_model.specs.declared.page_call.PageCall.{PageCall}
 use Rattle.thp_model.specs.declared.refusal.Refusal.{Refusal}
 use Rattle.thp_model.specs.declared.refusal.Refusal.TheVariants.{OutOfMemory}
 use Rattle.thp_node.specs.declared.answers.Tried.{Tried}
@@ -10,8 +11,10 @@ use Rattle.thp_node.specs.declared.answers.BackReply.{BackReply}
 use Rattle.thp_node.specs.declared.answers.ScanReply.{ScanReply}
 use Rattle.thp_text.specs.declared.script.Op.{Op}
 use Rattle.thp_text.specs.declared.script.Op.TheVariants as op
+use Rattle.thp_text.specs.PageCommands.{page_call_of}
+use Rattle.thp_sections.specs.declared.steps.NodeCall.TheVariants as node
 use Rattle.thp_sections.specs.declared.steps.Step.{Step}
-use Rattle.thp_sections.specs.declared.steps.Step.TheVariants.{One, Take, SplitNext, PutBack}
+use Rattle.thp_sections.specs.declared.steps.Step.TheVariants.{Call, Take, SplitNext, PutBack}
 use Rattle.thp_sections.specs.declared.reply.Reply.{Reply}
 use Rattle.thp_sections.specs.declared.reply.Reply.TheVariants as reply
 use Rattle.thp_sections.specs.declared.scanning.Begun.{Begun}
@@ -23,13 +26,20 @@ pub record Told : Type 0 where
   pub step : Step
   pub answer : Reaction
 
--- the one step of a command, or the first of a scan
+-- the call about a page, where there is one, or else another step
+abbrev pub page_step : Option (ℕ × PageCall) → Step → Step
+page_step (Some call) other = Call (node.Page call.0 call.1)
+page_step None other = other
+
+-- the one step of a command, or the first of a scan; of the commands that are about no page only a put-back is left last
 abbrev pub first_step : Op → Step
+first_step op.Alloc = Call node.Alloc
+first_step op.Close = Call node.Close
+first_step op.Count = Call node.Count
 first_step (op.Scan n) = Take n
 first_step (op.Take n) = Take n
 first_step op.SplitNext = SplitNext
-first_step op.PutBack = PutBack
-first_step o = One o
+first_step o = page_step (page_call_of o) PutBack
 
 -- a take that was answered, a try, and a put-back
 abbrev pub took : ℕ → ℕ → Told

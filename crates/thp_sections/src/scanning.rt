@@ -3,7 +3,7 @@ ghost use Rattle.std.specs.Prelude.{◌≡◌, ◌+◌, ◌≤◌, Ok, MatchOpti
 ghost use Rattle.thp_sections.specs.Turns.{On, Ended, first_begun, is_scan, next_step, scan_goes_on, tries_of};
 
 use crate::reply::Reply;
-use crate::steps::Step;
+use crate::steps::{NodeCall, Step};
 use thp_node::{BackReply, ScanReply, Tried};
 use thp_text::Op;
 
@@ -36,7 +36,13 @@ pub(crate) fn next_step(op: Op, begun: Begun) -> Step
     requires { tries_of begun.so_far ≤ 128 }
     ensures { result ≡ next_step op begun }
 {
+    if let Some((page, call)) = op.page_call() {
+        return Step::Call(NodeCall::Page { page, call });
+    }
     match op {
+        Op::Alloc => Step::Call(NodeCall::Alloc),
+        Op::Close => Step::Call(NodeCall::Close),
+        Op::Count => Step::Call(NodeCall::Count),
         Op::Scan { count } => {
             if begun.steps == 0 {
                 Step::Take(u32::from(count))
@@ -48,8 +54,7 @@ pub(crate) fn next_step(op: Op, begun: Begun) -> Step
         }
         Op::Take { count } => Step::Take(u32::from(count)),
         Op::SplitNext => Step::SplitNext,
-        Op::PutBack => Step::PutBack,
-        one => Step::One(one),
+        _ => Step::PutBack,
     }
 }
 

@@ -9,14 +9,26 @@ ghost use Rattle.thp_sections.specs.Turns.{by_cell};
 use crate::reply::Reply;
 use std::hint::spin_loop;
 use thp_cell::CellFault;
-use thp_model::Refusal;
-use thp_text::Op;
+use thp_model::{PageCall, Refusal};
 
-/// One call of a node: one of a command that is one call, or of the three of a batch.
+/// A call of a node that needs no batch.
+#[derive(Clone, Copy, Debug, PartialEq, Eq)]
+pub enum NodeCall {
+    /// Allocates a page.
+    Alloc,
+    /// A call about one page.
+    Page { page: u64, call: PageCall },
+    /// Closes the node.
+    Close,
+    /// Asks how many pages stand in the queue.
+    Count,
+}
+
+/// One call of a node: one that needs no batch, or one of the three about a batch.
 #[derive(Clone, Copy, Debug, PartialEq, Eq)]
 pub enum Step {
-    /// The one step of such a command.
-    One(Op),
+    /// A call that needs no batch.
+    Call(NodeCall),
     /// A take of up to so many pages.
     Take(u32),
     /// A try of the next page of the open batch.

@@ -66,7 +66,7 @@ module _ (s : Settings) where
       }
   batch_read op name (a ∷ b ∷ d ∷ words) command plain fits e = absurd cc
 
-  page_read : (op : ℕ → Op) (name : Text) (words : List Text) (command : Command) → IsPlain name → ((n : ℕ) → FitsBatch (op n)) → page_command op s words ≡ Ok command → IsReadCommand s name words command
+  page_read : (op : ℕ → Op) (name : Text) (words : List Text) (command : Command) → IsPlain name → ((page : ℕ) → FitsBatch (op page)) → page_command op s words ≡ Ok command → IsReadCommand s name words command
   unfolding page_command
   page_read op name [] command plain fits e = absurd cc
   page_read op name (a ∷ []) command plain fits e = absurd cc
@@ -82,7 +82,7 @@ module _ (s : Settings) where
       }
   page_read op name (a ∷ b ∷ d ∷ words) command plain fits e = absurd cc
 
-  range_read : (op : ℕ → ℕ → ℕ → Op) (name : Text) (words : List Text) (command : Command) → IsPlain name → ((p f n : ℕ) → FitsBatch (op p f n)) → range_command op s words ≡ Ok command → IsReadCommand s name words command
+  range_read : (op : ℕ → ℕ → ℕ → Op) (name : Text) (words : List Text) (command : Command) → IsPlain name → ((page first count : ℕ) → FitsBatch (op page first count)) → range_command op s words ≡ Ok command → IsReadCommand s name words command
   unfolding range_command
   range_read op name [] command plain fits e = absurd cc
   range_read op name (a ∷ []) command plain fits e = absurd cc
@@ -120,10 +120,10 @@ module _ (s : Settings) (word : Text) (plain : IsPlain word) where
   of_node : (op : Op) → FitsBatch op → IsEntry s (word, node_command op)
   of_node op fits = record { plain = plain; reads = λ words command e. node_read s op word words command plain fits e }
 
-  of_page : (op : ℕ → Op) → ((p : ℕ) → FitsBatch (op p)) → IsEntry s (word, page_command op)
+  of_page : (op : ℕ → Op) → ((page : ℕ) → FitsBatch (op page)) → IsEntry s (word, page_command op)
   of_page op fits = record { plain = plain; reads = λ words command e. page_read s op word words command plain fits e }
 
-  of_range : (op : ℕ → ℕ → ℕ → Op) → ((p f n : ℕ) → FitsBatch (op p f n)) → IsEntry s (word, range_command op)
+  of_range : (op : ℕ → ℕ → ℕ → Op) → ((page first count : ℕ) → FitsBatch (op page first count)) → IsEntry s (word, range_command op)
   of_range op fits = record { plain = plain; reads = λ words command e. range_read s op word words command plain fits e }
 
   of_batch : (op : ℕ → Op) → ((n : ℕ) → n ≤ 128 → FitsBatch (op n)) → IsEntry s (word, batch_command op)
@@ -133,23 +133,23 @@ entries : (s : Settings) → AllByRecursion (IsEntry s) commands
 entries s = (
   of_node s (codes "alloc") (record { printable = refl; some = refl }) Alloc tt,
   (
-    of_page s (codes "mapwhole") (record { printable = refl; some = refl }) MapWhole (λ p. tt),
+    of_page s (codes "mapwhole") (record { printable = refl; some = refl }) (λ page. MapWhole page) (λ page. tt),
     (
-      of_page s (codes "unmapwhole") (record { printable = refl; some = refl }) UnmapWhole (λ p. tt),
+      of_page s (codes "unmapwhole") (record { printable = refl; some = refl }) (λ page. UnmapWhole page) (λ page. tt),
       (
-        of_range s (codes "map") (record { printable = refl; some = refl }) (λ page first count. Map first count page) (λ p f n. tt),
+        of_range s (codes "map") (record { printable = refl; some = refl }) (λ page first count. Map first count page) (λ page first count. tt),
         (
-          of_range s (codes "unmap") (record { printable = refl; some = refl }) (λ page first count. Unmap first count page) (λ p f n. tt),
+          of_range s (codes "unmap") (record { printable = refl; some = refl }) (λ page first count. Unmap first count page) (λ page first count. tt),
           (
-            of_page s (codes "splitpmd") (record { printable = refl; some = refl }) SplitPmd (λ p. tt),
+            of_page s (codes "splitpmd") (record { printable = refl; some = refl }) (λ page. SplitPmd page) (λ page. tt),
             (
-              of_page s (codes "pin") (record { printable = refl; some = refl }) Pin (λ p. tt),
+              of_page s (codes "pin") (record { printable = refl; some = refl }) (λ page. Pin page) (λ page. tt),
               (
-                of_page s (codes "unpin") (record { printable = refl; some = refl }) Unpin (λ p. tt),
+                of_page s (codes "unpin") (record { printable = refl; some = refl }) (λ page. Unpin page) (λ page. tt),
                 (
-                  of_range s (codes "write") (record { printable = refl; some = refl }) (λ page first count. Write first count page) (λ p f n. tt),
+                  of_range s (codes "write") (record { printable = refl; some = refl }) (λ page first count. Write first count page) (λ page first count. tt),
                   (
-                    of_range s (codes "zero") (record { printable = refl; some = refl }) (λ page first count. Zero first count page) (λ p f n. tt),
+                    of_range s (codes "zero") (record { printable = refl; some = refl }) (λ page first count. Zero first count page) (λ page first count. tt),
                     (
                       of_node s (codes "close") (record { printable = refl; some = refl }) Close tt,
                       (

@@ -4,6 +4,7 @@ pub mod Lines
 pub mod NumberLists
 pub mod TextKinds
 pub mod Readings
+pub mod PageCommands
 pub mod Commands
 pub mod Operands
 pub mod Statements

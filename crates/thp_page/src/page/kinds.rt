@@ -1,0 +1,389 @@
+//! Each page call by itself: its test, its change, and the two in turn.
+ghost use Rattle.std.specs.Prelude.{◌≡◌, ℕ, OnOk, OnErr, IfOk, None};
+ghost use Rattle.std.specs.Result.{result_err};
+ghost use Rattle.thp_model.specs.Pages.{page_refusal, WholeMapped, WholeUnmapped, RangeMapped, RangeUnmapped, PmdSplit, Pinned, RangeWritten, RangeZeroed};
+ghost use Rattle.thp_model.specs.Refusals as call;
+
+use super::{Change, Page};
+use crate::counts::{map_range, subpages_with_count, unmap_range};
+use thp_model::{Refusal, SubSet};
+
+impl Page {
+    ghost use Rattle.thp_page.specs.Changes.{IsChange};
+
+    // `map_whole`, or why it is refused.
+    #[inline(always)]
+    pub(super) fn try_map_whole(&mut self) -> Result<(), Refusal>
+        ensures refusal { (p : ℕ) → result_err result ≡ page_refusal self.old (call.map_whole p) }
+        ensures counts { OnOk result (WholeMapped self.old self.new) }
+        ensures kept { OnErr result (self.new ≡ self.old) }
+    {
+        match self.refusal_map_whole() {
+            Some(refusal) => Err(refusal),
+            None => {
+                self.do_map_whole();
+                Ok(())
+            }
+        }
+    }
+
+    // Why `map_whole` would be refused, if it would.
+    #[tactic(auto, unfolding(thp_model::specs::Pages::page_refusal))]
+    pub(super) fn refusal_map_whole(&self) -> Option<Refusal>
+        ensures { (p : ℕ) → result ≡ page_refusal self.now (call.map_whole p) }
+    {
+        if self.split {
+            Some(Refusal::IsSplit)
+        } else if self.has_total_at_limit(0, self.subpages()) {
+            Some(Refusal::TooMany)
+        } else {
+            None
+        }
+    }
+
+    // `map_whole`, where it isn't refused.
+    fn do_map_whole(&mut self)
+        requires { page_refusal self.old (call.map_whole 0) ≡ None }
+        ensures { WholeMapped self.old self.new }
+    {
+        self.whole += 1;
+    }
+
+    // `unmap_whole`, or why it is refused.
+    #[inline(always)]
+    pub(super) fn try_unmap_whole(&mut self) -> Result<Change, Refusal>
+        ensures refusal { (p : ℕ) → result_err result ≡ page_refusal self.old (call.unmap_whole p) }
+        ensures counts { OnOk result (WholeUnmapped self.old self.new) }
+        ensures change { IfOk result (IsChange self.old self.new) }
+        ensures kept { OnErr result (self.new ≡ self.old) }
+    {
+        match self.refusal_unmap_whole() {
+            Some(refusal) => Err(refusal),
+            None => Ok(self.do_unmap_whole()),
+        }
+    }
+
+    // Why `unmap_whole` would be refused, if it would.
+    #[tactic(auto, unfolding(thp_model::specs::Pages::page_refusal))]
+    pub(super) fn refusal_unmap_whole(&self) -> Option<Refusal>
+        ensures { (p : ℕ) → result ≡ page_refusal self.now (call.unmap_whole p) }
+    {
+        if self.split {
+            Some(Refusal::IsSplit)
+        } else if self.whole == 0 {
+            Some(Refusal::NotMapped)
+        } else {
+            None
+        }
+    }
+
+    // `unmap_whole`, where it isn't refused.
+    fn do_unmap_whole(&mut self) -> Change
+        requires { page_refusal self.old (call.unmap_whole 0) ≡ None }
+        ensures counts { WholeUnmapped self.old self.new }
+        ensures change { IsChange self.old self.new result }
+    {
+        let unused = self.whole == 1 && (self.mapped as usize) < self.subpages();
+        self.whole -= 1;
+        let used_left = self.has_use();
+        self.partly |= unused && used_left;
+        Change {
+            unused,
+            used_left,
+            released: SubSet::empty(),
+        }
+    }
+
+    // `map_sub`, or why it is refused.
+    #[inline(always)]
+    pub(super) fn try_map_sub(&mut self, first: u16, count: u16) -> Result<(), Refusal>
+        ensures refusal { (p : ℕ) → result_err result ≡ page_refusal self.old (call.map_sub p first count) }
+        ensures counts { OnOk result (RangeMapped first count self.old self.new) }
+        ensures kept { OnErr result (self.new ≡ self.old) }
+    {
+        match self.refusal_map_sub(first, count) {
+            Some(refusal) => Err(refusal),
+            None => {
+                self.do_map_sub(first, count);
+                Ok(())
+            }
+        }
+    }
+
+    // Why `map_sub` would be refused, if it would.
+    #[tactic(auto, unfolding(thp_model::specs::Pages::page_refusal))]
+    #[inline(always)]
+    pub(super) fn refusal_map_sub(&self, first: u16, count: u16) -> Option<Refusal>
+        ensures { (p : ℕ) → result ≡ page_refusal self.now (call.map_sub p first count) }
+    {
+        if self.is_bad_range(first, count) {
+            return Some(Refusal::BadRange);
+        }
+        let (first, count) = (first as usize, count as usize);
+        if self.split && self.has_gone_frame(first, count) {
+            Some(Refusal::Gone)
+        } else if self.has_total_at_limit(first, count) {
+            Some(Refusal::TooMany)
+        } else {
+            None
+        }
+    }
+
+    // `map_sub`, where it isn't refused.
+    #[inline(always)]
+    fn do_map_sub(&mut self, first: u16, count: u16)
+        requires { page_refusal self.old (call.map_sub 0 first count) ≡ None }
+        ensures { RangeMapped first count self.old self.new }
+    {
+        self.mapped += map_range(&mut self.own, first as usize, count as usize);
+    }
+
+    // `unmap_sub`, or why it is refused.
+    #[inline(always)]
+    pub(super) fn try_unmap_sub(&mut self, first: u16, count: u16) -> Result<Change, Refusal>
+        ensures refusal { (p : ℕ) → result_err result ≡ page_refusal self.old (call.unmap_sub p first count) }
+        ensures counts { OnOk result (RangeUnmapped first count self.old self.new) }
+        ensures change { IfOk result (IsChange self.old self.new) }
+        ensures kept { OnErr result (self.new ≡ self.old) }
+    {
+        match self.refusal_unmap_sub(first, count) {
+            Some(refusal) => Err(refusal),
+            None => Ok(self.do_unmap_sub(first, count)),
+        }
+    }
+
+    // Why `unmap_sub` would be refused, if it would.
+    #[tactic(auto, unfolding(thp_model::specs::Pages::page_refusal))]
+    #[inline(always)]
+    pub(super) fn refusal_unmap_sub(&self, first: u16, count: u16) -> Option<Refusal>
+        ensures { (p : ℕ) → result ≡ page_refusal self.now (call.unmap_sub p first count) }
+    {
+        if self.is_bad_range(first, count) {
+            Some(Refusal::BadRange)
+        } else if self.has_unmapped(first as usize, count as usize) {
+            Some(Refusal::NotMapped)
+        } else {
+            None
+        }
+    }
+
+    // `unmap_sub`, where it isn't refused.
+    #[inline(always)]
+    fn do_unmap_sub(&mut self, first: u16, count: u16) -> Change
+        requires { page_refusal self.old (call.unmap_sub 0 first count) ≡ None }
+        ensures counts { RangeUnmapped first count self.old self.new }
+        ensures change { IsChange self.old self.new result }
+    {
+        let (first, count) = (first as usize, count as usize);
+        let gone = unmap_range(&mut self.own, first, count);
+        self.mapped -= gone;
+        let unused = self.whole == 0 && gone > 0;
+        let used_left = self.has_use();
+        let released = if self.split {
+            self.without_given(subpages_with_count(&self.own, first, count, 0))
+        } else {
+            SubSet::empty()
+        };
+        self.partly |= unused && used_left;
+        Change {
+            unused,
+            used_left,
+            released,
+        }
+    }
+
+    // `split_pmd`, or why it is refused.
+    #[inline(always)]
+    pub(super) fn try_split_pmd(&mut self) -> Result<(), Refusal>
+        ensures refusal { (p : ℕ) → result_err result ≡ page_refusal self.old (call.split_pmd p) }
+        ensures counts { OnOk result (PmdSplit self.old self.new) }
+        ensures kept { OnErr result (self.new ≡ self.old) }
+    {
+        match self.refusal_split_pmd() {
+            Some(refusal) => Err(refusal),
+            None => {
+                self.do_split_pmd();
+                Ok(())
+            }
+        }
+    }
+
+    // Why `split_pmd` would be refused, if it would.
+    #[tactic(auto, unfolding(thp_model::specs::Pages::page_refusal))]
+    pub(super) fn refusal_split_pmd(&self) -> Option<Refusal>
+        ensures { (p : ℕ) → result ≡ page_refusal self.now (call.split_pmd p) }
+    {
+        // Like an unmap it needs a whole mapping.
+        self.refusal_unmap_whole()
+    }
+
+    // `split_pmd`, where it isn't refused.
+    fn do_split_pmd(&mut self)
+        requires { page_refusal self.old (call.split_pmd 0) ≡ None }
+        ensures { PmdSplit self.old self.new }
+    {
+        let subpages = self.subpages();
+        self.whole -= 1;
+        self.mapped += map_range(&mut self.own, 0, subpages);
+    }
+
+    // `pin`, or why it is refused.
+    #[inline(always)]
+    pub(super) fn try_pin(&mut self) -> Result<(), Refusal>
+        ensures refusal { (p : ℕ) → result_err result ≡ page_refusal self.old (call.pin p) }
+        ensures counts { OnOk result (Pinned self.old self.new) }
+        ensures kept { OnErr result (self.new ≡ self.old) }
+    {
+        match self.refusal_pin() {
+            Some(refusal) => Err(refusal),
+            None => {
+                self.do_pin();
+                Ok(())
+            }
+        }
+    }
+
+    // Why `pin` would be refused, if it would.
+    #[tactic(auto, unfolding(thp_model::specs::Pages::page_refusal))]
+    #[inline(always)]
+    pub(super) fn refusal_pin(&self) -> Option<Refusal>
+        ensures { (p : ℕ) → result ≡ page_refusal self.now (call.pin p) }
+    {
+        if self.split {
+            Some(Refusal::IsSplit)
+        } else if self.pins == u16::MAX {
+            Some(Refusal::TooMany)
+        } else {
+            None
+        }
+    }
+
+    // `pin`, where it isn't refused.
+    #[inline(always)]
+    fn do_pin(&mut self)
+        requires { page_refusal self.old (call.pin 0) ≡ None }
+        ensures { Pinned self.old self.new }
+    {
+        self.pins += 1;
+    }
+
+    // `unpin`, or why it is refused.
+    #[inline(always)]
+    pub(super) fn try_unpin(&mut self) -> Result<Change, Refusal>
+        ensures refusal { (p : ℕ) → result_err result ≡ page_refusal self.old (call.unpin p) }
+        ensures counts { OnOk result (Pinned self.new self.old) }
+        ensures change { IfOk result (IsChange self.old self.new) }
+        ensures kept { OnErr result (self.new ≡ self.old) }
+    {
+        match self.refusal_unpin() {
+            Some(refusal) => Err(refusal),
+            None => {
+                self.do_unpin();
+                Ok(Change {
+                    unused: false,
+                    used_left: self.has_use(),
+                    released: SubSet::empty(),
+                })
+            }
+        }
+    }
+
+    // Why `unpin` would be refused, if it would.
+    #[tactic(auto, unfolding(thp_model::specs::Pages::page_refusal))]
+    #[inline(always)]
+    pub(super) fn refusal_unpin(&self) -> Option<Refusal>
+        ensures { (p : ℕ) → result ≡ page_refusal self.now (call.unpin p) }
+    {
+        if self.split {
+            Some(Refusal::IsSplit)
+        } else if self.pins == 0 {
+            Some(Refusal::NotPinned)
+        } else {
+            None
+        }
+    }
+
+    // `unpin`, where it isn't refused.
+    #[inline(always)]
+    fn do_unpin(&mut self)
+        requires { page_refusal self.old (call.unpin 0) ≡ None }
+        ensures { Pinned self.new self.old }
+    {
+        self.pins -= 1;
+    }
+
+    // `write`, or why it is refused.
+    #[inline(always)]
+    pub(super) fn try_write(&mut self, first: u16, count: u16) -> Result<(), Refusal>
+        ensures refusal { (p : ℕ) → result_err result ≡ page_refusal self.old (call.write p first count) }
+        ensures written { OnOk result (RangeWritten first count self.old self.new) }
+        ensures kept { OnErr result (self.new ≡ self.old) }
+    {
+        match self.refusal_write(first, count) {
+            Some(refusal) => Err(refusal),
+            None => {
+                self.do_write(first, count);
+                Ok(())
+            }
+        }
+    }
+
+    // Why `write` would be refused, if it would.
+    #[tactic(auto, unfolding(thp_model::specs::Pages::page_refusal))]
+    pub(super) fn refusal_write(&self, first: u16, count: u16) -> Option<Refusal>
+        ensures { (p : ℕ) → result ≡ page_refusal self.now (call.write p first count) }
+    {
+        if self.is_bad_range(first, count) {
+            Some(Refusal::BadRange)
+        } else if self.split {
+            Some(Refusal::IsSplit)
+        } else if self.has_unused(first as usize, count as usize) {
+            Some(Refusal::NotMapped)
+        } else {
+            None
+        }
+    }
+
+    // `write`, where it isn't refused.
+    fn do_write(&mut self, first: u16, count: u16)
+        requires { page_refusal self.old (call.write 0 first count) ≡ None }
+        ensures { RangeWritten first count self.old self.new }
+    {
+        self.zero = self
+            .zero
+            .difference(SubSet::range(first as u32, count as u32));
+    }
+
+    // `zero`, or why it is refused.
+    #[inline(always)]
+    pub(super) fn try_zero(&mut self, first: u16, count: u16) -> Result<(), Refusal>
+        ensures refusal { (p : ℕ) → result_err result ≡ page_refusal self.old (call.zero_fill p first count) }
+        ensures zeroed { OnOk result (RangeZeroed first count self.old self.new) }
+        ensures kept { OnErr result (self.new ≡ self.old) }
+    {
+        match self.refusal_zero(first, count) {
+            Some(refusal) => Err(refusal),
+            None => {
+                self.do_zero(first, count);
+                Ok(())
+            }
+        }
+    }
+
+    // Why `zero` would be refused, if it would.
+    #[tactic(auto, unfolding(thp_model::specs::Pages::page_refusal))]
+    pub(super) fn refusal_zero(&self, first: u16, count: u16) -> Option<Refusal>
+        ensures { (p : ℕ) → result ≡ page_refusal self.now (call.zero_fill p first count) }
+    {
+        // Zeros are written as data is.
+        self.refusal_write(first, count)
+    }
+
+    // `zero`, where it isn't refused.
+    fn do_zero(&mut self, first: u16, count: u16)
+        requires { page_refusal self.old (call.zero_fill 0 first count) ≡ None }
+        ensures { RangeZeroed first count self.old self.new }
+    {
+        self.zero = self.zero.union(SubSet::range(first as u32, count as u32));
+    }
+}
