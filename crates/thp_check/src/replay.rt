@@ -1,5 +1,6 @@
 //! A replay of a history: what a node would hold after the events so far.
 ghost use Rattle.std.specs.Prelude.{◌≡◌, ◌<◌, ◌≤◌, ◌+◌, ◌^◌, ℕ, [], ◌||◌, not, slice_get, Some, IfNone, IfOk, IfSome, IsSome, IsTrue, ◌↔◌};
+ghost use Rattle.thp_model.specs.Limits.{max_order, min_order};
 ghost use Rattle.thp_model.specs.Pages.{is_worth};
 ghost use Rattle.thp_model.specs.Places.{no_pages, takes_by};
 ghost use Rattle.thp_page.specs.Slots.{slot_at};
@@ -32,8 +33,8 @@ impl Replay {
 
     // The state before any event.
     pub(crate) fn new(alloc: Global, shape: Shape) -> Result<Replay, AllocError>
-        requires least { 2 ≤ shape.order }
-        requires most { shape.order ≤ 9 }
+        requires least { min_order ≤ shape.order }
+        requires most { shape.order ≤ max_order }
         ensures { IfOk result (Means shape []) }
     {
         let places = Places::new(alloc, shape)?;

@@ -135,7 +135,7 @@ frames_of _ = 0
 
 -- a page can join the flight of caller c, or leave it, by the counts of pages in flight
 abbrev pub CanJoin : List ℕ → ℕ → Type 0
-CanJoin flying c = (c < 64) × (slice_index_or flying c 0 + 1 < 2 ^ 8)
+CanJoin flying c = (c < max_callers) × (slice_index_or flying c 0 + 1 < 2 ^ 8)
 
 abbrev pub CanLeave : List ℕ → ℕ → Type 0
 CanLeave flying c = 0 < slice_index_or flying c 0
