@@ -8,6 +8,7 @@ use Rattle.thp_model.specs.declared.events.What.TheVariants.{UnmapWhole, UnmapSu
 use Rattle.thp_model.specs.declared.shape.Shape.{Shape}
 use Rattle.thp_model.specs.Sets.{set_size}
 use Rattle.thp_model.specs.Shapes.{IsShape}
+use Rattle.thp_model.specs.Limits.{max_callers}
 use Rattle.thp_model.specs.History.{History}
 use Rattle.thp_model.specs.Counts.{is_closed, allocations, is_alloc, closes, whole}
 use Rattle.thp_model.specs.Underused.{is_partly_mapped}

@@ -80,7 +80,8 @@ impl Blocks {
         ensures gained { OnOk result (AtSlot self.old.table block (λ x. (p : PageState) × Gains gain x.page p × Edits self.old self.new block (Some (record x { page = p })) self.old.queue 0)) }
         ensures kept { OnErr result (self.new ≡ self.old) }
     {
-        self.places.gain(block, gain)
+        self.places.gain(block, gain)?;
+        Ok(())
     }
 
     // Takes mappings or a pin from the page of a block, unless the page refuses that, and then queues or frees the page, or

@@ -160,7 +160,10 @@ impl Node {
         ensures fronts { FrontsStay self.old.journal self.new.journal }
     {
         let block = self.admit(page, PageCall::Gain(gain))?;
-        self.blocks.gain(block, gain)?;
+        match self.blocks.gain(block, gain) {
+            Ok(()) => {}
+            Err(refusal) => return Err(refusal),
+        }
         self.journal
             .record(caller, gain.what(page), Unsaid::Nothing);
         Ok(())
@@ -179,7 +182,10 @@ impl Node {
     {
         let block = self.admit(page, PageCall::Loss(loss))?;
         let closed = self.journal.is_closed();
-        let (done, left) = self.blocks.lose(block, loss, closed)?;
+        let (done, left) = match self.blocks.lose(block, loss, closed) {
+            Ok(lost) => lost,
+            Err(refusal) => return Err(refusal),
+        };
         self.journal
             .record(caller, loss.what(page, &done), Unsaid::FreedFrom(left));
         Ok(done)

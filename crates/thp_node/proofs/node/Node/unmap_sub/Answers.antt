@@ -1,4 +1,4 @@
-use Rattle.std.proofs.Common.{◌≡◌, [], ◌∷◌, Option, None, ap₂, sym, ◌∙◌, subst}
+use Rattle.std.proofs.Common.{◌≡◌, ℕ, [], ◌∷◌, Option, None, ap₂, sym, ◌∙◌, subst}
 use Rattle.std.specs.Prelude.{IfErr}
 use Rattle.thp_model.specs.declared.refusal.Refusal.{Refusal}
 use Rattle.thp_model.specs.declared.events.What.TheVariants as what
@@ -25,5 +25,5 @@ pub returns-clause-recorded : goal.returns-clause-recorded
 returns-clause-recorded c =
     both_if c.lose.result _ _ _ (returns-clause-allowed c) c.lose.ensures.recorded (λ x a d.
       let whole = unmap_sub-whole c.args.self.now.shape c.args.self.now.journal c.args.page c.args.first c.args.count c.operands-first.ensures.low a in
-      let P = λ f n. Did c.args.self.now c.lose.new.self c.args.caller (by c.args.caller (what.UnmapSub x.outcome c.args.page f n x.released) ∷ []) in
+      let P : ℕ → ℕ → Type 0 = λ f n. Did c.args.self.now c.lose.new.self c.args.caller (by c.args.caller (what.UnmapSub x.outcome c.args.page f n x.released) ∷ []) in
       subst (λ n. P c.args.first n) (c.operands-first.ensures.count ∙ whole.1) (subst (λ f. P f c.operands-first.result.1) (c.operands-first.ensures.first ∙ whole.0) d))
