@@ -19,6 +19,7 @@ use atomic_table::{Refused, Seat, Table};
 use std::alloc::Global;
 use std::marker::{Brand, Model};
 use std::snapshot::Snapshot;
+use thp_model::MAX_CALLERS;
 use thp_node::{NewFault, Node};
 
 /// A node that threads share through one word and one slot.
@@ -71,6 +72,8 @@ impl NodeCell {
         };
         // the journal's contract says that it is legal, which the rule of the cell asks
         let _legal = node.journal();
+        // and its shape's, that its pages are none too large
+        let _shape = node.shape();
         let Ok(mut slots) = Vec::with_capacity(alloc, 1) else {
             return Err(NewFault::OutOfMemory);
         };
