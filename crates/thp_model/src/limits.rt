@@ -11,7 +11,7 @@ pub const MAX_SUBPAGES: usize = 512;
 pub const MAX_CALLERS: u32 = 64;
 
 /// The most pages of a batch.
-pub const MAX_BATCH: u32 = 128;
+pub const MAX_BATCH: usize = 128;
 
 /// The definitions have the limits that the code has.
 pub fn limits_are_defined()
