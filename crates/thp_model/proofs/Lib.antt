@@ -1,4 +1,5 @@
 pub mod Bools
+pub mod Options
 pub mod Counting
 pub mod ListPlaces
 pub mod LegalSteps
