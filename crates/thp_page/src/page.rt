@@ -1,6 +1,7 @@
 //! One page: its map counts, its pins, whether it is split, and which of its subpages are zero-filled.
 ghost use Rattle.std.specs.Prelude.{◌≡◌, ℕ, ◌+◌, ◌<◌, ◌≤◌, Bool, true, false, not, ◌&&◌, ◌||◌, nat_eq, nat_lt, length, min, OnOk, OnErr, IfOk, Option, None};
 ghost use Rattle.std.specs.Result.{result_err};
+ghost use Rattle.thp_model.specs.Limits.{max_order, max_subpages, min_order};
 ghost use Rattle.thp_model.specs.Pages.{size, own_at, total_at, zero_at, holds, used_set, has_use, zero_set, zero_count, is_worth, gives_frames, some_in_range, page_refusal, IsFresh, WholeMapped, WholeUnmapped, RangeMapped, RangeUnmapped, PmdSplit, Pinned, RangeWritten, RangeZeroed, PageSplit};
 ghost use Rattle.thp_model.specs.Sets.{set_of, has};
 ghost use Rattle.thp_model.specs.Refusals.{most};
@@ -10,9 +11,9 @@ ghost use Rattle.thp_page.specs.Fresh.{fresh_page};
 
 mod kinds;
 
-use crate::counts::{MOST_SUBPAGES, add_to_range, range_has_count, subpages_with_count};
+use crate::counts::{add_to_range, range_has_count, subpages_with_count};
 use std::marker::Model;
-use thp_model::{Gain, Loss, PageCall, Refusal, SubSet, narrowed};
+use thp_model::{Gain, Loss, MAX_SUBPAGES, PageCall, Refusal, SubSet, narrowed};
 
 /// What an unmap did to the use of its page.
 #[derive(Clone, Copy, PartialEq, Eq, Debug)]
@@ -51,7 +52,7 @@ pub struct Page {
     // The zero-filled subpages.
     zero: SubSet,
     // How often a PTE entry maps each subpage. No call looks behind the page's last subpage.
-    own: [u16; MOST_SUBPAGES],
+    own: [u16; MAX_SUBPAGES],
 }
 
 impl Model for Page {
@@ -71,8 +72,8 @@ impl Page {
 
     /// A page that was just allocated: mapped whole once, and all zero-filled.
     pub fn fresh(order: u32) -> Page
-        requires least { 2 ≤ order }
-        requires most { order ≤ 9 }
+        requires least { min_order ≤ order }
+        requires most { order ≤ max_order }
         ensures fresh { IsFresh order result }
         ensures state { result ≡ fresh_page order }
     {
@@ -85,7 +86,7 @@ impl Page {
             gave_zero: false,
             mapped: 0,
             zero: SubSet::full(order),
-            own: [0; MOST_SUBPAGES],
+            own: [0; MAX_SUBPAGES],
         }
     }
 
@@ -260,7 +261,7 @@ impl Page {
     /// The page's order.
     pub fn order(&self) -> u32
         ensures value { result ≡ self.now.order }
-        ensures most { result ≤ 9 }
+        ensures most { result ≤ max_order }
     {
         self.order
     }
@@ -349,7 +350,7 @@ impl Page {
     // How many subpages the page has.
     fn subpages(&self) -> usize
         ensures size { result ≡ size self.now }
-        ensures most { result ≤ 512 }
+        ensures most { result ≤ max_subpages }
     {
         1 << self.order
     }
@@ -359,7 +360,7 @@ impl Page {
     fn operands(&self, first: u32, count: u32) -> (u16, u16)
         ensures first { result.0 ≡ min first 65535 }
         ensures count { result.1 ≡ min count 65535 }
-        ensures few { size self.now ≤ 512 }
+        ensures few { size self.now ≤ max_subpages }
     {
         // Tells the proof how many subpages the page has at most.
         let _ = self.subpages();
@@ -420,7 +421,7 @@ impl Page {
 
     // The subpages of a set but those whose frames the page's split gave back as zero-filled.
     fn without_given(&self, subpages: SubSet) -> SubSet
-        requires { length subpages ≡ 512 }
+        requires { length subpages ≡ max_subpages }
         ensures { result ≡ set_of (λ i. has subpages i && not (self.now.gave_zero && zero_at self.now i)) }
     {
         if self.gave_zero {
