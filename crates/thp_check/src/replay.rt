@@ -348,7 +348,7 @@ fn is_told(done: &Done, outcome: Outcome, released: SubSet) -> bool
 fn short(first: u32, count: u32) -> Option<(u16, u16)>
     ensures first { IfSome result (λ r. r.0 ≡ first) }
     ensures count { IfSome result (λ r. r.1 ≡ count) }
-    ensures none { IfNone result (65535 < first + count) }
+    ensures none { IfNone result (¬ ((first ≤ 65535) × (count ≤ 65535))) }
 {
     if first > 65_535 || count > 65_535 {
         return None;

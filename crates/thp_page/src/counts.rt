@@ -59,12 +59,7 @@ fn take_one_from_each(counts: &mut [u16]) -> u16
 }
 
 // Whether a count of the range is `n`.
-pub(crate) fn range_has_count(
-    own: &[u16; MAX_SUBPAGES],
-    first: usize,
-    count: usize,
-    n: u16,
-) -> bool
+pub(crate) fn range_has_count(own: &[u16; MAX_SUBPAGES], first: usize, count: usize, n: u16) -> bool
     requires { first + count ≤ max_subpages }
     ensures { result ≡ some_count own.now first count (λ x. nat_eq x n) }
 {

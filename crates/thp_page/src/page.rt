@@ -1,19 +1,16 @@
 //! One page: its map counts, its pins, whether it is split, and which of its subpages are zero-filled.
-ghost use Rattle.std.specs.Prelude.{◌≡◌, ℕ, ◌+◌, ◌<◌, ◌≤◌, Bool, true, false, not, ◌&&◌, ◌||◌, nat_eq, nat_lt, length, min, OnOk, OnErr, IfOk, Option, None};
-ghost use Rattle.std.specs.Result.{result_err};
+ghost use Rattle.std.specs.Prelude.{◌≡◌, ◌+◌, ◌<◌, ◌≤◌, true, false, not, ◌&&◌, ◌||◌, nat_eq, nat_lt, length, Option, None};
 ghost use Rattle.thp_model.specs.Limits.{max_order, max_subpages, min_order};
-ghost use Rattle.thp_model.specs.Pages.{size, own_at, total_at, zero_at, holds, used_set, has_use, zero_set, zero_count, is_worth, gives_frames, some_in_range, page_refusal, IsFresh, WholeMapped, WholeUnmapped, RangeMapped, RangeUnmapped, PmdSplit, Pinned, RangeWritten, RangeZeroed, PageSplit};
+ghost use Rattle.thp_model.specs.Pages.{size, own_at, total_at, zero_at, holds, used_set, has_use, zero_set, zero_count, is_worth, gives_frames, some_in_range, IsFresh, PageSplit};
 ghost use Rattle.thp_model.specs.Sets.{set_of, has};
 ghost use Rattle.thp_model.specs.Refusals.{most};
-ghost use Rattle.thp_model.specs.Refusals as call;
-ghost use Rattle.thp_model.specs.PageCalls.{gain_call, Gains, loss_call, Loses, page_call};
 ghost use Rattle.thp_page.specs.Fresh.{fresh_page};
 
-mod kinds;
+mod calls;
 
 use crate::counts::{add_to_range, range_has_count, subpages_with_count};
 use std::marker::Model;
-use thp_model::{Gain, Loss, MAX_SUBPAGES, PageCall, Refusal, SubSet, narrowed};
+use thp_model::{MAX_SUBPAGES, SubSet};
 
 /// What an unmap did to the use of its page.
 #[derive(Clone, Copy, PartialEq, Eq, Debug)]
@@ -88,146 +85,6 @@ impl Page {
             zero: SubSet::full(order),
             own: [0; MAX_SUBPAGES],
         }
-    }
-
-    /// Why a call would be refused, if it would.
-    #[inline(always)]
-    pub fn refusal(&self, call: PageCall) -> Option<Refusal>
-        ensures { (p : ℕ) → result ≡ page_refusal self.now (page_call call p) }
-    {
-        match call {
-            PageCall::Gain(Gain::MapWhole) => self.refusal_map_whole(),
-            PageCall::Gain(Gain::MapSub { first, count }) => self.refusal_map_sub(first, count),
-            PageCall::Gain(Gain::SplitPmd) => self.refusal_split_pmd(),
-            PageCall::Gain(Gain::Pin) => self.refusal_pin(),
-            PageCall::Gain(Gain::Write { first, count }) => self.refusal_write(first, count),
-            PageCall::Gain(Gain::Zero { first, count }) => self.refusal_zero(first, count),
-            PageCall::Loss(Loss::UnmapWhole) => self.refusal_unmap_whole(),
-            PageCall::Loss(Loss::UnmapSub { first, count }) => self.refusal_unmap_sub(first, count),
-            PageCall::Loss(Loss::Unpin) => self.refusal_unpin(),
-        }
-    }
-
-    /// Gives the page mappings or a pin, or fills subpages of it, unless that is refused.
-    #[inline(always)]
-    pub fn gain(&mut self, gain: Gain) -> Result<(), Refusal>
-        ensures refusal { (p : ℕ) → result_err result ≡ page_refusal self.old (gain_call gain p) }
-        ensures counts { OnOk result (Gains gain self.old self.new) }
-        ensures kept { OnErr result (self.new ≡ self.old) }
-    {
-        match gain {
-            Gain::MapWhole => self.try_map_whole(),
-            Gain::MapSub { first, count } => self.try_map_sub(first, count),
-            Gain::SplitPmd => self.try_split_pmd(),
-            Gain::Pin => self.try_pin(),
-            Gain::Write { first, count } => self.try_write(first, count),
-            Gain::Zero { first, count } => self.try_zero(first, count),
-        }
-    }
-
-    /// Takes mappings or a pin from the page, unless that is refused, and answers what that did to its use.
-    #[inline(always)]
-    pub fn lose(&mut self, loss: Loss) -> Result<Change, Refusal>
-        ensures refusal { (p : ℕ) → result_err result ≡ page_refusal self.old (loss_call loss p) }
-        ensures counts { OnOk result (Loses loss self.old self.new) }
-        ensures change { IfOk result (IsChange self.old self.new) }
-        ensures kept { OnErr result (self.new ≡ self.old) }
-    {
-        match loss {
-            Loss::UnmapWhole => self.try_unmap_whole(),
-            Loss::UnmapSub { first, count } => self.try_unmap_sub(first, count),
-            Loss::Unpin => self.try_unpin(),
-        }
-    }
-
-    /// One more mapping of the whole page. Refused as `IsSplit` and `TooMany`.
-    pub fn map_whole(&mut self) -> Result<(), Refusal>
-        ensures refusal { (p : ℕ) → result_err result ≡ page_refusal self.old (call.map_whole p) }
-        ensures counts { OnOk result (WholeMapped self.old self.new) }
-        ensures kept { OnErr result (self.new ≡ self.old) }
-    {
-        self.gain(Gain::MapWhole)
-    }
-
-    /// One mapping of the whole page less. Refused as `IsSplit` and `NotMapped`.
-    pub fn unmap_whole(&mut self) -> Result<Change, Refusal>
-        ensures refusal { (p : ℕ) → result_err result ≡ page_refusal self.old (call.unmap_whole p) }
-        ensures counts { OnOk result (WholeUnmapped self.old self.new) }
-        ensures change { IfOk result (IsChange self.old self.new) }
-        ensures kept { OnErr result (self.new ≡ self.old) }
-    {
-        self.lose(Loss::UnmapWhole)
-    }
-
-    /// One more mapping of each of the `count` subpages from `first` on. Refused as `BadRange`, `Gone` and `TooMany`.
-    pub fn map_sub(&mut self, first: u32, count: u32) -> Result<(), Refusal>
-        ensures refusal { (p : ℕ) → result_err result ≡ page_refusal self.old (call.map_sub p first count) }
-        ensures counts { OnOk result (RangeMapped first count self.old self.new) }
-        ensures kept { OnErr result (self.new ≡ self.old) }
-    {
-        let (first, count) = self.operands(first, count);
-        self.gain(Gain::MapSub { first, count })
-    }
-
-    /// One mapping of each of the `count` subpages from `first` on less. Refused as `BadRange` and `NotMapped`.
-    pub fn unmap_sub(&mut self, first: u32, count: u32) -> Result<Change, Refusal>
-        ensures refusal { (p : ℕ) → result_err result ≡ page_refusal self.old (call.unmap_sub p first count) }
-        ensures counts { OnOk result (RangeUnmapped first count self.old self.new) }
-        ensures change { IfOk result (IsChange self.old self.new) }
-        ensures kept { OnErr result (self.new ≡ self.old) }
-    {
-        let (first, count) = self.operands(first, count);
-        self.lose(Loss::UnmapSub { first, count })
-    }
-
-    /// Makes a mapping of the whole page into one of each subpage. Refused as `IsSplit` and `NotMapped`.
-    pub fn split_pmd(&mut self) -> Result<(), Refusal>
-        ensures refusal { (p : ℕ) → result_err result ≡ page_refusal self.old (call.split_pmd p) }
-        ensures counts { OnOk result (PmdSplit self.old self.new) }
-        ensures kept { OnErr result (self.new ≡ self.old) }
-    {
-        self.gain(Gain::SplitPmd)
-    }
-
-    /// One more pin, which keeps the page from being split. Refused as `IsSplit` and `TooMany`.
-    pub fn pin(&mut self) -> Result<(), Refusal>
-        ensures refusal { (p : ℕ) → result_err result ≡ page_refusal self.old (call.pin p) }
-        ensures counts { OnOk result (Pinned self.old self.new) }
-        ensures kept { OnErr result (self.new ≡ self.old) }
-    {
-        self.gain(Gain::Pin)
-    }
-
-    /// One pin less. Refused as `IsSplit` and `NotPinned`.
-    pub fn unpin(&mut self) -> Result<(), Refusal>
-        ensures refusal { (p : ℕ) → result_err result ≡ page_refusal self.old (call.unpin p) }
-        ensures counts { OnOk result (Pinned self.new self.old) }
-        ensures kept { OnErr result (self.new ≡ self.old) }
-    {
-        self.lose(Loss::Unpin)?;
-        Ok(())
-    }
-
-    /// Data is written to each of the `count` subpages from `first` on, so that none of them is zero-filled any more. Refused
-    /// as `BadRange`, `IsSplit` and `NotMapped`.
-    pub fn write(&mut self, first: u32, count: u32) -> Result<(), Refusal>
-        ensures refusal { (p : ℕ) → result_err result ≡ page_refusal self.old (call.write p first count) }
-        ensures written { OnOk result (RangeWritten first count self.old self.new) }
-        ensures kept { OnErr result (self.new ≡ self.old) }
-    {
-        let (first, count) = self.operands(first, count);
-        self.gain(Gain::Write { first, count })
-    }
-
-    /// Zeros are written to each of the `count` subpages from `first` on, so that all of them are zero-filled. Refused as
-    /// `BadRange`, `IsSplit` and `NotMapped`.
-    pub fn zero(&mut self, first: u32, count: u32) -> Result<(), Refusal>
-        ensures refusal { (p : ℕ) → result_err result ≡ page_refusal self.old (call.zero_fill p first count) }
-        ensures zeroed { OnOk result (RangeZeroed first count self.old self.new) }
-        ensures kept { OnErr result (self.new ≡ self.old) }
-    {
-        let (first, count) = self.operands(first, count);
-        self.gain(Gain::Zero { first, count })
     }
 
     /// Splits the page into base pages, each with all its mappings as its own, and answers the subpages whose frames that
@@ -353,18 +210,6 @@ impl Page {
         ensures most { result ≤ max_subpages }
     {
         1 << self.order
-    }
-
-    // The operands of a range as a page call keeps them.
-    #[inline(always)]
-    fn operands(&self, first: u32, count: u32) -> (u16, u16)
-        ensures first { result.0 ≡ min first 65535 }
-        ensures count { result.1 ≡ min count 65535 }
-        ensures few { size self.now ≤ max_subpages }
-    {
-        // Tells the proof how many subpages the page has at most.
-        let _ = self.subpages();
-        (narrowed(first), narrowed(count))
     }
 
     // Whether a range has no subpage, or one that the page hasn't.

@@ -1,19 +1,173 @@
-//! Each page call by itself: its test, its change, and the two in turn.
-ghost use Rattle.std.specs.Prelude.{◌≡◌, ℕ, OnOk, OnErr, IfOk, None};
+//! The calls of a page: as a value, by name, and each by itself with its test, its change, and the two in turn.
+ghost use Rattle.std.specs.Prelude.{◌≡◌, ℕ, ◌≤◌, min, OnOk, OnErr, IfOk, None};
 ghost use Rattle.std.specs.Result.{result_err};
-ghost use Rattle.thp_model.specs.Pages.{page_refusal, WholeMapped, WholeUnmapped, RangeMapped, RangeUnmapped, PmdSplit, Pinned, RangeWritten, RangeZeroed};
+ghost use Rattle.thp_model.specs.Limits.{max_subpages};
+ghost use Rattle.thp_model.specs.Pages.{size, page_refusal, WholeMapped, WholeUnmapped, RangeMapped, RangeUnmapped, PmdSplit, Pinned, RangeWritten, RangeZeroed};
+ghost use Rattle.thp_model.specs.PageCalls.{gain_call, Gains, loss_call, Loses, page_call};
 ghost use Rattle.thp_model.specs.Refusals as call;
 
 use super::{Change, Page};
 use crate::counts::{map_range, subpages_with_count, unmap_range};
-use thp_model::{Refusal, SubSet};
+use thp_model::{Gain, Loss, PageCall, Refusal, SubSet, narrowed};
 
 impl Page {
     ghost use Rattle.thp_page.specs.Changes.{IsChange};
 
+    /// Why a call would be refused, if it would.
+    #[inline(always)]
+    pub fn refusal(&self, call: PageCall) -> Option<Refusal>
+        ensures { (p : ℕ) → result ≡ page_refusal self.now (page_call call p) }
+    {
+        match call {
+            PageCall::Gain(Gain::MapWhole) => self.refusal_map_whole(),
+            PageCall::Gain(Gain::MapSub { first, count }) => self.refusal_map_sub(first, count),
+            PageCall::Gain(Gain::SplitPmd) => self.refusal_split_pmd(),
+            PageCall::Gain(Gain::Pin) => self.refusal_pin(),
+            PageCall::Gain(Gain::Write { first, count }) => self.refusal_write(first, count),
+            PageCall::Gain(Gain::Zero { first, count }) => self.refusal_zero(first, count),
+            PageCall::Loss(Loss::UnmapWhole) => self.refusal_unmap_whole(),
+            PageCall::Loss(Loss::UnmapSub { first, count }) => self.refusal_unmap_sub(first, count),
+            PageCall::Loss(Loss::Unpin) => self.refusal_unpin(),
+        }
+    }
+
+    /// Gives the page mappings or a pin, or fills subpages of it, unless that is refused.
+    #[inline(always)]
+    pub fn gain(&mut self, gain: Gain) -> Result<(), Refusal>
+        ensures refusal { (p : ℕ) → result_err result ≡ page_refusal self.old (gain_call gain p) }
+        ensures counts { OnOk result (Gains gain self.old self.new) }
+        ensures kept { OnErr result (self.new ≡ self.old) }
+    {
+        match gain {
+            Gain::MapWhole => self.try_map_whole(),
+            Gain::MapSub { first, count } => self.try_map_sub(first, count),
+            Gain::SplitPmd => self.try_split_pmd(),
+            Gain::Pin => self.try_pin(),
+            Gain::Write { first, count } => self.try_write(first, count),
+            Gain::Zero { first, count } => self.try_zero(first, count),
+        }
+    }
+
+    /// Takes mappings or a pin from the page, unless that is refused, and answers what that did to its use.
+    #[inline(always)]
+    pub fn lose(&mut self, loss: Loss) -> Result<Change, Refusal>
+        ensures refusal { (p : ℕ) → result_err result ≡ page_refusal self.old (loss_call loss p) }
+        ensures counts { OnOk result (Loses loss self.old self.new) }
+        ensures change { IfOk result (IsChange self.old self.new) }
+        ensures kept { OnErr result (self.new ≡ self.old) }
+    {
+        match loss {
+            Loss::UnmapWhole => self.try_unmap_whole(),
+            Loss::UnmapSub { first, count } => self.try_unmap_sub(first, count),
+            Loss::Unpin => self.try_unpin(),
+        }
+    }
+
+    /// One more mapping of the whole page. Refused as `IsSplit` and `TooMany`.
+    pub fn map_whole(&mut self) -> Result<(), Refusal>
+        ensures refusal { (p : ℕ) → result_err result ≡ page_refusal self.old (call.map_whole p) }
+        ensures counts { OnOk result (WholeMapped self.old self.new) }
+        ensures kept { OnErr result (self.new ≡ self.old) }
+    {
+        self.gain(Gain::MapWhole)
+    }
+
+    /// One mapping of the whole page less. Refused as `IsSplit` and `NotMapped`.
+    pub fn unmap_whole(&mut self) -> Result<Change, Refusal>
+        ensures refusal { (p : ℕ) → result_err result ≡ page_refusal self.old (call.unmap_whole p) }
+        ensures counts { OnOk result (WholeUnmapped self.old self.new) }
+        ensures change { IfOk result (IsChange self.old self.new) }
+        ensures kept { OnErr result (self.new ≡ self.old) }
+    {
+        self.lose(Loss::UnmapWhole)
+    }
+
+    /// One more mapping of each of the `count` subpages from `first` on. Refused as `BadRange`, `Gone` and `TooMany`.
+    pub fn map_sub(&mut self, first: u32, count: u32) -> Result<(), Refusal>
+        ensures refusal { (p : ℕ) → result_err result ≡ page_refusal self.old (call.map_sub p first count) }
+        ensures counts { OnOk result (RangeMapped first count self.old self.new) }
+        ensures kept { OnErr result (self.new ≡ self.old) }
+    {
+        let (first, count) = self.operands(first, count);
+        self.gain(Gain::MapSub { first, count })
+    }
+
+    /// One mapping of each of the `count` subpages from `first` on less. Refused as `BadRange` and `NotMapped`.
+    pub fn unmap_sub(&mut self, first: u32, count: u32) -> Result<Change, Refusal>
+        ensures refusal { (p : ℕ) → result_err result ≡ page_refusal self.old (call.unmap_sub p first count) }
+        ensures counts { OnOk result (RangeUnmapped first count self.old self.new) }
+        ensures change { IfOk result (IsChange self.old self.new) }
+        ensures kept { OnErr result (self.new ≡ self.old) }
+    {
+        let (first, count) = self.operands(first, count);
+        self.lose(Loss::UnmapSub { first, count })
+    }
+
+    /// Makes a mapping of the whole page into one of each subpage. Refused as `IsSplit` and `NotMapped`.
+    pub fn split_pmd(&mut self) -> Result<(), Refusal>
+        ensures refusal { (p : ℕ) → result_err result ≡ page_refusal self.old (call.split_pmd p) }
+        ensures counts { OnOk result (PmdSplit self.old self.new) }
+        ensures kept { OnErr result (self.new ≡ self.old) }
+    {
+        self.gain(Gain::SplitPmd)
+    }
+
+    /// One more pin, which keeps the page from being split. Refused as `IsSplit` and `TooMany`.
+    pub fn pin(&mut self) -> Result<(), Refusal>
+        ensures refusal { (p : ℕ) → result_err result ≡ page_refusal self.old (call.pin p) }
+        ensures counts { OnOk result (Pinned self.old self.new) }
+        ensures kept { OnErr result (self.new ≡ self.old) }
+    {
+        self.gain(Gain::Pin)
+    }
+
+    /// One pin less. Refused as `IsSplit` and `NotPinned`.
+    pub fn unpin(&mut self) -> Result<(), Refusal>
+        ensures refusal { (p : ℕ) → result_err result ≡ page_refusal self.old (call.unpin p) }
+        ensures counts { OnOk result (Pinned self.new self.old) }
+        ensures kept { OnErr result (self.new ≡ self.old) }
+    {
+        self.lose(Loss::Unpin)?;
+        Ok(())
+    }
+
+    /// Data is written to each of the `count` subpages from `first` on, so that none of them is zero-filled any more. Refused
+    /// as `BadRange`, `IsSplit` and `NotMapped`.
+    pub fn write(&mut self, first: u32, count: u32) -> Result<(), Refusal>
+        ensures refusal { (p : ℕ) → result_err result ≡ page_refusal self.old (call.write p first count) }
+        ensures written { OnOk result (RangeWritten first count self.old self.new) }
+        ensures kept { OnErr result (self.new ≡ self.old) }
+    {
+        let (first, count) = self.operands(first, count);
+        self.gain(Gain::Write { first, count })
+    }
+
+    /// Zeros are written to each of the `count` subpages from `first` on, so that all of them are zero-filled. Refused as
+    /// `BadRange`, `IsSplit` and `NotMapped`.
+    pub fn zero(&mut self, first: u32, count: u32) -> Result<(), Refusal>
+        ensures refusal { (p : ℕ) → result_err result ≡ page_refusal self.old (call.zero_fill p first count) }
+        ensures zeroed { OnOk result (RangeZeroed first count self.old self.new) }
+        ensures kept { OnErr result (self.new ≡ self.old) }
+    {
+        let (first, count) = self.operands(first, count);
+        self.gain(Gain::Zero { first, count })
+    }
+
+    // The operands of a range as a page call keeps them.
+    #[inline(always)]
+    fn operands(&self, first: u32, count: u32) -> (u16, u16)
+        ensures first { result.0 ≡ min first 65535 }
+        ensures count { result.1 ≡ min count 65535 }
+        ensures few { size self.now ≤ max_subpages }
+    {
+        // Tells the proof how many subpages the page has at most.
+        let _ = self.subpages();
+        (narrowed(first), narrowed(count))
+    }
+
     // `map_whole`, or why it is refused.
     #[inline(always)]
-    pub(super) fn try_map_whole(&mut self) -> Result<(), Refusal>
+    fn try_map_whole(&mut self) -> Result<(), Refusal>
         ensures refusal { (p : ℕ) → result_err result ≡ page_refusal self.old (call.map_whole p) }
         ensures counts { OnOk result (WholeMapped self.old self.new) }
         ensures kept { OnErr result (self.new ≡ self.old) }
@@ -29,7 +183,7 @@ impl Page {
 
     // Why `map_whole` would be refused, if it would.
     #[tactic(auto, unfolding(thp_model::specs::Pages::page_refusal))]
-    pub(super) fn refusal_map_whole(&self) -> Option<Refusal>
+    fn refusal_map_whole(&self) -> Option<Refusal>
         ensures { (p : ℕ) → result ≡ page_refusal self.now (call.map_whole p) }
     {
         if self.split {
@@ -51,7 +205,7 @@ impl Page {
 
     // `unmap_whole`, or why it is refused.
     #[inline(always)]
-    pub(super) fn try_unmap_whole(&mut self) -> Result<Change, Refusal>
+    fn try_unmap_whole(&mut self) -> Result<Change, Refusal>
         ensures refusal { (p : ℕ) → result_err result ≡ page_refusal self.old (call.unmap_whole p) }
         ensures counts { OnOk result (WholeUnmapped self.old self.new) }
         ensures change { IfOk result (IsChange self.old self.new) }
@@ -65,7 +219,7 @@ impl Page {
 
     // Why `unmap_whole` would be refused, if it would.
     #[tactic(auto, unfolding(thp_model::specs::Pages::page_refusal))]
-    pub(super) fn refusal_unmap_whole(&self) -> Option<Refusal>
+    fn refusal_unmap_whole(&self) -> Option<Refusal>
         ensures { (p : ℕ) → result ≡ page_refusal self.now (call.unmap_whole p) }
     {
         if self.split {
@@ -96,7 +250,7 @@ impl Page {
 
     // `map_sub`, or why it is refused.
     #[inline(always)]
-    pub(super) fn try_map_sub(&mut self, first: u16, count: u16) -> Result<(), Refusal>
+    fn try_map_sub(&mut self, first: u16, count: u16) -> Result<(), Refusal>
         ensures refusal { (p : ℕ) → result_err result ≡ page_refusal self.old (call.map_sub p first count) }
         ensures counts { OnOk result (RangeMapped first count self.old self.new) }
         ensures kept { OnErr result (self.new ≡ self.old) }
@@ -113,7 +267,7 @@ impl Page {
     // Why `map_sub` would be refused, if it would.
     #[tactic(auto, unfolding(thp_model::specs::Pages::page_refusal))]
     #[inline(always)]
-    pub(super) fn refusal_map_sub(&self, first: u16, count: u16) -> Option<Refusal>
+    fn refusal_map_sub(&self, first: u16, count: u16) -> Option<Refusal>
         ensures { (p : ℕ) → result ≡ page_refusal self.now (call.map_sub p first count) }
     {
         if self.is_bad_range(first, count) {
@@ -140,7 +294,7 @@ impl Page {
 
     // `unmap_sub`, or why it is refused.
     #[inline(always)]
-    pub(super) fn try_unmap_sub(&mut self, first: u16, count: u16) -> Result<Change, Refusal>
+    fn try_unmap_sub(&mut self, first: u16, count: u16) -> Result<Change, Refusal>
         ensures refusal { (p : ℕ) → result_err result ≡ page_refusal self.old (call.unmap_sub p first count) }
         ensures counts { OnOk result (RangeUnmapped first count self.old self.new) }
         ensures change { IfOk result (IsChange self.old self.new) }
@@ -155,7 +309,7 @@ impl Page {
     // Why `unmap_sub` would be refused, if it would.
     #[tactic(auto, unfolding(thp_model::specs::Pages::page_refusal))]
     #[inline(always)]
-    pub(super) fn refusal_unmap_sub(&self, first: u16, count: u16) -> Option<Refusal>
+    fn refusal_unmap_sub(&self, first: u16, count: u16) -> Option<Refusal>
         ensures { (p : ℕ) → result ≡ page_refusal self.now (call.unmap_sub p first count) }
     {
         if self.is_bad_range(first, count) {
@@ -194,7 +348,7 @@ impl Page {
 
     // `split_pmd`, or why it is refused.
     #[inline(always)]
-    pub(super) fn try_split_pmd(&mut self) -> Result<(), Refusal>
+    fn try_split_pmd(&mut self) -> Result<(), Refusal>
         ensures refusal { (p : ℕ) → result_err result ≡ page_refusal self.old (call.split_pmd p) }
         ensures counts { OnOk result (PmdSplit self.old self.new) }
         ensures kept { OnErr result (self.new ≡ self.old) }
@@ -210,7 +364,7 @@ impl Page {
 
     // Why `split_pmd` would be refused, if it would.
     #[tactic(auto, unfolding(thp_model::specs::Pages::page_refusal))]
-    pub(super) fn refusal_split_pmd(&self) -> Option<Refusal>
+    fn refusal_split_pmd(&self) -> Option<Refusal>
         ensures { (p : ℕ) → result ≡ page_refusal self.now (call.split_pmd p) }
     {
         // Like an unmap it needs a whole mapping.
@@ -229,7 +383,7 @@ impl Page {
 
     // `pin`, or why it is refused.
     #[inline(always)]
-    pub(super) fn try_pin(&mut self) -> Result<(), Refusal>
+    fn try_pin(&mut self) -> Result<(), Refusal>
         ensures refusal { (p : ℕ) → result_err result ≡ page_refusal self.old (call.pin p) }
         ensures counts { OnOk result (Pinned self.old self.new) }
         ensures kept { OnErr result (self.new ≡ self.old) }
@@ -246,7 +400,7 @@ impl Page {
     // Why `pin` would be refused, if it would.
     #[tactic(auto, unfolding(thp_model::specs::Pages::page_refusal))]
     #[inline(always)]
-    pub(super) fn refusal_pin(&self) -> Option<Refusal>
+    fn refusal_pin(&self) -> Option<Refusal>
         ensures { (p : ℕ) → result ≡ page_refusal self.now (call.pin p) }
     {
         if self.split {
@@ -269,7 +423,7 @@ impl Page {
 
     // `unpin`, or why it is refused.
     #[inline(always)]
-    pub(super) fn try_unpin(&mut self) -> Result<Change, Refusal>
+    fn try_unpin(&mut self) -> Result<Change, Refusal>
         ensures refusal { (p : ℕ) → result_err result ≡ page_refusal self.old (call.unpin p) }
         ensures counts { OnOk result (Pinned self.new self.old) }
         ensures change { IfOk result (IsChange self.old self.new) }
@@ -291,7 +445,7 @@ impl Page {
     // Why `unpin` would be refused, if it would.
     #[tactic(auto, unfolding(thp_model::specs::Pages::page_refusal))]
     #[inline(always)]
-    pub(super) fn refusal_unpin(&self) -> Option<Refusal>
+    fn refusal_unpin(&self) -> Option<Refusal>
         ensures { (p : ℕ) → result ≡ page_refusal self.now (call.unpin p) }
     {
         if self.split {
@@ -314,7 +468,7 @@ impl Page {
 
     // `write`, or why it is refused.
     #[inline(always)]
-    pub(super) fn try_write(&mut self, first: u16, count: u16) -> Result<(), Refusal>
+    fn try_write(&mut self, first: u16, count: u16) -> Result<(), Refusal>
         ensures refusal { (p : ℕ) → result_err result ≡ page_refusal self.old (call.write p first count) }
         ensures written { OnOk result (RangeWritten first count self.old self.new) }
         ensures kept { OnErr result (self.new ≡ self.old) }
@@ -330,7 +484,7 @@ impl Page {
 
     // Why `write` would be refused, if it would.
     #[tactic(auto, unfolding(thp_model::specs::Pages::page_refusal))]
-    pub(super) fn refusal_write(&self, first: u16, count: u16) -> Option<Refusal>
+    fn refusal_write(&self, first: u16, count: u16) -> Option<Refusal>
         ensures { (p : ℕ) → result ≡ page_refusal self.now (call.write p first count) }
     {
         if self.is_bad_range(first, count) {
@@ -356,7 +510,7 @@ impl Page {
 
     // `zero`, or why it is refused.
     #[inline(always)]
-    pub(super) fn try_zero(&mut self, first: u16, count: u16) -> Result<(), Refusal>
+    fn try_zero(&mut self, first: u16, count: u16) -> Result<(), Refusal>
         ensures refusal { (p : ℕ) → result_err result ≡ page_refusal self.old (call.zero_fill p first count) }
         ensures zeroed { OnOk result (RangeZeroed first count self.old self.new) }
         ensures kept { OnErr result (self.new ≡ self.old) }
@@ -372,7 +526,7 @@ impl Page {
 
     // Why `zero` would be refused, if it would.
     #[tactic(auto, unfolding(thp_model::specs::Pages::page_refusal))]
-    pub(super) fn refusal_zero(&self, first: u16, count: u16) -> Option<Refusal>
+    fn refusal_zero(&self, first: u16, count: u16) -> Option<Refusal>
         ensures { (p : ℕ) → result ≡ page_refusal self.now (call.zero_fill p first count) }
     {
         // Zeros are written as data is.
