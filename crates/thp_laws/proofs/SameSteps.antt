@@ -33,7 +33,7 @@ use Rattle.thp_sections.specs.declared.reply.Reply.{Reply}
 use Rattle.thp_sections.specs.declared.reply.Reply.TheVariants as replied
 use Rattle.thp_sections.specs.declared.steps.NodeCall.{NodeCall}
 use Rattle.thp_sections.specs.declared.steps.NodeCall.TheVariants as node
-use Rattle.thp_sections.specs.declared.steps.Step.TheVariants.{Call, Take, SplitNext, PutBack}
+use Rattle.thp_sections.specs.declared.steps.Step.TheVariants.{One, Take, SplitNext, PutBack}
 use Rattle.thp_sections.specs.Does.{Does, DoesCall, DoesLoss, DoesOne, Nothing, Open, Reaction, Unless, refusal_of_call}
 use Rattle.thp_laws.specs.OneStep.{IsSameStep, StepsHaveOneAnswer}
 use Rattle.thp_laws.proofs.SameRefusals.{call_alike, take_alike}
@@ -234,7 +234,7 @@ tried_batch pages left = Some (record { pages = pages; left = left })
 -- the same step of both
 pub one_step : StepsHaveOneAnswer
 unfolding Does said tried_batch
-one_step s h k c batch (Call o) own other answer reply after later e l m a b =
+one_step s h k c batch (One o) own other answer reply after later e l m a b =
     unless_twice (refusal_of_call s h o) (refusal_of_call s k o) own other answer reply batch after later _ _ (call_alike s h k e o (legal_front s h own l) (legal_front s k other m)) (call_twice s h k c o batch own other answer reply after later e l m) a b
 one_step s h k c (Some batch) (Take n) own other answer reply after later e l m a b = nothing_twice (Some batch) own other answer reply _ _ after later refl a b
 one_step s h k c None (Take n) own other answer reply after later e l m a b =

@@ -3,6 +3,7 @@ use Rattle.std.proofs.Common.{◌≡◌, ℕ, ◌<◌, List, [], ◌∷◌, ◌+
 use Rattle.std.proofs.lemmas.List.{append-nil, take-append-drop}
 use Rattle.std.specs.Prelude.{IfSome}
 use Rattle.std.specs.Io.KnownBytes.{Consumes, Appends, Keeps, IsAtEnd}
+use Rattle.thp_text.specs.Limits.{max_input}
 use Rattle.thp_run.specs.Devices.{IsInputOf, WritesFront}
 
 -- one more piece was read
@@ -21,7 +22,7 @@ read_all (Some xs) (Some ys) (Some zs) bytes [] h k none end = record { rest = y
 read_all (Some xs) (Some ys) (Some zs) bytes (b ∷ piece) h k none end = absurd (omega arith)
 
 -- more was read than an input may have
-pub read_beyond : (a b : Option (List ℕ)) (bytes : List ℕ) → Consumes a b bytes → 16777216 < length bytes → IfSome a (IsInputOf bytes)
+pub read_beyond : (a b : Option (List ℕ)) (bytes : List ℕ) → Consumes a b bytes → max_input < length bytes → IfSome a (IsInputOf bytes)
 read_beyond None b bytes h lt = tt
 read_beyond (Some xs) None bytes h lt = absurd h
 read_beyond (Some xs) (Some ys) bytes h lt = record { rest = ys; front = h; all = λ le. absurd (omega arith) }

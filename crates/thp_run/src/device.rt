@@ -20,7 +20,7 @@ const PART: usize = 65_536;
 
 /// The script whose text a reader gives, part by part: all of its bytes, or more of them than an input may have.
 ///
-/// Each read but the last gives at least one byte, so there are at most 16,777,217 of them.
+/// Each read but the last gives at least one byte, so there are at most `MAX_INPUT + 1` of them.
 pub(crate) fn read_script_parts<'a, R: Read>(
     alloc: Global,
     settings: &'a Settings,
@@ -50,7 +50,7 @@ pub(crate) fn read_script_parts<'a, R: Read>(
 
 /// The journals whose text a reader gives, part by part: all of its bytes, or more of them than an input may have.
 ///
-/// Each read but the last gives at least one byte, so there are at most 16,777,217 of them.
+/// Each read but the last gives at least one byte, so there are at most `MAX_INPUT + 1` of them.
 pub(crate) fn read_journal_parts<R: Read>(
     alloc: Global,
     reader: &mut Watched<R>,

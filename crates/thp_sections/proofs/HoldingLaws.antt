@@ -70,7 +70,7 @@ never_call s h node.Close = never s h call.close
 never_call s h node.Count = λ e. cc
 
 never_memory : (s : Shape) (h : History) (c : ℕ) (step : Step) → NotMemory (refusal_of s h c step)
-never_memory s h c (steps.Call k) = never_call s h k
+never_memory s h c (steps.One k) = never_call s h k
 never_memory s h c (Take n) = never s h (call.take c)
 never_memory s h c SplitNext = λ e. cc
 never_memory s h c PutBack = λ e. cc
@@ -159,21 +159,21 @@ module _ (p q : PassState) (bs : List (Option BatchState)) (c : ℕ) (same : q �
         | inr none ↦ inr (rw (shape, f.others.goes_on) at none.0, none.1)
       ])
 
-does_refused : (s : Shape) (h : History) (c : ℕ) (k : NodeCall) (batch : Option Open) (why : Refusal) → refusal_of_call s h k ≡ Some why → Does s h c batch (steps.Call k) [] (Err why) batch
+does_refused : (s : Shape) (h : History) (c : ℕ) (k : NodeCall) (batch : Option Open) (why : Refusal) → refusal_of_call s h k ≡ Some why → Does s h c batch (steps.One k) [] (Err why) batch
 unfolding Does
 does_refused s h c k batch why e = rw e (refl, refl, refl)
 
-does_call : (s : Shape) (h : History) (c : ℕ) (k : NodeCall) (batch : Option Open) (own : List Event) (answer : Reply) → refusal_of_call s h k ≡ None → DoesCall s h c k own (Ok answer) → Does s h c batch (steps.Call k) own (Ok answer) batch
+does_call : (s : Shape) (h : History) (c : ℕ) (k : NodeCall) (batch : Option Open) (own : List Event) (answer : Reply) → refusal_of_call s h k ≡ None → DoesCall s h c k own (Ok answer) → Does s h c batch (steps.One k) own (Ok answer) batch
 unfolding Does
 does_call s h c k batch own answer e does = rw e (does, refl)
 
 -- a page was allocated
-pub alloc_done : (p q : PassState) (bs : List (Option BatchState)) (c : ℕ) (page : ℕ) → q ≡ at_front p q.front → Called p q c (DidAlloc p.shape c page) → HeldAnswered c (steps.Call node.Alloc) (record { pass = p; batches = bs }) (record { pass = q; batches = bs }) (Ok (reply.Page page))
+pub alloc_done : (p q : PassState) (bs : List (Option BatchState)) (c : ℕ) (page : ℕ) → q ≡ at_front p q.front → Called p q c (DidAlloc p.shape c page) → HeldAnswered c (steps.One node.Alloc) (record { pass = p; batches = bs }) (record { pass = q; batches = bs }) (Ok (reply.Page page))
 alloc_done p q bs c page same r =
-    held_called p q bs c same (steps.Call node.Alloc) (reply.Page page) (DidAlloc p.shape c page) r
+    held_called p q bs c same (steps.One node.Alloc) (reply.Page page) (DidAlloc p.shape c page) r
     (λ h own d. does_call p.shape h c node.Alloc _ own (reply.Page page) d.allowed (d.block, rw d.number at d.recorded, rw d.number refl))
 
-pub count_done : (p q : PassState) (bs : List (Option BatchState)) (c n : ℕ) → Follows p q → n ≡ length (queue q.shape q.front) → HeldAnswered c (steps.Call node.Count) (record { pass = p; batches = bs }) (record { pass = q; batches = bs }) (Ok (reply.Count n))
+pub count_done : (p q : PassState) (bs : List (Option BatchState)) (c n : ℕ) → Follows p q → n ≡ length (queue q.shape q.front) → HeldAnswered c (steps.One node.Count) (record { pass = p; batches = bs }) (record { pass = q; batches = bs }) (Ok (reply.Count n))
 count_done p q bs c n f is = record {
   others = f.others.others;
   own = [];
@@ -182,23 +182,23 @@ count_done p q bs c n f is = record {
   does = does_call p.shape (p.front ++ f.others.others) c node.Count _ [] (reply.Count n) refl (refl, rw (is, ap (λ (x : PassState). x.shape) f.same, f.others.goes_on) refl);
 }
 
-pub call_failed : (p q : PassState) (bs : List (Option BatchState)) (c : ℕ) (k : NodeCall) (m : ℕ) (fault : CellFault) → q ≡ at_front p q.front → Failed p q (refusal_of_call q.shape q.front k) m fault → HeldDone c (steps.Call k) (record { pass = p; batches = bs }) (record { pass = q; batches = bs }) (Err fault)
-call_failed p q bs c k m fault same failed = held_failed p q bs c same (steps.Call k) m fault failed (λ h why e. does_refused p.shape h c k _ why e)
+pub call_failed : (p q : PassState) (bs : List (Option BatchState)) (c : ℕ) (k : NodeCall) (m : ℕ) (fault : CellFault) → q ≡ at_front p q.front → Failed p q (refusal_of_call q.shape q.front k) m fault → HeldDone c (steps.One k) (record { pass = p; batches = bs }) (record { pass = q; batches = bs }) (Err fault)
+call_failed p q bs c k m fault same failed = held_failed p q bs c same (steps.One k) m fault failed (λ h why e. does_refused p.shape h c k _ why e)
 
 -- a call that tells nothing
 pub unit_done : (p q : PassState) (bs : List (Option BatchState)) (c : ℕ) (k : NodeCall) (w : What) (r : Result (Unit {0}) CellFault) (m : ℕ) (call : Call) → q ≡ at_front p q.front → OnOk r (Called p q c (DidOne p.shape call c w)) → IfErr r (Failed p q (refusal_of_call q.shape q.front k) m)
     → ((s : Shape) (h : History) → refusal_of_call s h k ≡ refusal s h call) → ((s : Shape) (h : History) (own : List Event) → own ≡ by c w ∷ [] → DoesCall s h c k own (Ok reply.Unit))
-    → HeldDone c (steps.Call k) (record { pass = p; batches = bs }) (record { pass = q; batches = bs }) (unit_reply r)
+    → HeldDone c (steps.One k) (record { pass = p; batches = bs }) (record { pass = q; batches = bs }) (unit_reply r)
 unit_done p q bs c k w (Ok x) m call same called failed is does =
-    held_called p q bs c same (steps.Call k) reply.Unit (DidOne p.shape call c w) called (λ h own d. does_call p.shape h c k _ own reply.Unit (is p.shape h ∙ d.allowed) (does p.shape h own d.recorded))
+    held_called p q bs c same (steps.One k) reply.Unit (DidOne p.shape call c w) called (λ h own d. does_call p.shape h c k _ own reply.Unit (is p.shape h ∙ d.allowed) (does p.shape h own d.recorded))
 unit_done p q bs c k w (Err fault) m call same called failed is does = call_failed p q bs c k m fault same failed
 
 -- a call that may give frames back
 pub loss_done : (p q : PassState) (bs : List (Option BatchState)) (c page : ℕ) (k : NodeCall) (w : Outcome → List Bool → What) (r : Result Done CellFault) (m : ℕ) (call : Call) → q ≡ at_front p q.front → IfOk r (λ d. Called p q c (DidLose p.shape call c page w d)) → IfErr r (Failed p q (refusal_of_call q.shape q.front k) m)
     → ((s : Shape) (h : History) → refusal_of_call s h k ≡ refusal s h call) → ((s : Shape) (h : History) (own : List Event) (d : Done) → own ≡ by c (w d.outcome d.released) ∷ [] → DoesCall s h c k own (Ok (reply.Done d)))
-    → HeldDone c (steps.Call k) (record { pass = p; batches = bs }) (record { pass = q; batches = bs }) (loss_reply r)
+    → HeldDone c (steps.One k) (record { pass = p; batches = bs }) (record { pass = q; batches = bs }) (loss_reply r)
 loss_done p q bs c page k w (Ok done) m call same called failed is does =
-    held_called p q bs c same (steps.Call k) (reply.Done done) (DidLose p.shape call c page w done) called (λ h own d. does_call p.shape h c k _ own (reply.Done done) (is p.shape h ∙ d.allowed) (does p.shape h own done d.recorded))
+    held_called p q bs c same (steps.One k) (reply.Done done) (DidLose p.shape call c page w done) called (λ h own d. does_call p.shape h c k _ own (reply.Done done) (is p.shape h ∙ d.allowed) (does p.shape h own done d.recorded))
 loss_done p q bs c page k w (Err fault) m call same called failed is does = call_failed p q bs c k m fault same failed
 
 -- ---- calls that change an open batch

@@ -1,5 +1,6 @@
 -- What one step of a caller does to its node and to its open batch there, and what it is answered.
 use Rattle.std.specs.Prelude.{◌≡◌, ℕ, ◌≤◌, ⊤, Bool, List, [], ◌∷◌, Option, Some, None, Result, Ok, Err, length, take}
+use Rattle.thp_model.specs.Limits.{max_batch}
 use Rattle.thp_model.specs.declared.events.Event.{Event}
 use Rattle.thp_model.specs.declared.events.Outcome.{Outcome}
 use Rattle.thp_model.specs.declared.events.What.{What}
@@ -23,7 +24,7 @@ use Rattle.thp_text.specs.declared.script.Op.TheVariants as op
 use Rattle.thp_sections.specs.declared.steps.NodeCall.{NodeCall}
 use Rattle.thp_sections.specs.declared.steps.NodeCall.TheVariants as node
 use Rattle.thp_sections.specs.declared.steps.Step.{Step}
-use Rattle.thp_sections.specs.declared.steps.Step.TheVariants.{Call, Take, SplitNext, PutBack}
+use Rattle.thp_sections.specs.declared.steps.Step.TheVariants.{One, Take, SplitNext, PutBack}
 use Rattle.thp_sections.specs.declared.reply.Reply.{Reply}
 use Rattle.thp_sections.specs.declared.reply.Reply.TheVariants as reply
 
@@ -52,7 +53,7 @@ refusal_of_call s h node.Close = refusal s h call.close
 refusal_of_call s h node.Count = None
 
 abbrev pub refusal_of : Shape → History → ℕ → Step → Option Refusal
-refusal_of s h c (Call k) = refusal_of_call s h k
+refusal_of s h c (One k) = refusal_of_call s h k
 refusal_of s h c (Take n) = refusal s h (call.take c)
 refusal_of s h c _ = None
 
@@ -88,7 +89,7 @@ Unless None own answer batch after P = P
 -- Of a step of caller c at h, with this open batch on the node: its own events, its answer, and the open batch after it.
 -- A caller has one open batch at most: the runner refuses a take beside it, and answers that there is none.
 unfoldable pub Does : Shape → History → ℕ → Option Open → Step → List Event → Reaction → Option Open → Type 0
-Does s h c batch (Call k) own answer after = Unless (refusal_of_call s h k) own answer batch after (DoesCall s h c k own answer × (after ≡ batch))
+Does s h c batch (One k) own answer after = Unless (refusal_of_call s h k) own answer batch after (DoesCall s h c k own answer × (after ≡ batch))
 Does s h c (Some b) (Take n) own answer after = Nothing (Some b) own answer after (Err HasBatch)
 Does s h c None (Take n) own answer after =
     Unless (refusal s h (call.take c)) own answer None after
@@ -102,11 +103,11 @@ Does s h c (Some b) PutBack own answer after =
 
 -- a step that there is: a take is of as many pages as a batch holds
 abbrev pub IsStep : Step → Type 0
-IsStep (Take n) = n ≤ 128
+IsStep (Take n) = n ≤ max_batch
 IsStep _ = ⊤
 
 -- a command that there is
 abbrev pub IsFit : Op → Type 0
-IsFit (op.Scan n) = n ≤ 128
-IsFit (op.Take n) = n ≤ 128
+IsFit (op.Scan n) = n ≤ max_batch
+IsFit (op.Take n) = n ≤ max_batch
 IsFit _ = ⊤

@@ -2,6 +2,7 @@
 use Rattle.std.specs.Prelude.{◌≡◌, ◌⊎◌, ℕ, ◌+◌, ◌≤◌, nat_eq, ⊤, Bool, true, false, List, [], ◌∷◌, ◌++◌, All, Option, Some, None, Result, Ok, Err, length, map, filter, if◌then◌else◌}
 use Rattle.thp_cell.specs.declared.fault.CellFault.{CellFault}
 use Rattle.thp_cell.specs.declared.fault.CellFault.TheVariants.{Busy, Refused}
+use Rattle.thp_model.specs.Limits.{max_batch}
 use Rattle.thp_model.specs.declared.page_call.PageCall.{PageCall}
 use Rattle.thp_model.specs.declared.refusal.Refusal.{Refusal}
 use Rattle.thp_model.specs.declared.refusal.Refusal.TheVariants.{OutOfMemory}
@@ -14,7 +15,7 @@ use Rattle.thp_text.specs.declared.script.Op.TheVariants as op
 use Rattle.thp_text.specs.PageCommands.{page_call_of}
 use Rattle.thp_sections.specs.declared.steps.NodeCall.TheVariants as node
 use Rattle.thp_sections.specs.declared.steps.Step.{Step}
-use Rattle.thp_sections.specs.declared.steps.Step.TheVariants.{Call, Take, SplitNext, PutBack}
+use Rattle.thp_sections.specs.declared.steps.Step.TheVariants.{One, Take, SplitNext, PutBack}
 use Rattle.thp_sections.specs.declared.reply.Reply.{Reply}
 use Rattle.thp_sections.specs.declared.reply.Reply.TheVariants as reply
 use Rattle.thp_sections.specs.declared.scanning.Begun.{Begun}
@@ -28,14 +29,14 @@ pub record Told : Type 0 where
 
 -- the call about a page, where there is one, or else another step
 abbrev pub page_step : Option (ℕ × PageCall) → Step → Step
-page_step (Some call) other = Call (node.Page call.0 call.1)
+page_step (Some call) other = One (node.Page call.0 call.1)
 page_step None other = other
 
 -- the one step of a command, or the first of a scan; of the commands that are about no page only a put-back is left last
 abbrev pub first_step : Op → Step
-first_step op.Alloc = Call node.Alloc
-first_step op.Close = Call node.Close
-first_step op.Count = Call node.Count
+first_step op.Alloc = One node.Alloc
+first_step op.Close = One node.Close
+first_step op.Count = One node.Count
 first_step (op.Scan n) = Take n
 first_step (op.Take n) = Take n
 first_step op.SplitNext = SplitNext
@@ -189,7 +190,7 @@ Turned o told (Ended answer) = TurnsOut o told answer
 pub record Holding (batch : Option Open) (begun : Begun) : Type 0 where
   pub open_batch : Open
   pub is : batch ≡ Some open_batch
-  pub few : tries_of begun.so_far + length open_batch.left ≤ 128
+  pub few : tries_of begun.so_far + length open_batch.left ≤ max_batch
   pub short : begun.steps ≤ 2 + tries_of begun.so_far
 
 -- a command that can go on

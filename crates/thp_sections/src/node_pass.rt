@@ -87,7 +87,7 @@ impl<'a> NodePass<'a> {
         ensures { HeldDone caller step self.old self.new (answer_of result reply.new) }
     {
         match step {
-            Step::Call(call) => self.call(caller, call, reply),
+            Step::One(call) => self.call(caller, call, reply),
             Step::Take(count) => self.take(caller, count, reply),
             Step::SplitNext => self.split_next(caller, reply),
             Step::PutBack => self.put_back(caller, reply),
@@ -158,7 +158,7 @@ impl<'a> NodePass<'a> {
 
     fn call(&mut self, caller: u32, call: NodeCall, reply: &mut Reply) -> Result<(), CellFault>
         requires caller { HasCaller self.old.pass caller }
-        ensures { HeldDone caller (Step.Call call) self.old self.new (answer_of result reply.new) }
+        ensures { HeldDone caller (Step.One call) self.old self.new (answer_of result reply.new) }
     {
         match call {
             NodeCall::Alloc => match self.cell.alloc_page(&mut self.pass, caller) {
@@ -185,7 +185,7 @@ impl<'a> NodePass<'a> {
         reply: &mut Reply,
     ) -> Result<(), CellFault>
         requires caller { HasCaller self.old.pass caller }
-        ensures { HeldDone caller (Step.Call (NodeCall.Page page call)) self.old self.new (answer_of result reply.new) }
+        ensures { HeldDone caller (Step.One (NodeCall.Page page call)) self.old self.new (answer_of result reply.new) }
     {
         let page = PageId(page);
         match call {

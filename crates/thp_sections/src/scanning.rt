@@ -1,5 +1,6 @@
 //! How far the steps of a command are.
 ghost use Rattle.std.specs.Prelude.{◌≡◌, ◌+◌, ◌≤◌, Ok, MatchOption};
+ghost use Rattle.thp_model.specs.Limits.{max_batch};
 ghost use Rattle.thp_sections.specs.Turns.{On, Ended, first_begun, is_scan, next_step, scan_goes_on, tries_of};
 
 use crate::reply::Reply;
@@ -32,17 +33,18 @@ pub(crate) fn first_begun() -> Begun
 }
 
 /// The next step of a command.
+#[inline(always)]
 pub(crate) fn next_step(op: Op, begun: Begun) -> Step
-    requires { tries_of begun.so_far ≤ 128 }
+    requires { tries_of begun.so_far ≤ max_batch }
     ensures { result ≡ next_step op begun }
 {
     if let Some((page, call)) = op.page_call() {
-        return Step::Call(NodeCall::Page { page, call });
+        return Step::One(NodeCall::Page { page, call });
     }
     match op {
-        Op::Alloc => Step::Call(NodeCall::Alloc),
-        Op::Close => Step::Call(NodeCall::Close),
-        Op::Count => Step::Call(NodeCall::Count),
+        Op::Alloc => Step::One(NodeCall::Alloc),
+        Op::Close => Step::One(NodeCall::Close),
+        Op::Count => Step::One(NodeCall::Count),
         Op::Scan { count } => {
             if begun.steps == 0 {
                 Step::Take(u32::from(count))
@@ -60,7 +62,7 @@ pub(crate) fn next_step(op: Op, begun: Begun) -> Step
 
 /// How many pages a scan has tried.
 fn tries(so_far: &ScanReply) -> u32
-    requires { tries_of so_far.now ≤ 128 }
+    requires { tries_of so_far.now ≤ max_batch }
     ensures { result ≡ tries_of so_far.now }
 {
     so_far.split + so_far.pinned + so_far.used
@@ -75,8 +77,8 @@ pub(crate) fn is_scan(op: Op) -> bool
 
 /// Counts what a step of a scan was replied. Answers the scan where that was its last step.
 pub(crate) fn count_reply(begun: &mut Begun, reply: &Reply) -> Option<Reply>
-    requires few { tries_of begun.old.so_far ≤ 128 }
-    requires short { begun.old.steps ≤ 130 }
+    requires few { tries_of begun.old.so_far ≤ max_batch }
+    requires short { begun.old.steps ≤ max_batch + 2 }
     ensures { MatchOption result (scan_goes_on begun.old (Ok reply.now) ≡ On begun.new) (λ answer. scan_goes_on begun.old (Ok reply.now) ≡ Ended (Ok answer)) }
 {
     match *reply {

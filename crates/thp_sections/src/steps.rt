@@ -6,6 +6,7 @@ ghost use Rattle.thp_sections.specs.Fronts.{Fronts, Goes, HasCaller, StepDone};
 ghost use Rattle.thp_sections.specs.Sections.{is_open};
 ghost use Rattle.thp_sections.specs.Turns.{by_cell};
 
+use crate::limits::MAX_TRIES;
 use crate::reply::Reply;
 use std::hint::spin_loop;
 use thp_cell::CellFault;
@@ -28,7 +29,7 @@ pub enum NodeCall {
 #[derive(Clone, Copy, Debug, PartialEq, Eq)]
 pub enum Step {
     /// A call that needs no batch.
-    Call(NodeCall),
+    One(NodeCall),
     /// A take of up to so many pages.
     Take(u32),
     /// A try of the next page of the open batch.
@@ -67,7 +68,7 @@ pub trait Steps {
         ensures done { StepDone caller node step (fronts self.old) (fronts self.new) (answer_of result reply.new) };
 }
 
-/// A step, tried again where the node is busy, 64 times in all, with a pause between two tries.
+/// A step, tried again where the node is busy, `MAX_TRIES` times in all, with a pause between two tries.
 pub(crate) fn try_step<S: Steps>(
     steps: &mut S,
     caller: u32,
@@ -81,7 +82,7 @@ pub(crate) fn try_step<S: Steps>(
     ensures goes { Goes caller (S.fronts steps.old) (S.fronts steps.new) }
     ensures done { StepDone caller node step (S.fronts steps.old) (S.fronts steps.new) (answer_of result reply.new) }
 {
-    for tries in 0..63u32 {
+    for tries in 0..MAX_TRIES - 1 {
         let called = steps.step(caller, node, step, reply);
         if !is_busy(called) {
             return called;

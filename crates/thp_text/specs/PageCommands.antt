@@ -1,5 +1,5 @@
 -- The commands about one page: the page, and the call.
-use Rattle.std.specs.Prelude.{ℕ, ◌≤◌, ⊤, Option, Some, None}
+use Rattle.std.specs.Prelude.{ℕ, Option, Some, None}
 use Rattle.thp_model.specs.declared.page_call.Gain.TheVariants as gain
 use Rattle.thp_model.specs.declared.page_call.Loss.TheVariants as loss
 use Rattle.thp_model.specs.declared.page_call.PageCall.{PageCall}
@@ -31,14 +31,3 @@ op_on page (Gain (gain.Zero first count)) = op.Zero first count page
 op_on page (Loss loss.UnmapWhole) = op.UnmapWhole page
 op_on page (Loss (loss.UnmapSub first count)) = op.Unmap first count page
 op_on page (Loss loss.Unpin) = op.Unpin page
-
--- a command's operands take two bytes each
-abbrev pub AreShort : ℕ → ℕ → Type 0
-AreShort first count = (first ≤ 65535) × (count ≤ 65535)
-
-abbrev pub IsShort : PageCall → Type 0
-IsShort (Gain (gain.MapSub first count)) = AreShort first count
-IsShort (Gain (gain.Write first count)) = AreShort first count
-IsShort (Gain (gain.Zero first count)) = AreShort first count
-IsShort (Loss (loss.UnmapSub first count)) = AreShort first count
-IsShort call = ⊤

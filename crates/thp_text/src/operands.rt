@@ -2,13 +2,13 @@
 ghost use Rattle.std.specs.Prelude.{◌≡◌, ◌≤◌, ◌<◌, IfOk};
 ghost use Rattle.thp_text.specs.Commands.{batch_command, command_of, node_command, node_number, number_up_to, page_command, range_command};
 ghost use Rattle.thp_text.specs.Operands.{batch_op, call_on};
-ghost use Rattle.thp_text.specs.PageCommands.{op_on, IsShort};
+ghost use Rattle.thp_text.specs.PageCommands.{op_on};
 
 use crate::fault::TextKind;
 use crate::script::{Command, Op};
 use crate::settings::Settings;
 use crate::words::{Words, number};
-use thp_model::{Gain, Loss, PageCall};
+use thp_model::{Gain, Loss, MAX_BATCH, PageCall};
 
 /// The calls on a range of a page's subpages, behind whose name stand a node, the page and the range.
 #[derive(Clone, Copy)]
@@ -22,10 +22,8 @@ enum RangeCall {
 impl RangeCall {
     #[inline(always)]
     fn on(self, first: u16, count: u16) -> PageCall
-        ensures call { result ≡ call_on self first count }
-        ensures short { IsShort result }
+        ensures { result ≡ call_on self first count }
     {
-        let (first, count) = (u32::from(first), u32::from(count));
         match self {
             RangeCall::Map => PageCall::Gain(Gain::MapSub { first, count }),
             RangeCall::Unmap => PageCall::Loss(Loss::UnmapSub { first, count }),
@@ -98,7 +96,6 @@ fn node_command(settings: &Settings, op: Op, mut words: Words) -> Result<Command
 #[tactic(auto, unfolding(crate::specs::Commands::page_command))]
 #[inline(always)]
 fn page_command(settings: &Settings, call: PageCall, mut words: Words) -> Result<Command, TextKind>
-    requires { IsShort call }
     ensures { result ≡ page_command (λ page. op_on page call) settings.now words.entry }
 {
     let (Some(node), Some(page), None) = (words.next(), words.next(), words.next()) else {
@@ -133,8 +130,8 @@ fn range_command(
     };
     let node = node_number(settings, node)?;
     let page = number_up_to(u64::MAX, page)?;
-    let first = small_number_up_to(65_535, first)?;
-    let count = small_number_up_to(65_535, count)?;
+    let first = small_number_up_to(u16::MAX, first)?;
+    let count = small_number_up_to(u16::MAX, count)?;
     Ok(Command {
         node,
         op: Op::on_page(page, call.on(first, count)),
@@ -155,7 +152,7 @@ fn batch_command(
         return Err(TextKind::BadCount);
     };
     let node = node_number(settings, node)?;
-    let count = small_number_up_to(128, count)?;
+    let count = small_number_up_to(MAX_BATCH as u16, count)?;
     Ok(Command {
         node,
         op: call.op(count),

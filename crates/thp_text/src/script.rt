@@ -1,6 +1,6 @@
 //! Scripts as values.
 ghost use Rattle.std.specs.Prelude.{◌≡◌, Some};
-ghost use Rattle.thp_text.specs.PageCommands.{IsShort, op_on, page_call_of};
+ghost use Rattle.thp_text.specs.PageCommands.{op_on, page_call_of};
 
 use crate::sequence::Sequence;
 use thp_model::{Gain, Loss, PageCall};
@@ -52,19 +52,15 @@ impl Op {
             Op::MapWhole { page } => (page, PageCall::Gain(Gain::MapWhole)),
             Op::UnmapWhole { page } => (page, PageCall::Loss(Loss::UnmapWhole)),
             Op::Map { first, count, page } => {
-                let (first, count) = (u32::from(first), u32::from(count));
                 (page, PageCall::Gain(Gain::MapSub { first, count }))
             }
             Op::Unmap { first, count, page } => {
-                let (first, count) = (u32::from(first), u32::from(count));
                 (page, PageCall::Loss(Loss::UnmapSub { first, count }))
             }
             Op::Write { first, count, page } => {
-                let (first, count) = (u32::from(first), u32::from(count));
                 (page, PageCall::Gain(Gain::Write { first, count }))
             }
             Op::Zero { first, count, page } => {
-                let (first, count) = (u32::from(first), u32::from(count));
                 (page, PageCall::Gain(Gain::Zero { first, count }))
             }
             Op::SplitPmd { page } => (page, PageCall::Gain(Gain::SplitPmd)),
@@ -78,35 +74,18 @@ impl Op {
     /// The command of a call about a page.
     #[inline(always)]
     pub fn on_page(page: u64, call: PageCall) -> Op
-        requires short { IsShort call }
         ensures call { page_call_of result ≡ Some (page, call) }
         ensures made { result ≡ op_on page call }
     {
         match call {
             PageCall::Gain(Gain::MapWhole) => Op::MapWhole { page },
-            PageCall::Gain(Gain::MapSub { first, count }) => Op::Map {
-                first: first as u16,
-                count: count as u16,
-                page,
-            },
+            PageCall::Gain(Gain::MapSub { first, count }) => Op::Map { first, count, page },
             PageCall::Gain(Gain::SplitPmd) => Op::SplitPmd { page },
             PageCall::Gain(Gain::Pin) => Op::Pin { page },
-            PageCall::Gain(Gain::Write { first, count }) => Op::Write {
-                first: first as u16,
-                count: count as u16,
-                page,
-            },
-            PageCall::Gain(Gain::Zero { first, count }) => Op::Zero {
-                first: first as u16,
-                count: count as u16,
-                page,
-            },
+            PageCall::Gain(Gain::Write { first, count }) => Op::Write { first, count, page },
+            PageCall::Gain(Gain::Zero { first, count }) => Op::Zero { first, count, page },
             PageCall::Loss(Loss::UnmapWhole) => Op::UnmapWhole { page },
-            PageCall::Loss(Loss::UnmapSub { first, count }) => Op::Unmap {
-                first: first as u16,
-                count: count as u16,
-                page,
-            },
+            PageCall::Loss(Loss::UnmapSub { first, count }) => Op::Unmap { first, count, page },
             PageCall::Loss(Loss::Unpin) => Op::Unpin { page },
         }
     }

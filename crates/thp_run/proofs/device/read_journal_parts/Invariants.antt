@@ -1,11 +1,12 @@
-use Rattle.std.proofs.Common.{◌≡◌, ◌++◌, ◌-◌, ℕ, List, length, false}
+use Rattle.std.proofs.Common.{◌≡◌, ◌++◌, ◌+◌, ◌-◌, ℕ, List, length, false}
 use Rattle.std.specs.Io.KnownBytes.{Consumes}
+use Rattle.thp_text.specs.Limits.{max_input}
 use Rattle.thp_journal_reader.specs.Journals.{journals_of}
 use Rattle.thp_journal_reader.specs.Parts.{told_with}
 use Rattle.thp_run.proofs.device.read_journal_parts.Given as goal
 
 abbrev pub decreases-loop-given : goal.decreases-loop-given
-decreases-loop-given g l = 16777217 - l.given
+decreases-loop-given g l = max_input + 1 - l.given
 
 -- the bytes that were read, with those to come, tell what the reader says
 abbrev pub invariant-loop-given : goal.invariant-loop-given
