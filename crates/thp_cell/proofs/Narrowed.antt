@@ -50,5 +50,5 @@ pub lose_as : (p q : PassState) (c page : ℕ) (a b : Call) (v w : Outcome → L
 lose_as p q c page a b v w d same whole =
     says_as p q c (DidLose p.shape a c page v d) (DidLose p.shape b c page w d)
     (λ h es s.
-      let ok : refusal p.shape h b ≡ None = sym (same h) ∙ s.allowed in
-      record { allowed = ok; recorded = s.recorded ∙ ap (λ x. by c x ∷ []) (whole h ok); outcome_is = s.outcome_is; released_is = s.released_is })
+    let ok : refusal p.shape h b ≡ None = sym (same h) ∙ s.allowed in
+    record { allowed = ok; recorded = s.recorded ∙ ap (λ x. by c x ∷ []) (whole h ok); outcome_is = s.outcome_is; released_is = s.released_is })

@@ -24,8 +24,8 @@ returns-clause-recorded c =
     ok_then c.gain.result _ _ c.gain.ensures.recorded
     (one_as c.args.pass.now c.gain.new.pass c.args.caller _ _ _ _ (λ h. same c s h low)
     (λ h ok.
-      let whole = zero_fill-whole s h c.args.page c.args.first c.args.count low ok in
-      ap₂ (λ f n. what.Zero c.args.page f n) (c.operands-first.ensures.first ∙ whole.0) (c.operands-first.ensures.count ∙ whole.1)))
+    let whole = zero_fill-whole s h c.args.page c.args.first c.args.count low ok in
+    ap₂ (λ f n. what.Zero c.args.page f n) (c.operands-first.ensures.first ∙ whole.0) (c.operands-first.ensures.count ∙ whole.1)))
 
 pub returns-clause-failed : goal.returns-clause-failed
 returns-clause-failed c =

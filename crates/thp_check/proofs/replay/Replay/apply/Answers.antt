@@ -12,7 +12,6 @@ pub returns-in-UnmapWhole : goal.returns-in-UnmapWhole
 returns-in-UnmapWhole c =
     let P : What → Type 0 = λ w. Follows c.args.self.now c.lose.new.self c.args.caller w c.lose.result in subst P (sym c.in-UnmapWhole.is) (c.lose.ensures c.args.caller)
 
-
 pub returns-in-Unpin : goal.returns-in-Unpin
 returns-in-Unpin c =
     let P : What → Type 0 = λ w. Follows c.args.self.now c.lose-in-Unpin.new.self c.args.caller w c.lose-in-Unpin.result in subst P (sym c.in-Unpin.is) (c.lose-in-Unpin.ensures c.args.caller)

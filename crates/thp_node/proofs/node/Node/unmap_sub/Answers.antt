@@ -24,6 +24,6 @@ returns-clause-refused c = subst (λ (w : Option Refusal). IfErr c.lose.result (
 pub returns-clause-recorded : goal.returns-clause-recorded
 returns-clause-recorded c =
     both_if c.lose.result _ _ _ (returns-clause-allowed c) c.lose.ensures.recorded (λ x a d.
-      let whole = unmap_sub-whole c.args.self.now.shape c.args.self.now.journal c.args.page c.args.first c.args.count c.operands-first.ensures.low a in
-      let P : ℕ → ℕ → Type 0 = λ f n. Did c.args.self.now c.lose.new.self c.args.caller (by c.args.caller (what.UnmapSub x.outcome c.args.page f n x.released) ∷ []) in
-      subst (λ n. P c.args.first n) (c.operands-first.ensures.count ∙ whole.1) (subst (λ f. P f c.operands-first.result.1) (c.operands-first.ensures.first ∙ whole.0) d))
+    let whole = unmap_sub-whole c.args.self.now.shape c.args.self.now.journal c.args.page c.args.first c.args.count c.operands-first.ensures.low a in
+    let P : ℕ → ℕ → Type 0 = λ f n. Did c.args.self.now c.lose.new.self c.args.caller (by c.args.caller (what.UnmapSub x.outcome c.args.page f n x.released) ∷ []) in
+    subst (λ n. P c.args.first n) (c.operands-first.ensures.count ∙ whole.1) (subst (λ f. P f c.operands-first.result.1) (c.operands-first.ensures.first ∙ whole.0) d))

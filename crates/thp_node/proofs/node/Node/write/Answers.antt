@@ -25,5 +25,5 @@ pub returns-clause-recorded : goal.returns-clause-recorded
 returns-clause-recorded c =
     let P : ℕ → ℕ → Type 0 = λ f n. Did c.args.self.now c.gain.new.self c.args.caller (by c.args.caller (what.Write c.args.page f n) ∷ []) in
     both_ok c.gain.result _ _ _ (returns-clause-allowed c) c.gain.ensures.recorded (λ a d.
-      let whole = write-whole c.args.self.now.shape c.args.self.now.journal c.args.page c.args.first c.args.count c.operands-first.ensures.low a in
-      subst (λ n. P c.args.first n) (c.operands-first.ensures.count ∙ whole.1) (subst (λ f. P f c.operands-first.result.1) (c.operands-first.ensures.first ∙ whole.0) d))
+    let whole = write-whole c.args.self.now.shape c.args.self.now.journal c.args.page c.args.first c.args.count c.operands-first.ensures.low a in
+    subst (λ n. P c.args.first n) (c.operands-first.ensures.count ∙ whole.1) (subst (λ f. P f c.operands-first.result.1) (c.operands-first.ensures.first ∙ whole.0) d))
