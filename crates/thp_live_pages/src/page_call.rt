@@ -1,5 +1,5 @@
 //! What a call asks of one page, and what it does to the page.
-ghost use Rattle.std.specs.Prelude.{◌≡◌, ℕ, not, OnOk, OnErr, IfOk};
+ghost use Rattle.std.specs.Prelude.{◌≡◌, ℕ, not, OnOk, OnErr};
 ghost use Rattle.std.specs.Result.{result_err};
 ghost use Rattle.thp_model.specs.PageCalls.{loss_call, Loses};
 ghost use Rattle.thp_model.specs.Pages.{page_refusal};
@@ -10,25 +10,33 @@ ghost use Rattle.thp_live_pages.specs.PlacesState.{is_nowhere};
 use thp_model::{Done, Loss, Outcome, Refusal, SubSet};
 use thp_page::{Change, Page, Standing};
 
-// Takes it from a page that stands there, on a node that is closed or not, unless that is refused. Answers what becomes of
-// the page, and the frames given back.
+// Takes it from a page that stands there, on a node that is closed or not, unless that is refused. What becomes of the page,
+// and the frames given back, then stand in `done`.
 #[inline(always)]
 pub(crate) fn lose_by(
     loss: Loss,
     page: &mut Page,
     standing: Standing,
     closed: bool,
-) -> Result<Done, Refusal>
+    done: &mut Done,
+) -> Result<(), Refusal>
     ensures refusal { (p : ℕ) → result_err result ≡ page_refusal page.old (loss_call loss p) }
     ensures page { OnOk result (Loses loss page.old page.new) }
-    ensures outcome { IfOk result (λ done. done.outcome ≡ page_outcome page.old page.new closed (not (is_nowhere standing))) }
-    ensures released { IfOk result (λ done. done.released ≡ page_released page.old page.new done.outcome) }
+    ensures outcome { OnOk result (done.new.outcome ≡ page_outcome page.old page.new closed (not (is_nowhere standing))) }
+    ensures released { OnOk result (done.new.released ≡ page_released page.old page.new done.new.outcome) }
     ensures kept { OnErr result (page.new ≡ page.old) }
 {
-    let change = page.lose(loss)?;
+    let mut change = Change::none();
+    match page.lose(loss, &mut change) {
+        Ok(()) => {}
+        Err(refusal) => return Err(refusal),
+    }
     let outcome = outcome_of(page, &change, standing, closed);
-    let released = released_by(page, &change, outcome);
-    Ok(Done { outcome, released })
+    *done = Done {
+        outcome,
+        released: released_by(page, &change, outcome),
+    };
+    Ok(())
 }
 
 // What a change comes to, by the page after it.

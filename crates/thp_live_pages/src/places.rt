@@ -136,22 +136,26 @@ impl Places {
     }
 
     /// Takes mappings or a pin from the page of a block, unless the page refuses that, and then queues or frees the page, or
-    /// leaves it. Answers that and the frames given back, and the caller whose batch the page left. The block of a page that
-    /// is freed has no page then.
+    /// leaves it. That and the frames given back then stand in `done`; the answer is the caller whose batch the page left. The
+    /// block of a page that is freed has no page then.
     #[inline(always)]
     pub fn lose(
         &mut self,
         block: u32,
         loss: Loss,
         closed: bool,
-    ) -> Result<(Done, Option<u32>), Refusal>
+        done: &mut Done,
+    ) -> Result<Option<u32>, Refusal>
         requires occupied { IsSome (slot_at self.old.table block) }
         ensures refusal { AtSlot self.old.table block (λ x. (p : ℕ) → result_err result ≡ page_refusal x.page (loss_call loss p)) }
-        ensures lost { IfOk result (λ r. AtSlot self.old.table block (λ x. Lost loss closed x self.old self.new block r.0 r.1)) }
+        ensures lost { IfOk result (λ left. AtSlot self.old.table block (λ x. Lost loss closed x self.old self.new block done.new left)) }
         ensures kept { OnErr result (self.new ≡ self.old) }
     {
         let standing = self.table.standing(block);
-        let done = self.reduce(block, loss, closed)?;
+        match self.reduce(block, loss, closed, done) {
+            Ok(()) => {}
+            Err(refusal) => return Err(refusal),
+        }
         let left = match done.outcome {
             Outcome::Stays => None,
             Outcome::Queued => {
@@ -163,7 +167,7 @@ impl Places {
                 batch_of(standing)
             }
         };
-        Ok((done, left))
+        Ok(left)
     }
 
     /// Takes the oldest page of the queue, which isn't empty, into a caller's batch.
@@ -318,17 +322,23 @@ impl Places {
         chain.pop(&mut self.table)
     }
 
-    // Takes mappings or a pin from the page of a block, unless that is refused, and answers what becomes of it.
+    // Takes mappings or a pin from the page of a block, unless that is refused. What becomes of it then stands in `done`.
     #[inline(always)]
-    fn reduce(&mut self, block: u32, loss: Loss, closed: bool) -> Result<Done, Refusal>
+    fn reduce(
+        &mut self,
+        block: u32,
+        loss: Loss,
+        closed: bool,
+        done: &mut Done,
+    ) -> Result<(), Refusal>
         requires occupied { IsSome (slot_at self.old.table block) }
         ensures refusal { AtSlot self.old.table block (λ x. (p : ℕ) → result_err result ≡ page_refusal x.page (loss_call loss p)) }
-        ensures reduced { IfOk result (λ done. AtSlot self.old.table block (λ x. Reduced loss closed x self.old self.new block done)) }
+        ensures reduced { OnOk result (AtSlot self.old.table block (λ x. Reduced loss closed x self.old self.new block done.new)) }
         ensures kept { OnErr result (self.new ≡ self.old) }
     {
         let standing = self.table.standing(block);
         match self.table.page_mut(block) {
-            Some(page) => lose_by(loss, page, standing, closed),
+            Some(page) => lose_by(loss, page, standing, closed, done),
             None => unreachable!(),
         }
     }

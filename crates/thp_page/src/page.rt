@@ -23,6 +23,19 @@ pub struct Change {
     pub released: SubSet,
 }
 
+impl Change {
+    /// No change: nothing in use before or after, and no frame given back.
+    pub fn none() -> Change
+        ensures { result ≡ record { unused = false; used_left = false; released = set_of (λ i. false) } }
+    {
+        Change {
+            unused: false,
+            used_left: false,
+            released: SubSet::empty(),
+        }
+    }
+}
+
 /// The map counts, the pins, the split state and the zero-filled subpages of one page.
 ///
 /// A mapping of the whole page by a PMD entry counts in `whole`, and one of a subpage by a PTE entry in that subpage's own

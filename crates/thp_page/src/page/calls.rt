@@ -48,18 +48,18 @@ impl Page {
         }
     }
 
-    /// Takes mappings or a pin from the page, unless that is refused, and answers what that did to its use.
+    /// Takes mappings or a pin from the page, unless that is refused. What that did to its use then stands in `change`.
     #[inline(always)]
-    pub fn lose(&mut self, loss: Loss) -> Result<Change, Refusal>
+    pub fn lose(&mut self, loss: Loss, change: &mut Change) -> Result<(), Refusal>
         ensures refusal { (p : ℕ) → result_err result ≡ page_refusal self.old (loss_call loss p) }
         ensures counts { OnOk result (Loses loss self.old self.new) }
-        ensures change { IfOk result (IsChange self.old self.new) }
+        ensures change { OnOk result (IsChange self.old self.new change.new) }
         ensures kept { OnErr result (self.new ≡ self.old) }
     {
         match loss {
-            Loss::UnmapWhole => self.try_unmap_whole(),
-            Loss::UnmapSub { first, count } => self.try_unmap_sub(first, count),
-            Loss::Unpin => self.try_unpin(),
+            Loss::UnmapWhole => self.try_unmap_whole(change),
+            Loss::UnmapSub { first, count } => self.try_unmap_sub(first, count, change),
+            Loss::Unpin => self.try_unpin(change),
         }
     }
 
@@ -79,7 +79,9 @@ impl Page {
         ensures change { IfOk result (IsChange self.old self.new) }
         ensures kept { OnErr result (self.new ≡ self.old) }
     {
-        self.lose(Loss::UnmapWhole)
+        let mut change = Change::none();
+        self.lose(Loss::UnmapWhole, &mut change)?;
+        Ok(change)
     }
 
     /// One more mapping of each of the `count` subpages from `first` on. Refused as `BadRange`, `Gone` and `TooMany`.
@@ -100,7 +102,11 @@ impl Page {
         ensures kept { OnErr result (self.new ≡ self.old) }
     {
         let (first, count) = self.operands(first, count);
-        self.lose(Loss::UnmapSub { first, count })
+        let mut change = Change::none();
+        match self.lose(Loss::UnmapSub { first, count }, &mut change) {
+            Ok(()) => Ok(change),
+            Err(refusal) => Err(refusal),
+        }
     }
 
     /// Makes a mapping of the whole page into one of each subpage. Refused as `IsSplit` and `NotMapped`.
@@ -127,8 +133,8 @@ impl Page {
         ensures counts { OnOk result (Pinned self.new self.old) }
         ensures kept { OnErr result (self.new ≡ self.old) }
     {
-        self.lose(Loss::Unpin)?;
-        Ok(())
+        let mut change = Change::none();
+        self.lose(Loss::Unpin, &mut change)
     }
 
     /// Data is written to each of the `count` subpages from `first` on, so that none of them is zero-filled any more. Refused
@@ -205,15 +211,18 @@ impl Page {
 
     // `unmap_whole`, or why it is refused.
     #[inline(always)]
-    fn try_unmap_whole(&mut self) -> Result<Change, Refusal>
+    fn try_unmap_whole(&mut self, change: &mut Change) -> Result<(), Refusal>
         ensures refusal { (p : ℕ) → result_err result ≡ page_refusal self.old (call.unmap_whole p) }
         ensures counts { OnOk result (WholeUnmapped self.old self.new) }
-        ensures change { IfOk result (IsChange self.old self.new) }
+        ensures change { OnOk result (IsChange self.old self.new change.new) }
         ensures kept { OnErr result (self.new ≡ self.old) }
     {
         match self.refusal_unmap_whole() {
             Some(refusal) => Err(refusal),
-            None => Ok(self.do_unmap_whole()),
+            None => {
+                *change = self.do_unmap_whole();
+                Ok(())
+            }
         }
     }
 
@@ -294,15 +303,23 @@ impl Page {
 
     // `unmap_sub`, or why it is refused.
     #[inline(always)]
-    fn try_unmap_sub(&mut self, first: u16, count: u16) -> Result<Change, Refusal>
+    fn try_unmap_sub(
+        &mut self,
+        first: u16,
+        count: u16,
+        change: &mut Change,
+    ) -> Result<(), Refusal>
         ensures refusal { (p : ℕ) → result_err result ≡ page_refusal self.old (call.unmap_sub p first count) }
         ensures counts { OnOk result (RangeUnmapped first count self.old self.new) }
-        ensures change { IfOk result (IsChange self.old self.new) }
+        ensures change { OnOk result (IsChange self.old self.new change.new) }
         ensures kept { OnErr result (self.new ≡ self.old) }
     {
         match self.refusal_unmap_sub(first, count) {
             Some(refusal) => Err(refusal),
-            None => Ok(self.do_unmap_sub(first, count)),
+            None => {
+                *change = self.do_unmap_sub(first, count);
+                Ok(())
+            }
         }
     }
 
@@ -423,21 +440,22 @@ impl Page {
 
     // `unpin`, or why it is refused.
     #[inline(always)]
-    fn try_unpin(&mut self) -> Result<Change, Refusal>
+    fn try_unpin(&mut self, change: &mut Change) -> Result<(), Refusal>
         ensures refusal { (p : ℕ) → result_err result ≡ page_refusal self.old (call.unpin p) }
         ensures counts { OnOk result (Pinned self.new self.old) }
-        ensures change { IfOk result (IsChange self.old self.new) }
+        ensures change { OnOk result (IsChange self.old self.new change.new) }
         ensures kept { OnErr result (self.new ≡ self.old) }
     {
         match self.refusal_unpin() {
             Some(refusal) => Err(refusal),
             None => {
                 self.do_unpin();
-                Ok(Change {
+                *change = Change {
                     unused: false,
                     used_left: self.has_use(),
                     released: SubSet::empty(),
-                })
+                };
+                Ok(())
             }
         }
     }

@@ -12,19 +12,19 @@ use Rattle.thp_live_pages.proofs.places.Places.lose.Goals.{in-Stays, in-Queued, 
 pub enqueue-requires-clause-occupied : goal.enqueue-requires-clause-occupied
 enqueue-requires-clause-occupied c =
     let w = taken _ c.requires.occupied in
-    let red = c.in_ok-done.ensures.reduced w.0 w.1 in
+    let red = c.in-Ok.ensures.reduced w.0 w.1 in
     some_of _ (record w.0 { page = red.page }) (edited_slot c.args.self.now c.reduce.new.self c.args.block w.0 _ _ 0 w.1 red.edits)
 
 pub release-requires : goal.release-requires
 release-requires c =
     let w = taken _ c.requires.occupied in
-    let red = c.in_ok-done.ensures.reduced w.0 w.1 in
+    let red = c.in-Ok.ensures.reduced w.0 w.1 in
     some_of _ (record w.0 { page = red.page }) (edited_slot c.args.self.now c.reduce.new.self c.args.block w.0 _ _ 0 w.1 red.edits)
 
 pub enqueue-requires-clause-outside : goal.enqueue-requires-clause-outside
 enqueue-requires-clause-outside c = λ y e q.
     let w = taken _ c.requires.occupied in
-    let red = c.in_ok-done.ensures.reduced w.0 w.1 in
+    let red = c.in-Ok.ensures.reduced w.0 w.1 in
     let same : y ≡ record w.0 { page = red.page } =
     same_slot _ (record w.0 { page = red.page }) y (edited_slot c.args.self.now c.reduce.new.self c.args.block w.0 _ _ 0 w.1 red.edits) e in
     queued_nowhere w.0.page red.page c.args.closed w.0.standing (sym c.in-Queued.is ∙ red.outcome_is) (sym (ap (λ (s : Slot). s.standing) same) ∙ q)
@@ -34,7 +34,7 @@ returns-clause-lost c = λ x e.
     let old = c.args.self.now in
     let mid = c.reduce.new.self in
     let b = c.args.block in
-    let red : Reduced c.args.loss c.args.closed x old mid b c.in_ok-done.done = c.in_ok-done.ensures.reduced x e in
+    let red : Reduced c.args.loss c.args.closed x old mid b c.reduce.new.done = c.in-Ok.ensures.reduced x e in
     let y : Slot = record x { page = red.page } in
     let there : slot_at mid.table b ≡ Some y = edited_slot old mid b x _ _ 0 e red.edits in
     let standing : c.standing-standing.result ≡ x.standing =
