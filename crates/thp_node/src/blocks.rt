@@ -92,17 +92,21 @@ impl Blocks {
         block: u32,
         loss: Loss,
         closed: bool,
-    ) -> Result<(Done, Option<u32>), Refusal>
+        done: &mut Done,
+    ) -> Result<Option<u32>, Refusal>
         requires occupied { IsSome (slot_at self.old.table block) }
         ensures refusal { AtSlot self.old.table block (λ x. (p : ℕ) → result_err result ≡ page_refusal x.page (loss_call loss p)) }
-        ensures lost { IfOk result (λ r. AtSlot self.old.table block (λ x. LostChained loss closed x self.old self.new block r.0 r.1)) }
+        ensures lost { IfOk result (λ left. AtSlot self.old.table block (λ x. LostChained loss closed x self.old self.new block done.new left)) }
         ensures kept { OnErr result (self.new ≡ self.old) }
     {
-        let (done, left) = self.places.lose(block, loss, closed)?;
+        let left = match self.places.lose(block, loss, closed, done) {
+            Ok(left) => left,
+            Err(refusal) => return Err(refusal),
+        };
         if let Outcome::Freed = done.outcome {
             self.places.push_free(&mut self.free, block);
         }
-        Ok((done, left))
+        Ok(left)
     }
 
     // Takes the oldest page of the queue into a caller's batch.

@@ -28,23 +28,23 @@ allowed s h n p b l m home told =
     refused_by_page s h n.table p b (either.Loss l) w ∙ sym (told w.slot w.at p)
 
 -- what the page lost, before and after it is recorded
-before : (c : goal.After-what) → Losing c.self.inside.journal.shape c.self.inside.journal.events c.args.caller c.args.page c.args.loss c.self.inside.blocks c.lose.new.self c.in-Ok.lost.0 c.in-Ok.lost.1
+before : (c : goal.After-what) → Losing c.self.inside.journal.shape c.self.inside.journal.events c.args.caller c.args.page c.args.loss c.self.inside.blocks c.lose.new.self c.lose.new.done c.in-Ok.left
 before c =
     let j = c.self.inside.journal in
     let b = c.self.inside.blocks in
     let is = c.self.view_is ∙ c.in_ok-block.ensures.same in
-    losing j.shape j.events c.args.caller c.args.page c.in_ok-block.block c.args.loss c.is_closed-closed.result b c.lose.new.self c.in-Ok.lost.0 c.in-Ok.lost.1 c.self.invariant
+    losing j.shape j.events c.args.caller c.args.page c.in_ok-block.block c.args.loss c.is_closed-closed.result b c.lose.new.self c.lose.new.done c.in-Ok.left c.self.invariant
     (ap (λ (n : NodeState). block_of n.journal c.args.page) is ∙ c.in_ok-block.ensures.block)
     c.is_closed-closed.ensures
     (allowed j.shape j.events b c.args.page c.in_ok-block.block c.args.loss c.self.invariant (ap (λ (n : NodeState). block_of n.journal c.args.page) is ∙ c.in_ok-block.ensures.block) c.in-Ok.ensures.refusal)
     c.in-Ok.ensures.lost
 
-after : (c : goal.After-record) → Losing c.self.inside.journal.shape c.self.inside.journal.events c.args.caller c.args.page c.args.loss c.self.inside.blocks c.lose.new.self c.in-Ok.lost.0 c.in-Ok.lost.1
+after : (c : goal.After-record) → Losing c.self.inside.journal.shape c.self.inside.journal.events c.args.caller c.args.page c.args.loss c.self.inside.blocks c.lose.new.self c.lose.new.done c.in-Ok.left
 after c =
     let j = c.self.inside.journal in
     let b = c.self.inside.blocks in
     let is = c.self.view_is ∙ c.in_ok-block.ensures.same in
-    losing j.shape j.events c.args.caller c.args.page c.in_ok-block.block c.args.loss c.is_closed-closed.result b c.lose.new.self c.in-Ok.lost.0 c.in-Ok.lost.1 c.self.invariant
+    losing j.shape j.events c.args.caller c.args.page c.in_ok-block.block c.args.loss c.is_closed-closed.result b c.lose.new.self c.lose.new.done c.in-Ok.left c.self.invariant
     (ap (λ (n : NodeState). block_of n.journal c.args.page) is ∙ c.in_ok-block.ensures.block)
     c.is_closed-closed.ensures
     (allowed j.shape j.events b c.args.page c.in_ok-block.block c.args.loss c.self.invariant (ap (λ (n : NodeState). block_of n.journal c.args.page) is ∙ c.in_ok-block.ensures.block) c.in-Ok.ensures.refusal)
@@ -59,13 +59,13 @@ record-requires-clause-fits c =
 pub record-requires-clause-unsaid : goal.record-requires-clause-unsaid
 record-requires-clause-unsaid c = (before c).unsaid_is ∙ ap (unsaid_of c.self.inside.journal.shape c.self.inside.journal.events) (sym c.what.ensures)
 
-events : (c : goal.After-record) → c.record.new.self.events ≡ c.self.inside.journal.events ++ by c.args.caller (loss_what c.args.loss c.args.page c.in-Ok.lost.0.outcome c.in-Ok.lost.0.released) ∷ []
+events : (c : goal.After-record) → c.record.new.self.events ≡ c.self.inside.journal.events ++ by c.args.caller (loss_what c.args.loss c.args.page c.lose.new.done.outcome c.lose.new.done.released) ∷ []
 events c = c.record.ensures.events ∙ ap (λ v. c.self.inside.journal.events ++ by c.args.caller v ∷ []) c.what.ensures
 
 pub invariant_of-self-2 : goal.invariant_of-self-2
 invariant_of-self-2 c =
     let j = c.self.inside.journal in
-    let w : What = loss_what c.args.loss c.args.page c.in-Ok.lost.0.outcome c.in-Ok.lost.0.released in
+    let w : What = loss_what c.args.loss c.args.page c.lose.new.done.outcome c.lose.new.done.released in
     let P : Shape → History → Type 0 = λ s h. IsNode s h c.lose.new.self.table c.lose.new.self.queue in
     subst (λ h. P c.record.new.self.shape h) (sym (events c)) (subst (λ s. P s (j.events ++ by c.args.caller w ∷ [])) (sym c.record.ensures.shape) (after c).node)
 
@@ -73,7 +73,7 @@ pub returns-clause-recorded : goal.returns-clause-recorded
 returns-clause-recorded c =
     let j = c.self.inside.journal in
     let is = c.self.view_is ∙ c.in_ok-block.ensures.same in
-    let w : What = loss_what c.args.loss c.args.page c.in-Ok.lost.0.outcome c.in-Ok.lost.0.released in
+    let w : What = loss_what c.args.loss c.args.page c.lose.new.done.outcome c.lose.new.done.released in
     did_one c.args.self.now _ c.args.caller w j.room 8
     (c.record.ensures.shape ∙ ap (λ (n : NodeState). n.shape) is)
     (events c ∙ ap (λ h. h ++ by c.args.caller w ∷ []) (ap (λ (n : NodeState). n.journal) is))
@@ -101,7 +101,7 @@ returns-in_err-block-clause-fronts c =
 
 pub returns-clause-fronts : goal.returns-clause-fronts
 returns-clause-fronts c =
-    let done = c.in-Ok.lost.0 in
+    let done = c.lose.new.done in
     fronts_grown c.args.self.now.journal _ (by c.args.caller (loss_what c.args.loss c.args.page done.outcome done.released) ∷ []) (returns-clause-recorded c).journal
     (λ d. loss_takes_none d c.args.caller c.args.page c.args.loss done.outcome done.released)
 
