@@ -1,4 +1,6 @@
-use Rattle.std.proofs.Common.{None, length, ap, arith, length-set}
+use Rattle.std.proofs.Common.{None, length, refl, ap, ◌∙◌, subst, arith, length-set}
+use Rattle.thp_page.specs.Slots.{slot_at}
+use Rattle.thp_live_pages.specs.PlacesState.{PlacesState, Lost}
 use Rattle.thp_page.proofs.TableSlots.{slot_at-inside}
 use Rattle.thp_live_pages.proofs.FreeChains.{free_chain_kept, not_free}
 use Rattle.thp_live_pages.proofs.Relinking.{edited_slot}
@@ -37,3 +39,12 @@ pub invariant_of-self-in_default : goal.invariant_of-self-in_default
 invariant_of-self-in_default c =
     chain_stays c.args.self.now c.self.inside.places c.lose.new.self c.self.inside.free c.args.block c.self.invariant c.self.view_is c.requires.occupied
     (λ x at. loss_keeps c.args.loss c.args.closed x c.self.inside.places c.lose.new.self c.args.block c.lose.new.done c.in-Ok.left (c.in-Ok.ensures.lost x at) c.in_default.not-Freed)
+
+pub returns-in_default-clause-lost : goal.returns-in_default-clause-lost
+returns-in_default-clause-lost c = λ x e.
+    let P : PlacesState → Type 0 = λ n. Lost c.args.loss c.args.closed x n c.lose.new.self c.args.block c.lose.new.done c.in-Ok.left in
+    record {
+      between = c.lose.new.self;
+      lost = subst P c.self.view_is (c.in-Ok.ensures.lost x (ap (λ (n : PlacesState). slot_at n.table c.args.block) c.self.view_is ∙ e));
+      relinks = record { slots = refl; order = refl; queue_is = refl; work = omega arith };
+    }
