@@ -81,6 +81,51 @@ def toolchain_is_told() -> str | None:
     return None if told in (ROOT / "docs/PROVED.md").read_text() else f"installed is {version}, and not the one that docs/PROVED.md names"
 
 
+CONSTANT = re.compile(r"pub const (M(?:AX|IN)_[A-Z]+): \w+ = ([^;]+);")
+"""A limit in the sources: its name, and its number or what it is reckoned from."""
+
+
+def limits() -> dict[str, int]:
+    """Each limit of the code by its name."""
+    found: dict[str, int] = {}
+    for name in ("thp_model/src/limits.rt", "thp_model/src/shape.rt", "thp_text/src/limits.rt", "thp_sections/src/limits.rt"):
+        for limit, value in CONSTANT.findall((ROOT / "crates" / name).read_text()):
+            known, _, less = value.replace("_", "").partition(" - ") if value[0].isdigit() else value.partition(" - ")
+            found[limit] = (int(known) if known.isdigit() else found[known]) - int(less or 0)
+    return found
+
+
+def limits_are_told() -> str | None:
+    """What `--help` and the manual pages tell of limits is what the code has."""
+    of = limits()
+    told = {
+        "crates/thp_options/src/options.rt": [
+            f"Memory nodes, 1 to {of['MAX_NODES']}\"",
+            f"Blocks of each node, 1 to {of['MAX_BLOCKS']}\"",
+            f"Workers that a script may name, 1 to {of['MAX_WORKERS']}\"",
+            f"pages, {of['MIN_ORDER']} to {of['MAX_ORDER']} each",
+        ],
+        "crates/thp_options/src/help.rt": [
+            f"0 to {of['MAX_BATCH']}, and split them",
+            f"0 to {of['MAX_BATCH']}, into a batch",
+            f"more than {of['MAX_INPUT'] // 2**20} MiB",
+        ],
+        "docs/thpsplit.1": [
+            f"Memory nodes, 1 to {of['MAX_NODES']};",
+            f"Blocks of each node, 1 to {of['MAX_BLOCKS']},",
+            f"Workers that the script may name, 1 to {of['MAX_WORKERS']};",
+            f"An order for each node, {of['MIN_ORDER']} to {of['MAX_ORDER']},",
+        ],
+        "docs/thpsplit.5": [
+            f"from 0 to {of['MAX_BATCH']}.",
+            f"N is 0 to {of['MAX_NODES'] - 1}, B 1 to {of['MAX_BLOCKS']:,}, O {of['MIN_ORDER']} to {of['MAX_ORDER']}",
+            f"c is 0 to {of['MAX_CALLERS'] - 1}.",
+        ],
+    }
+    missing = [f"{name}: {words}" for name, texts in told.items() for words in texts if words not in (ROOT / name).read_text()]
+    return "; ".join(missing) or None
+
+
 def dialogues_are_true() -> str | None:
     """What README.md shows of an example is what is stored of it."""
     stored = {(tuple(beside(case, "args", "").split()), f"examples/{case.name}"): case for case in cases()}
@@ -113,6 +158,7 @@ def main() -> None:
     tally.run("README.md shows what is stored of the examples", dialogues_are_true)
     tally.run("docs/PROVED.md tells of each crate", crates_are_told)
     tally.run("docs/PROVED.md names the toolchain", toolchain_is_told)
+    tally.run("limits that are told are those of the code", limits_are_told)
     for document in DOCUMENTS:
         if (ROOT / document).exists():
             tally.run(f"paths of {document}", lambda document=document: paths_are_there(document))

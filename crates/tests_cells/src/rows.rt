@@ -121,6 +121,10 @@ fn map_and_unmap(rt: &impl Abort, cell: &NodeCell, pass: &mut Pass, page: PageId
     split_mapping(rt, cell, pass, 0, page);
     unmap(rt, cell, pass, 0, page, 0, 2, queued());
     assert_eq!(rt; cell.map_sub(pass, 0, page, 0, 1), Ok(()));
+    // in 16 bits 65,536 would be 0
+    let bad_range = refused(Refusal::BadRange);
+    assert_eq!(rt; cell.map_sub(pass, 0, page, 65_536, 1), bad_range);
+    assert_eq!(rt; cell.write(pass, 0, page, 0, 65_537), bad_range);
 }
 
 fn pin_and_unpin(rt: &impl Abort, cell: &NodeCell, pass: &mut Pass, page: PageId)

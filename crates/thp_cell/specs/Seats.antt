@@ -1,6 +1,7 @@
 -- What a pass and a hold keep of their seats. No public clause cites this module.
 use Rattle.std.specs.Prelude.{◌≡◌, ℕ, ◌<◌, ◌≤◌, true, false, [], ◌∷◌}
 use Rattle.atomic_table.specs.declared.shared.Seat.{Seat}
+use Rattle.thp_model.specs.Limits.{max_callers, max_order}
 use Rattle.thp_model.specs.Legal.{IsLegal}
 use Rattle.thp_node.specs.NodeState.{NodeState}
 use Rattle.thp_cell.specs.declared.rule.Knows.{Knows}
@@ -56,8 +57,9 @@ pub record HoldsNode (s : Place) : Type 0 where
   pub journal : node.journal ≡ s.me.0.front
   pub legal : IsLegal node.shape node.journal
 
--- the numbers of a pass are its seat's
+-- the numbers of a pass are its seat's, and the pages are none too large
 pub record IsNumbered (first end : ℕ) (s : Place) : Type 0 where
   pub first_is : first ≡ s.me.0.first
   pub end_is : end ≡ s.me.0.end
-  pub few : end ≤ 64
+  pub few : end ≤ max_callers
+  pub order : s.me.0.shape.order ≤ max_order

@@ -1,5 +1,6 @@
 //! A node that threads share: how it is made, held, split among threads, and taken apart.
 ghost use Rattle.std.specs.Prelude.{◌≡◌, ℕ, ◌<◌, ◌≤◌, ◌⊎◌, ◌↔◌, [], ◌∷◌, length, true, false, Err, All, IfOk, IfErr};
+ghost use Rattle.thp_model.specs.Limits.{max_callers};
 ghost use Rattle.thp_model.specs.History.{events_of};
 ghost use Rattle.thp_model.specs.Legal.{IsLegal};
 ghost use Rattle.thp_model.specs.Places.{queue};
@@ -18,6 +19,7 @@ use atomic_table::{Refused, Seat, Table};
 use std::alloc::Global;
 use std::marker::{Brand, Model};
 use std::snapshot::Snapshot;
+use thp_model::MAX_CALLERS;
 use thp_node::{NewFault, Node};
 
 /// A node that threads share through one word and one slot.
@@ -50,17 +52,17 @@ impl NodeCell {
     /// `callers`: 1 to 64 of them, which is looked at first. A refusal drops the node.
     pub fn new(alloc: Global, node: Node, callers: u32) -> Result<(NodeCell, Pass), NewFault>
         requires { All (λ e. e.caller < callers) node.journal }
-        ensures bad_size { (result ≡ Err NewFault.BadSize) ↔ ((callers ≡ 0) ⊎ (64 < callers)) }
+        ensures bad_size { (result ≡ Err NewFault.BadSize) ↔ ((callers ≡ 0) ⊎ (max_callers < callers)) }
         ensures cell { IfOk result (λ r. r.1.cell ≡ r.0) }
         ensures callers { IfOk result (λ r. r.1.callers ≡ callers) }
         ensures all { IfOk result (λ r. HasAll r.1) }
-        ensures few { IfOk result (λ r. (0 < callers) × (callers ≤ 64)) }
+        ensures few { IfOk result (λ r. (0 < callers) × (callers ≤ max_callers)) }
         ensures shape { IfOk result (λ r. r.1.shape ≡ node.shape) }
         ensures front { IfOk result (λ r. r.1.front ≡ node.journal) }
         ensures legal { IfOk result (λ r. IsLegal r.1.shape r.1.front) }
         ensures parts { IfOk result (λ r. (c : ℕ) → part r.1 c ≡ events_of c node.journal) }
     {
-        if callers == 0 || callers > 64 {
+        if callers == 0 || callers > MAX_CALLERS {
             return Err(NewFault::BadSize);
         }
         let word = 2 * u64::from(node.queue_len());
@@ -70,6 +72,8 @@ impl NodeCell {
         };
         // the journal's contract says that it is legal, which the rule of the cell asks
         let _legal = node.journal();
+        // and its shape's, that its pages are none too large
+        let _shape = node.shape();
         let Ok(mut slots) = Vec::with_capacity(alloc, 1) else {
             return Err(NewFault::OutOfMemory);
         };

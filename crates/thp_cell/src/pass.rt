@@ -1,10 +1,12 @@
 //! What threads reach a node with.
-ghost use Rattle.std.specs.Prelude.{◌≡◌, ◌<◌, ◌≤◌};
+ghost use Rattle.std.specs.Prelude.{◌≡◌, ◌<◌, ◌≤◌, min};
+ghost use Rattle.thp_model.specs.Limits.{max_order};
 ghost use Rattle.thp_model.specs.Legal.{IsLegal};
 
 use crate::rule::Knows;
 use atomic_table::Seat;
 use std::marker::Model;
+use thp_model::narrowed;
 use thp_node::Node;
 
 /// What a thread reaches the node of a cell with: some of the cell's callers.
@@ -38,8 +40,21 @@ impl Pass {
         ensures some { self.now.first < self.now.end }
         ensures inside { self.now.end ≤ self.now.callers }
         ensures legal { IsLegal self.now.shape self.now.front }
+        ensures low { self.now.shape.order ≤ max_order }
     {
         (self.first, self.end)
+    }
+
+    // The operands of a range as a page call keeps them.
+    #[inline(always)]
+    pub(crate) fn operands(&self, first: u32, count: u32) -> (u16, u16)
+        ensures first { result.0 ≡ min first 65535 }
+        ensures count { result.1 ≡ min count 65535 }
+        ensures low { self.now.shape.order ≤ max_order }
+    {
+        // Tells the proof of what order the pages are at most.
+        let _ = self.callers();
+        (narrowed(first), narrowed(count))
     }
 }
 

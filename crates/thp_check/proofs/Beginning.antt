@@ -3,6 +3,7 @@ use Rattle.std.proofs.Common.{◌≡◌, ℕ, ◌≤◌, false, [], ◌∷◌, �
 use Rattle.std.proofs.lemmas.List.{length-take}
 use Rattle.thp_model.specs.declared.events.Event.{Event}
 use Rattle.thp_model.specs.declared.shape.Shape.{Shape}
+use Rattle.thp_model.specs.Limits.{max_order}
 use Rattle.thp_model.specs.History.{History, count_of, some_event}
 use Rattle.thp_model.specs.Counts.{allocations, is_alloc, is_closed}
 use Rattle.thp_model.specs.Places.{is_taking, takes_by}
@@ -29,10 +30,11 @@ unfolding is_taking
 not_taking c = refl
 
 -- an empty replay means the empty history
-pub means_none : (s : Shape) (r : Replay) → length r.places.table.slots ≡ s.blocks → r.places.table.order ≡ s.order → ((b : ℕ) → slot_at r.places.table b ≡ None) → r.places.queue ≡ [] →
+pub means_none : (s : Shape) (r : Replay) → s.order ≤ max_order → length r.places.table.slots ≡ s.blocks → r.places.table.order ≡ s.order → ((b : ℕ) → slot_at r.places.table b ≡ None) → r.places.queue ≡ [] →
     ((c : ℕ) → blocks_in r.flights c ≡ []) → length r.flights.callers ≡ s.blocks → r.shape ≡ s → r.next ≡ 0 → r.closed ≡ false → r.taker ≡ None → Means s [] r
-means_none s r size order empty none fs room shape next closed taker = record {
+means_none s r low size order empty none fs room shape next closed taker = record {
   kept = record {
+    low = low;
     shape_is = shape;
     node = node_none s r.places.table r.places.queue size order empty none;
     flying = λ c. ap (map (block_of [])) (flight_none c) ∙ ap (map (λ b. Some b)) (sym (fs c));
@@ -48,6 +50,7 @@ pub means_after : (s : Shape) (h : History) (e : Event) (r t : Replay) → Keeps
     ((c : ℕ) → takes_by c e.caller e.what ≡ is_taker t.taker c) → Means s (h ++ e ∷ []) t
 means_after s h e r t k shape pages fs next closed taker = record {
   kept = record {
+    low = k.low;
     shape_is = shape ∙ k.shape_is;
     node = rw pages k.node;
     flying = λ c. k.flying c ∙ ap (λ f. map (λ b. Some b) (blocks_in f c)) (sym fs);

@@ -54,6 +54,7 @@ pub goes_on : (s : Shape) (h : History) (e : Event) (old new : Replay) → Means
     ((d : ℕ) → LieIn (h ++ e ∷ []) (flight (h ++ e ∷ []) d) (blocks_in new.flights d)) → length new.flights.callers ≡ length old.flights.callers → is_alloc e.what ≡ false → closes e.what ≡ false →
     new.shape ≡ old.shape → new.next ≡ old.next → new.closed ≡ old.closed → Keeps s (h ++ e ∷ []) new
 goes_on s h e old new m node fs size a k shape next closed = record {
+  low = m.kept.low;
   shape_is = shape ∙ m.kept.shape_is;
   node = node;
   flying = fs;
@@ -179,6 +180,7 @@ alloc_goes s h c p b queued old new m unclosed number inside empty switch did sh
     let fits : Fits s h e = placed_fits s h c p b t q homed m.kept.node allowed (number ∙ m.kept.next_is) inside empty in (
       fits,
       record {
+        low = m.kept.low;
         shape_is = shape ∙ m.kept.shape_is;
         node = placed_node s h c p b homed fits queued old.places new.places m.kept.node inside (switch ∙ ap shrinks_underused m.kept.shape_is) did;
         flying = λ d. unmoved h (h ++ e ∷ []) d (blocks_in new.flights d) (flight_push h d c e.what) (λ r y. block_other h e r (other d r y)) (kept_blocks s h old new m fs d);
@@ -215,6 +217,7 @@ close_goes s h c old new m unclosed shape pages fs next closed =
     let P : PlacesState → Type 0 = λ k. IsNode s (h ++ e ∷ []) k.table k.queue in (
       fits,
       record {
+        low = m.kept.low;
         shape_is = shape ∙ m.kept.shape_is;
         node = subst P (sym pages) (closed_node s h c old.places.table old.places.queue m.kept.node fits);
         flying = λ d. unmoved h (h ++ e ∷ []) d (blocks_in new.flights d) (flight_push h d c e.what) (λ r y. block_push h e r) (kept_blocks s h old new m fs d);

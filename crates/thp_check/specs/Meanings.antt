@@ -1,8 +1,9 @@
 -- What the state of a replay means: it is that of the history replayed so far. No public clause cites this module.
-use Rattle.std.specs.Prelude.{◌≡◌, ◌≢◌, ℕ, Bool, false, nat_eq, [], ◌∷◌, ◌++◌, length, map, slice_get, Option, Some, None, MatchBool}
+use Rattle.std.specs.Prelude.{◌≡◌, ◌≢◌, ◌≤◌, ℕ, Bool, false, nat_eq, [], ◌∷◌, ◌++◌, length, map, slice_get, Option, Some, None, MatchBool}
 use Rattle.thp_model.specs.declared.events.Event.{Event}
 use Rattle.thp_model.specs.declared.events.What.{What}
 use Rattle.thp_model.specs.declared.shape.Shape.{Shape}
+use Rattle.thp_model.specs.Limits.{max_order}
 use Rattle.thp_model.specs.History.{History, by}
 use Rattle.thp_model.specs.Counts.{allocations, is_closed}
 use Rattle.thp_model.specs.Places.{flight, is_taking}
@@ -16,6 +17,7 @@ use Rattle.thp_check.specs.declared.replay.Replay.{Replay}
 -- are those of its pages in order
 pub record Keeps (s : Shape) (h : History) (r : Replay) : Type 0 where
   pub shape_is : r.shape ≡ s
+  pub low : s.order ≤ max_order
   pub node : IsNode s h r.places.table r.places.queue
   pub flying : (c : ℕ) → map (block_of h) (flight h c) ≡ map (λ b. Some b) (blocks_in r.flights c)
   pub room : length r.flights.callers ≡ s.blocks

@@ -1,5 +1,6 @@
 //! The check of a whole history.
 ghost use Rattle.std.specs.Prelude.{◌≤◌, OnOk, IfErr};
+ghost use Rattle.thp_model.specs.Limits.{max_order, min_order};
 ghost use Rattle.thp_model.specs.Legal.{IsLegal};
 ghost use Rattle.thp_check.specs.Answers.{Tells};
 
@@ -25,8 +26,8 @@ pub enum CheckFault {
 /// where more pages are queued or in flight, but that the first page of a caller is looked for behind those of callers that
 /// are the same in their low six bits.
 pub fn check(alloc: Global, shape: Shape, events: &[Event]) -> Result<(), CheckFault>
-    requires least { 2 ≤ shape.order }
-    requires most { shape.order ≤ 9 }
+    requires least { min_order ≤ shape.order }
+    requires most { shape.order ≤ max_order }
     ensures legal { OnOk result (IsLegal shape events.now) }
     ensures illegal { IfErr result (Tells shape events.now) }
 {

@@ -1,5 +1,6 @@
 //! A replay of a history: what a node would hold after the events so far.
 ghost use Rattle.std.specs.Prelude.{◌≡◌, ◌<◌, ◌≤◌, ◌+◌, ◌^◌, ℕ, [], ◌||◌, not, slice_get, Some, IfNone, IfOk, IfSome, IsSome, IsTrue, ◌↔◌};
+ghost use Rattle.thp_model.specs.Limits.{max_order, min_order};
 ghost use Rattle.thp_model.specs.Pages.{is_worth};
 ghost use Rattle.thp_model.specs.Places.{no_pages, takes_by};
 ghost use Rattle.thp_page.specs.Slots.{slot_at};
@@ -12,7 +13,7 @@ ghost use Rattle.thp_check.specs.Meanings.{is_taker};
 use crate::flights::Flights;
 use std::alloc::{AllocError, Global};
 use thp_live_pages::Places;
-use thp_model::{Done, Event, Gain, Loss, Outcome, PageCall, PageId, Shape, SubSet, What};
+use thp_model::{Done, Event, Gain, Loss, Outcome, PageId, Shape, SubSet, What};
 
 // The state after the events so far. Once an event didn't fit it may be any.
 #[derive(Drop)]
@@ -32,8 +33,8 @@ impl Replay {
 
     // The state before any event.
     pub(crate) fn new(alloc: Global, shape: Shape) -> Result<Replay, AllocError>
-        requires least { 2 ≤ shape.order }
-        requires most { shape.order ≤ 9 }
+        requires least { min_order ≤ shape.order }
+        requires most { shape.order ≤ max_order }
         ensures { IfOk result (Means shape []) }
     {
         let places = Places::new(alloc, shape)?;
@@ -73,14 +74,22 @@ impl Replay {
                 page,
                 released,
             } => self.lose(page, Loss::UnmapWhole, outcome, released),
-            What::MapSub { page, first, count } => self.gain(page, Gain::MapSub { first, count }),
+            What::MapSub { page, first, count } => match short(first, count) {
+                Some((first, count)) => self.gain(page, Gain::MapSub { first, count }),
+                None => false,
+            },
             What::UnmapSub {
                 outcome,
                 page,
                 first,
                 count,
                 released,
-            } => self.lose(page, Loss::UnmapSub { first, count }, outcome, released),
+            } => match short(first, count) {
+                Some((first, count)) => {
+                    self.lose(page, Loss::UnmapSub { first, count }, outcome, released)
+                }
+                None => false,
+            },
             What::SplitPmd { page } => self.gain(page, Gain::SplitPmd),
             What::Pin { page } => self.gain(page, Gain::Pin),
             What::Unpin {
@@ -88,8 +97,14 @@ impl Replay {
                 page,
                 released,
             } => self.lose(page, Loss::Unpin, outcome, released),
-            What::Write { page, first, count } => self.gain(page, Gain::Write { first, count }),
-            What::Zero { page, first, count } => self.gain(page, Gain::Zero { first, count }),
+            What::Write { page, first, count } => match short(first, count) {
+                Some((first, count)) => self.gain(page, Gain::Write { first, count }),
+                None => false,
+            },
+            What::Zero { page, first, count } => match short(first, count) {
+                Some((first, count)) => self.gain(page, Gain::Zero { first, count }),
+                None => false,
+            },
             What::Taken { page } => self.take(caller, page),
             What::Split { page, released } => self.split(caller, page, released),
             What::Pinned { page } => self.is_pinned(caller, page),
@@ -126,11 +141,10 @@ impl Replay {
             Some(block) => block,
             None => return false,
         };
-        if let Some(_) = self.places.refusal(block, PageCall::Gain(gain)) {
-            return false;
+        match self.places.gain(block, gain) {
+            Ok(()) => true,
+            Err(_) => false,
         }
-        self.places.gain(block, gain);
-        true
     }
 
     // A page that loses mappings or a pin, with the outcome and the frames that the event tells.
@@ -142,10 +156,14 @@ impl Replay {
             Some(block) => block,
             None => return false,
         };
-        if let Some(_) = self.places.refusal(block, PageCall::Loss(loss)) {
-            return false;
-        }
-        let (done, left) = self.places.lose(block, loss, self.closed);
+        let mut done = Done {
+            outcome: Outcome::Stays,
+            released: SubSet::empty(),
+        };
+        let left = match self.places.lose(block, loss, self.closed, &mut done) {
+            Ok(left) => left,
+            Err(_) => return false,
+        };
         self.flights.leave(left, block);
         is_told(&done, outcome, released)
     }
@@ -328,4 +346,16 @@ fn is_told(done: &Done, outcome: Outcome, released: SubSet) -> bool
     ensures { IsTrue result ↔ ((done.now.outcome ≡ outcome) × (done.now.released ≡ released)) }
 {
     done.outcome == outcome && done.released == released
+}
+
+// The operands of a range as a page call has them, where they aren't too large for any page.
+fn short(first: u32, count: u32) -> Option<(u16, u16)>
+    ensures first { IfSome result (λ r. r.0 ≡ first) }
+    ensures count { IfSome result (λ r. r.1 ≡ count) }
+    ensures none { IfNone result (¬ ((first ≤ 65535) × (count ≤ 65535))) }
+{
+    if first > 65_535 || count > 65_535 {
+        return None;
+    }
+    Some((first as u16, count as u16))
 }

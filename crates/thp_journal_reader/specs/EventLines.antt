@@ -1,9 +1,10 @@
 -- Events from the words of a line: the caller, the event word, then operands (this project's journal format).
-use Rattle.std.specs.Prelude.{ℕ, List, [], ◌∷◌, Result, Ok, Err}
+use Rattle.std.specs.Prelude.{ℕ, ◌-◌, List, [], ◌∷◌, Result, Ok, Err}
 use Rattle.thp_model.specs.declared.events.Event.{Event}
 use Rattle.thp_model.specs.declared.events.Outcome.{Outcome}
 use Rattle.thp_model.specs.declared.events.What.TheVariants as what
 use Rattle.thp_model.specs.History.{by}
+use Rattle.thp_model.specs.Limits.{max_callers}
 use Rattle.thp_text.specs.declared.fault.TextKind.{TextKind}
 use Rattle.thp_text.specs.declared.fault.TextKind.TheVariants.{BadWord, BadCount}
 use Rattle.thp_text.specs.Commands.{number_up_to, one_word, two_words}
@@ -18,9 +19,9 @@ use Rattle.thp_journal_reader.specs.declared.version.Version.{Version}
 use Rattle.thp_journal_reader.specs.EventWords.{event_word, loss_what, outcome_of, page_what, range_what}
 use Rattle.thp_journal_reader.specs.SetTexts.{set_of_text}
 
--- a caller, 0 to 63
+-- a caller
 abbrev pub caller_number : Text → Result ℕ TextKind
-caller_number = number_up_to 63
+caller_number = number_up_to (max_callers - 1)
 
 -- a page by its number
 abbrev pub page_number : Text → Result ℕ TextKind

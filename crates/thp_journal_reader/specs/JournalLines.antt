@@ -2,9 +2,11 @@
 use Rattle.std.specs.Prelude.{◌==◌, ◌^◌, ◌-◌, ◌+◌, not, nat_lt, nat_le, ℕ, Bool, true, false, List, [], ◌∷◌, Option, Some, None, Result, Ok, Err, codes, if◌then◌else◌}
 use Rattle.std.specs.List.{list_all, list_any}
 use Rattle.std.specs.Str.{bytes_eq}
+use Rattle.thp_model.specs.Limits.{max_blocks, max_order, min_order}
 use Rattle.thp_text.specs.declared.fault.TextKind.{TextKind}
 use Rattle.thp_text.specs.declared.fault.TextKind.TheVariants.{BadByte, BadWord, BadNumber, BadOrder}
 use Rattle.thp_text.specs.Commands.{number_up_to, one_word}
+use Rattle.thp_text.specs.Limits.{max_nodes}
 use Rattle.thp_text.specs.Lines.{is_empty, is_printable}
 use Rattle.thp_text.specs.Readings.{◌>>=◌}
 use Rattle.thp_text.specs.Words.{Text, words_of}
@@ -48,19 +50,19 @@ threshold_of order word =
     if bytes_eq word (codes "off") then Ok None
     else (number_up_to (2 ^ order - 1) word >>= λ threshold. Ok (Some threshold))
 
--- node N of this shape: N from 0 to 7, 1 to 4,096 blocks
+-- node N of this shape, which counts from 0, with a block at least
 abbrev pub node_with : Text → Text → ℕ → Option ℕ → Result Line TextKind
 node_with number_word blocks_word order underused = do
-  number ← number_up_to 7 number_word
-  blocks ← number_between 1 4096 blocks_word
+  number ← number_up_to (max_nodes - 1) number_word
+  blocks ← number_between 1 max_blocks blocks_word
   Ok (Node number (record { blocks = blocks; order = order; underused = underused }))
 
--- `node N blocks B` of version 1, behind its first word: the pages are of order 9
+-- `node N blocks B` of version 1, behind its first word: the pages are of the greatest order
 unfoldable pub plain_node : List Text → Result Line TextKind
 plain_node words = do
   number ← before (codes "blocks") words
   blocks ← one_word number.1
-  node_with number.0 blocks 9 None
+  node_with number.0 blocks max_order None
 
 -- `node N blocks B order O` of version 2
 unfoldable pub ordered_node : List Text → Result Line TextKind
@@ -68,7 +70,7 @@ ordered_node words = do
   number ← before (codes "blocks") words
   blocks ← before (codes "order") number.1
   order_word ← one_word blocks.1
-  order ← number_between 2 9 order_word
+  order ← number_between min_order max_order order_word
   node_with number.0 blocks.0 order None
 
 -- `node N blocks B order O underused T` of version 3; T may be `off`
@@ -78,7 +80,7 @@ underused_node words = do
   blocks ← before (codes "order") number.1
   order_word ← before (codes "underused") blocks.1
   threshold_word ← one_word order_word.1
-  order ← number_between 2 9 order_word.0
+  order ← number_between min_order max_order order_word.0
   threshold ← threshold_of order threshold_word
   node_with number.0 blocks.0 order threshold
 

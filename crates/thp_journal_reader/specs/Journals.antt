@@ -6,6 +6,7 @@ use Rattle.thp_model.specs.History.{History}
 use Rattle.thp_model.specs.Shapes.{IsShape}
 use Rattle.thp_text.specs.declared.fault.TextKind.{TextKind}
 use Rattle.thp_text.specs.declared.fault.TextKind.TheVariants.{TooLong, Cut}
+use Rattle.thp_text.specs.Limits.{max_input}
 use Rattle.thp_text.specs.Lines.{fault_behind}
 use Rattle.thp_text.specs.Readings.{◌>>=◌}
 use Rattle.thp_text.specs.Scripts.{Fault, on_line}
@@ -60,13 +61,13 @@ journals_with lines = record { nodes = nodes_of 1 lines }
 -- The journals that a text spells, or its first fault.
 unfoldable pub journals_of : Text → Result Journals Fault
 journals_of text =
-    if nat_lt 16777216 (length text) then Err (0, TooLong)
+    if nat_lt max_input (length text) then Err (0, TooLong)
     else (lines_from 1 Start (lines_of text) >>= λ lines. Ok (journals_with lines))
 
 -- a node can have this shape, and its lines have numbers below 2^32
 pub record IsNodeJournal (node : NodeJournal) : Type 0 where
   pub shape : IsShape node.shape
-  pub lines : node.first_line + length node.events ≤ 16777217
+  pub lines : node.first_line + length node.events ≤ max_input + 1
 
 -- that of each node
 abbrev pub AreJournals : Journals → Type 0

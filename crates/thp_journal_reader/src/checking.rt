@@ -3,6 +3,7 @@ ghost use Rattle.std.specs.Prelude.{◌≡◌, ◌≤◌, ◌<◌, ◌+◌, All,
 ghost use Rattle.thp_journal_reader.specs.declared.journals.Journals.{Journals};
 ghost use Rattle.thp_journal_reader.specs.Answers.{CanBeLegal, TellsIllegal, TellsNode};
 ghost use Rattle.thp_journal_reader.specs.Journals.{journals_of, AreJournals, IsNodeJournal};
+ghost use Rattle.thp_text.specs.Limits.{max_input};
 ghost use Rattle.thp_text.specs.Scripts.{TellsFault};
 ghost use Rattle.thp_text.specs.Words.{Text};
 
@@ -14,7 +15,7 @@ use thp_text::ReadFault;
 
 /// The line of the event at this place.
 fn line_of_event(node: &NodeJournal, place: usize) -> u32
-    requires lines { node.now.first_line + length node.now.events ≤ 16777217 }
+    requires lines { node.now.first_line + length node.now.events ≤ max_input + 1 }
     requires inside { place < length node.now.events }
     ensures { result ≡ node.now.first_line + place }
 {

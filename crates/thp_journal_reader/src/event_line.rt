@@ -6,7 +6,7 @@ ghost use Rattle.thp_journal_reader.specs.EventLines.{caller_number, close_event
 use crate::event_word::{EventWord, LossWord, PageWord, RangeWord, event_word, outcome_of};
 use crate::set_text::set_of_text;
 use crate::version::Version;
-use thp_model::{Event, Outcome, PageId, What};
+use thp_model::{Event, MAX_CALLERS, Outcome, PageId, What};
 use thp_text::{TextKind, Words, number};
 
 /// A number of at most `most`.
@@ -21,13 +21,13 @@ pub(crate) fn small_number(most: u32, word: &[u8]) -> Result<u32, TextKind>
 fn caller_number(word: &[u8]) -> Result<u32, TextKind>
     ensures { result ≡ caller_number word.now }
 {
-    small_number(63, word)
+    small_number(MAX_CALLERS - 1, word)
 }
 
 fn range_number(word: &[u8]) -> Result<u32, TextKind>
     ensures { result ≡ range_number word.now }
 {
-    small_number(65_535, word)
+    small_number(u32::from(u16::MAX), word)
 }
 
 fn page_number(word: &[u8]) -> Result<PageId, TextKind>

@@ -1,12 +1,13 @@
 //! What a line of a journal says.
 ghost use Rattle.std.specs.Prelude.{◌≡◌, ◌≤◌, ◌<◌, ◌^◌, Ok, Err, IfOk, IfSome, MatchResult};
+ghost use Rattle.thp_model.specs.Limits.{max_order, min_order};
 ghost use Rattle.thp_journal_reader.specs.JournalLines.{before, by_words, end_of, event_line, head_of, line_by, line_of, node_of, node_with, number_between, ordered_node, plain_node, threshold_of, underused_node, version_of};
 ghost use Rattle.thp_journal_reader.specs.LineRanges.{IsInRange};
 
 use crate::event_line::{event_of, small_number};
 use crate::version::Version;
 use thp_model::{Event, Shape};
-use thp_text::{TextKind, Words, fault_of_line};
+use thp_text::{MAX_NODES, TextKind, Words, fault_of_line};
 
 /// What a line of a journal says.
 #[derive(Clone, Copy, Debug, PartialEq, Eq)]
@@ -74,7 +75,7 @@ fn number_between(least: u32, most: u32, word: &[u8]) -> Result<u32, TextKind>
 /// A threshold for underused pages of this order, or `off`.
 #[tactic(auto, unfolding(crate::specs::JournalLines::threshold_of))]
 fn threshold_of(order: u32, word: &[u8]) -> Result<Option<u32>, TextKind>
-    requires { order ≤ 9 }
+    requires { order ≤ max_order }
     ensures value { result ≡ threshold_of order word.now }
     ensures bound { IfOk result (λ threshold. IfSome threshold (λ t. t < 2 ^ order)) }
 {
@@ -92,14 +93,14 @@ fn node_with(
     order: u32,
     underused: Option<u32>,
 ) -> Result<Line, TextKind>
-    requires least { 2 ≤ order }
-    requires most { order ≤ 9 }
+    requires least { min_order ≤ order }
+    requires most { order ≤ max_order }
     requires threshold { IfSome underused (λ t. t < 2 ^ order) }
     ensures value { result ≡ node_with number.now blocks.now order underused }
     ensures in_range { IfOk result IsInRange }
 {
-    let number = small_number(7, number)?;
-    let blocks = number_between(1, 4096, blocks)?;
+    let number = small_number(MAX_NODES as u32 - 1, number)?;
+    let blocks = number_between(1, Shape::MAX_BLOCKS, blocks)?;
     Ok(Line::Node {
         number,
         shape: Shape {
@@ -120,7 +121,7 @@ fn plain_node(mut words: Words) -> Result<Line, TextKind>
     let (Some(blocks), None) = (words.next(), words.next()) else {
         return Err(TextKind::BadCount);
     };
-    node_with(number, blocks, 9, None)
+    node_with(number, blocks, Shape::MAX_ORDER, None)
 }
 
 /// `node N blocks B order O`
@@ -134,7 +135,7 @@ fn ordered_node(mut words: Words) -> Result<Line, TextKind>
     let (Some(order), None) = (words.next(), words.next()) else {
         return Err(TextKind::BadCount);
     };
-    let order = number_between(2, 9, order)?;
+    let order = number_between(Shape::MIN_ORDER, Shape::MAX_ORDER, order)?;
     node_with(number, blocks, order, None)
 }
 
@@ -150,7 +151,7 @@ fn underused_node(mut words: Words) -> Result<Line, TextKind>
     let (Some(threshold), None) = (words.next(), words.next()) else {
         return Err(TextKind::BadCount);
     };
-    let order = number_between(2, 9, order)?;
+    let order = number_between(Shape::MIN_ORDER, Shape::MAX_ORDER, order)?;
     let threshold = threshold_of(order, threshold)?;
     node_with(number, blocks, order, threshold)
 }

@@ -12,9 +12,14 @@ use Rattle.thp_model.specs.Refusals as call
 use Rattle.thp_model.specs.Sets.{each_below}
 use Rattle.thp_model.proofs.Alike.{alike, flight_alike}
 use Rattle.thp_model.proofs.LeastBlocks.{as_many, free_by_number}
-use Rattle.thp_text.specs.declared.script.Op.{Op}
-use Rattle.thp_text.specs.declared.script.Op.TheVariants as op
-use Rattle.thp_sections.specs.Does.{refusal_of_op}
+use Rattle.thp_model.specs.PageCalls.{page_call}
+use Rattle.thp_model.specs.declared.page_call.Gain.TheVariants as gain
+use Rattle.thp_model.specs.declared.page_call.Loss.TheVariants as loss
+use Rattle.thp_model.specs.declared.page_call.PageCall.{PageCall}
+use Rattle.thp_model.specs.declared.page_call.PageCall.TheVariants as either
+use Rattle.thp_sections.specs.declared.steps.NodeCall.{NodeCall}
+use Rattle.thp_sections.specs.declared.steps.NodeCall.TheVariants as node
+use Rattle.thp_sections.specs.Does.{refusal_of_call}
 use Rattle.thp_laws.proofs.Atoms.{same_allocated, same_closed, same_freed, same_maps, same_pins, same_split, same_unmapped, same_unmaps, same_unpins, same_whole}
 
 -- a test that fails at both or at neither
@@ -43,22 +48,23 @@ module _ (s : Shape) (h k : History) (e : SameButBlocks h k) where
   unfolding refusal
   take_alike c = ap (λ ps. cond (not (no_pages ps)) (Some reason.HasBatch) None) (flight_alike s h k (alike h k e) c)
 
-  -- a command is refused for one reason at both, or at neither
-  pub op_alike : (o : Op) → IsLegal s h → IsLegal s k → refusal_of_op s h o ≡ refusal_of_op s k o
+  -- a call of a page is refused for one reason at both, or at neither
+  page_call_alike : (p : ℕ) (c : PageCall) → refusal s h (page_call c p) ≡ refusal s k (page_call c p)
   unfolding refusal
-  op_alike op.Alloc l m = alloc_alike l m
-  op_alike (op.MapWhole p) l m = map_whole_alike p
-  op_alike (op.UnmapWhole p) l m = simp (same_allocated h k e, same_freed h k e, same_split h k e, same_whole h k e, same_unmapped h k e)
-  op_alike (op.Map first count p) l m = simp (same_allocated h k e, same_freed h k e, same_split h k e, same_maps h k e, same_unmaps h k e, (alike h k e).zero)
-  op_alike (op.Unmap first count p) l m = simp (same_allocated h k e, same_freed h k e, same_split h k e, same_maps h k e, same_unmaps h k e, same_whole h k e, same_unmapped h k e)
-  op_alike (op.Write first count p) l m = simp (same_allocated h k e, same_freed h k e, same_split h k e, same_maps h k e, same_unmaps h k e)
-  op_alike (op.Zero first count p) l m = simp (same_allocated h k e, same_freed h k e, same_split h k e, same_maps h k e, same_unmaps h k e)
-  op_alike (op.SplitPmd p) l m = simp (same_allocated h k e, same_freed h k e, same_split h k e, same_whole h k e, same_unmapped h k e)
-  op_alike (op.Pin p) l m = simp (same_allocated h k e, same_freed h k e, same_split h k e, same_pins h k e, same_unpins h k e)
-  op_alike (op.Unpin p) l m = simp (same_allocated h k e, same_freed h k e, same_split h k e, same_pins h k e, same_unpins h k e)
-  op_alike op.Close l m = rw (same_closed h k e) refl
-  op_alike op.Count l m = refl
-  op_alike (op.Scan n) l m = refl
-  op_alike (op.Take n) l m = refl
-  op_alike op.SplitNext l m = refl
-  op_alike op.PutBack l m = refl
+  page_call_alike p (either.Gain gain.MapWhole) = map_whole_alike p
+  page_call_alike p (either.Loss loss.UnmapWhole) = simp (same_allocated h k e, same_freed h k e, same_split h k e, same_whole h k e, same_unmapped h k e)
+  page_call_alike p (either.Gain (gain.MapSub first count)) = simp (same_allocated h k e, same_freed h k e, same_split h k e, same_maps h k e, same_unmaps h k e, (alike h k e).zero)
+  page_call_alike p (either.Loss (loss.UnmapSub first count)) = simp (same_allocated h k e, same_freed h k e, same_split h k e, same_maps h k e, same_unmaps h k e, same_whole h k e, same_unmapped h k e)
+  page_call_alike p (either.Gain (gain.Write first count)) = simp (same_allocated h k e, same_freed h k e, same_split h k e, same_maps h k e, same_unmaps h k e)
+  page_call_alike p (either.Gain (gain.Zero first count)) = simp (same_allocated h k e, same_freed h k e, same_split h k e, same_maps h k e, same_unmaps h k e)
+  page_call_alike p (either.Gain gain.SplitPmd) = simp (same_allocated h k e, same_freed h k e, same_split h k e, same_whole h k e, same_unmapped h k e)
+  page_call_alike p (either.Gain gain.Pin) = simp (same_allocated h k e, same_freed h k e, same_split h k e, same_pins h k e, same_unpins h k e)
+  page_call_alike p (either.Loss loss.Unpin) = simp (same_allocated h k e, same_freed h k e, same_split h k e, same_pins h k e, same_unpins h k e)
+
+  -- a call of a node is refused for one reason at both, or at neither
+  pub call_alike : (c : NodeCall) → IsLegal s h → IsLegal s k → refusal_of_call s h c ≡ refusal_of_call s k c
+  unfolding refusal
+  call_alike node.Alloc l m = alloc_alike l m
+  call_alike (node.Page p c) l m = page_call_alike p c
+  call_alike node.Close l m = rw (same_closed h k e) refl
+  call_alike node.Count l m = refl

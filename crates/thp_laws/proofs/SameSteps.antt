@@ -21,18 +21,22 @@ use Rattle.thp_model.specs.Underused.{is_worth_split}
 use Rattle.thp_model.proofs.Alike.{alike, dropped_alike, flight_alike, worth_alike}
 use Rattle.thp_model.proofs.LegalSteps.{legal_front, legal_last}
 use Rattle.thp_model.proofs.OneAnswer.{one_answer}
+use Rattle.thp_model.specs.PageCalls.{gain_what, loss_what}
 use Rattle.thp_model.specs.declared.page_call.Done.{Done}
+use Rattle.thp_model.specs.declared.page_call.Loss.{Loss}
+use Rattle.thp_model.specs.declared.page_call.Loss.TheVariants as loss
+use Rattle.thp_model.specs.declared.page_call.PageCall.TheVariants as either
 use Rattle.thp_node.specs.Batches.{back_reply, tried}
 use Rattle.thp_node.specs.declared.answers.BackReply.{BackReply}
 use Rattle.thp_node.specs.declared.answers.Tried.TheVariants as try
-use Rattle.thp_text.specs.declared.script.Op.{Op}
-use Rattle.thp_text.specs.declared.script.Op.TheVariants as op
 use Rattle.thp_sections.specs.declared.reply.Reply.{Reply}
 use Rattle.thp_sections.specs.declared.reply.Reply.TheVariants as replied
+use Rattle.thp_sections.specs.declared.steps.NodeCall.{NodeCall}
+use Rattle.thp_sections.specs.declared.steps.NodeCall.TheVariants as node
 use Rattle.thp_sections.specs.declared.steps.Step.TheVariants.{One, Take, SplitNext, PutBack}
-use Rattle.thp_sections.specs.Does.{Does, DoesLoss, DoesOne, DoesOp, Nothing, Open, Reaction, Unless, refusal_of_op}
+use Rattle.thp_sections.specs.Does.{Does, DoesCall, DoesLoss, DoesOne, Nothing, Open, Reaction, Unless, refusal_of_call}
 use Rattle.thp_laws.specs.OneStep.{IsSameStep, StepsHaveOneAnswer}
-use Rattle.thp_laws.proofs.SameRefusals.{op_alike, take_alike}
+use Rattle.thp_laws.proofs.SameRefusals.{call_alike, take_alike}
 
 -- ---- answers that don't look at the history
 
@@ -89,16 +93,28 @@ loss_twice s h k c w batch own other answer reply after later e l m asks tells a
     done_reply : Done → Reaction
     done_reply d = Ok (replied.Done d)
 
+-- a loss asks for the same, whatever becomes of its page
+asks_alike : (g : Loss) (p : ℕ) (o u : Outcome) (x y : List Bool) → asked (loss_what g p o x) ≡ asked (loss_what g p u y)
+asks_alike loss.UnmapWhole p o u x y = refl
+asks_alike (loss.UnmapSub first count) p o u x y = refl
+asks_alike loss.Unpin p o u x y = refl
+
+-- and its event tells what did
+tells_alike : (g : Loss) (p : ℕ) (o u : Outcome) (x y : List Bool) → with_block 0 (loss_what g p o x) ≡ with_block 0 (loss_what g p u y) → (o ≡ u) × (x ≡ y)
+tells_alike loss.UnmapWhole p o u x y f = (cc, cc)
+tells_alike (loss.UnmapSub first count) p o u x y f = (cc, cc)
+tells_alike loss.Unpin p o u x y f = (cc, cc)
+
 -- a reply as an answer
 said : Reply → Reaction
 said r = Ok r
 
--- a command that isn't refused
-op_twice : (s : Shape) (h k : History) (c : ℕ) (o : Op) (batch : Option Open) (own other : List Event) (answer reply : Reaction) (after later : Option Open) →
+-- a call that isn't refused
+call_twice : (s : Shape) (h k : History) (c : ℕ) (o : NodeCall) (batch : Option Open) (own other : List Event) (answer reply : Reaction) (after later : Option Open) →
     SameButBlocks h k → IsLegal s (h ++ own) → IsLegal s (k ++ other) →
-    DoesOp s h c o own answer × (after ≡ batch) → DoesOp s k c o other reply × (later ≡ batch) → IsSameStep own other answer reply after later
+    DoesCall s h c o own answer × (after ≡ batch) → DoesCall s k c o other reply × (later ≡ batch) → IsSameStep own other answer reply after later
 unfolding without_blocks
-op_twice s h k c op.Alloc batch own other answer reply after later e l m a b =
+call_twice s h k c node.Alloc batch own other answer reply after later e l m a b =
     let pages : allocations h ≡ allocations k = (alike h k e).allocations in
     record {
       events = ap without_blocks a.0.1 ∙ ap (λ n. by c (what.Alloc n 0) ∷ []) pages ∙ sym (ap without_blocks b.0.1);
@@ -107,24 +123,13 @@ op_twice s h k c op.Alloc batch own other answer reply after later e l m a b =
     } where
       page : ℕ → Reaction
       page n = Ok (replied.Page n)
-op_twice s h k c (op.MapWhole p) batch own other answer reply after later e l m a b = one_twice c (what.MapWhole p) batch own other answer reply after later a.0 b.0 a.1 b.1
-op_twice s h k c (op.UnmapWhole p) batch own other answer reply after later e l m a b = loss_twice s h k c (λ o set. what.UnmapWhole o p set) batch own other answer reply after later e l m (λ o u x y. refl) (λ o u x y f. (cc, cc)) a.0 b.0 a.1 b.1
-op_twice s h k c (op.Map first count p) batch own other answer reply after later e l m a b = one_twice c (what.MapSub p first count) batch own other answer reply after later a.0 b.0 a.1 b.1
-op_twice s h k c (op.Unmap first count p) batch own other answer reply after later e l m a b = loss_twice s h k c (λ o set. what.UnmapSub o p first count set) batch own other answer reply after later e l m (λ o u x y. refl) (λ o u x y f. (cc, cc)) a.0 b.0 a.1 b.1
-op_twice s h k c (op.Write first count p) batch own other answer reply after later e l m a b = one_twice c (what.Write p first count) batch own other answer reply after later a.0 b.0 a.1 b.1
-op_twice s h k c (op.Zero first count p) batch own other answer reply after later e l m a b = one_twice c (what.Zero p first count) batch own other answer reply after later a.0 b.0 a.1 b.1
-op_twice s h k c (op.SplitPmd p) batch own other answer reply after later e l m a b = one_twice c (what.SplitPmd p) batch own other answer reply after later a.0 b.0 a.1 b.1
-op_twice s h k c (op.Pin p) batch own other answer reply after later e l m a b = one_twice c (what.Pin p) batch own other answer reply after later a.0 b.0 a.1 b.1
-op_twice s h k c (op.Unpin p) batch own other answer reply after later e l m a b = loss_twice s h k c (λ o set. what.Unpin o p set) batch own other answer reply after later e l m (λ o u x y. refl) (λ o u x y f. (cc, cc)) a.0 b.0 a.1 b.1
-op_twice s h k c op.Close batch own other answer reply after later e l m a b = one_twice c what.Close batch own other answer reply after later a.0 b.0 a.1 b.1
-op_twice s h k c op.Count batch own other answer reply after later e l m a b =
+call_twice s h k c (node.Page p (either.Gain g)) batch own other answer reply after later e l m a b = one_twice c (gain_what g p) batch own other answer reply after later a.0 b.0 a.1 b.1
+call_twice s h k c (node.Page p (either.Loss g)) batch own other answer reply after later e l m a b = loss_twice s h k c (loss_what g p) batch own other answer reply after later e l m (asks_alike g p) (tells_alike g p) a.0 b.0 a.1 b.1
+call_twice s h k c node.Close batch own other answer reply after later e l m a b = one_twice c what.Close batch own other answer reply after later a.0 b.0 a.1 b.1
+call_twice s h k c node.Count batch own other answer reply after later e l m a b =
     record { events = ap without_blocks (a.0.0 ∙ sym b.0.0); answers = a.0.1 ∙ ap counted ((alike h k e).queue s) ∙ sym b.0.1; batches = a.1 ∙ sym b.1 } where
       counted : List ℕ → Reaction
       counted ps = Ok (replied.Count (length ps))
-op_twice s h k c (op.Scan n) batch own other answer reply after later e l m a b = absurd a.0
-op_twice s h k c (op.Take n) batch own other answer reply after later e l m a b = absurd a.0
-op_twice s h k c op.SplitNext batch own other answer reply after later e l m a b = absurd a.0
-op_twice s h k c op.PutBack batch own other answer reply after later e l m a b = absurd a.0
 
 -- ---- takes, tries, put-backs
 
@@ -230,7 +235,7 @@ tried_batch pages left = Some (record { pages = pages; left = left })
 pub one_step : StepsHaveOneAnswer
 unfolding Does said tried_batch
 one_step s h k c batch (One o) own other answer reply after later e l m a b =
-    unless_twice (refusal_of_op s h o) (refusal_of_op s k o) own other answer reply batch after later _ _ (op_alike s h k e o (legal_front s h own l) (legal_front s k other m)) (op_twice s h k c o batch own other answer reply after later e l m) a b
+    unless_twice (refusal_of_call s h o) (refusal_of_call s k o) own other answer reply batch after later _ _ (call_alike s h k e o (legal_front s h own l) (legal_front s k other m)) (call_twice s h k c o batch own other answer reply after later e l m) a b
 one_step s h k c (Some batch) (Take n) own other answer reply after later e l m a b = nothing_twice (Some batch) own other answer reply _ _ after later refl a b
 one_step s h k c None (Take n) own other answer reply after later e l m a b =
     unless_twice (refusal s h (call.take c)) (refusal s k (call.take c)) own other answer reply None after later _ _ (take_alike s h k e c) (taken s h k c n own other answer reply after later e) a b

@@ -2,6 +2,8 @@
 use Rattle.std.specs.Prelude.{◌≡◌, ◌≤◌, ◌<◌, ◌+◌, ℕ, All, List, [], ◌∷◌, length, Option, None, Ok}
 use Rattle.std.specs.List.{AllZip}
 use Rattle.thp_model.specs.declared.events.Event.{Event}
+use Rattle.thp_model.specs.Limits.{max_callers}
+use Rattle.thp_text.specs.Limits.{max_input, max_nodes}
 use Rattle.thp_model.specs.BlockLaws.{SameButBlocks}
 use Rattle.thp_model.specs.Legal.{IsLegal}
 use Rattle.thp_model.specs.Shapes.{IsShape}
@@ -11,18 +13,18 @@ use Rattle.thp_journal_reader.specs.declared.journals.NodeJournal.{NodeJournal}
 use Rattle.thp_journal_reader.specs.Answers.{TellsIllegal}
 use Rattle.thp_journal_reader.specs.Journals.{journals_of, node_journal}
 
--- what happened on a node is legal, and its callers are numbered below 64
+-- what happened on a node is legal, and its callers are some that a node can have
 pub record IsJournal (journal : Journal) : Type 0 where
   pub shape : IsShape journal.0
   pub legal : IsLegal journal.0 journal.1
-  pub callers : All (λ (e : Event). e.caller < 64) journal.1
+  pub callers : All (λ (e : Event). e.caller < max_callers) journal.1
 
--- 1 to 8 such nodes, whose text isn't longer than what is read
+-- one such node or more, up to as many as a run can have, whose text isn't longer than what is read
 pub record AreTellable (journals : List Journal) : Type 0 where
   pub some_nodes : 1 ≤ length journals
-  pub few_nodes : length journals ≤ 8
+  pub few_nodes : length journals ≤ max_nodes
   pub each : All IsJournal journals
-  pub short : length (journal_text journals) ≤ 16777216
+  pub short : length (journal_text journals) ≤ max_input
 
 -- each journal with its shape and its first line, where the line of the first node is line `line`; each new page has the
 -- least block that no live page holds

@@ -5,6 +5,7 @@ use Rattle.thp_model.specs.declared.events.Event.{Event}
 use Rattle.thp_model.specs.declared.events.What.{What}
 use Rattle.thp_model.specs.declared.events.What.TheVariants.{Alloc, MapWhole, UnmapWhole, MapSub, UnmapSub, SplitPmd, Pin, Unpin, Write, Zero, Taken, Split, Pinned, Used, Back, Dropped, Close}
 use Rattle.thp_model.specs.declared.shape.Shape.{Shape}
+use Rattle.thp_model.specs.Limits.{max_callers, max_order, max_subpages}
 use Rattle.thp_model.specs.Shapes.{IsShape}
 use Rattle.thp_journal_writer.specs.Journals.{Journal}
 use Rattle.thp_journal_writer.specs.declared.version.Version.{Version as Written}
@@ -16,9 +17,9 @@ use Rattle.thp_journal_reader.specs.declared.version.Version.TheVariants.{Plain,
 abbrev pub IsSmallRange : ℕ → ℕ → ℕ → Type 0
 IsSmallRange page first count = (page < 2 ^ 64) × (first < 2 ^ 16) × (count < 2 ^ 16)
 
--- a page's number, and a set of the numbers below 512
+-- a page's number, and a set of subpages
 abbrev pub IsSmallLoss : ℕ → List Bool → Type 0
-IsSmallLoss page set = (page < 2 ^ 64) × (length set ≡ 512)
+IsSmallLoss page set = (page < 2 ^ 64) × (length set ≡ max_subpages)
 
 -- the numbers of what happened fit the operands of its line
 abbrev pub HasSmallNumbers : What → Type 0
@@ -26,7 +27,7 @@ HasSmallNumbers (Alloc page block) = page < 2 ^ 64
 HasSmallNumbers (MapWhole page) = page < 2 ^ 64
 HasSmallNumbers (UnmapWhole outcome page set) = IsSmallLoss page set
 HasSmallNumbers (MapSub page first count) = IsSmallRange page first count
-HasSmallNumbers (UnmapSub outcome page first count set) = (page < 2 ^ 64) × (first < 2 ^ 16) × (count < 2 ^ 16) × (length set ≡ 512)
+HasSmallNumbers (UnmapSub outcome page first count set) = (page < 2 ^ 64) × (first < 2 ^ 16) × (count < 2 ^ 16) × (length set ≡ max_subpages)
 HasSmallNumbers (SplitPmd page) = page < 2 ^ 64
 HasSmallNumbers (Pin page) = page < 2 ^ 64
 HasSmallNumbers (Unpin outcome page set) = IsSmallLoss page set
@@ -55,7 +56,7 @@ IsOfVersion v _ = ⊤
 
 -- a line of the version can tell the event
 pub record IsTellable (v : Version) (e : Event) : Type 0 where
-  pub caller : e.caller < 64
+  pub caller : e.caller < max_callers
   pub numbers : HasSmallNumbers e.what
   pub version : IsOfVersion v e.what
 
@@ -67,7 +68,7 @@ read_version writing.Underused = Underused
 
 -- the line of a node in a version tells the shape: without an order it is 9, without a threshold there is none
 abbrev pub IsToldShape : Version → Shape → Type 0
-IsToldShape Plain s = (s.order ≡ 9) × (s.underused ≡ None)
+IsToldShape Plain s = (s.order ≡ max_order) × (s.underused ≡ None)
 IsToldShape Orders s = s.underused ≡ None
 IsToldShape Underused s = ⊤
 

@@ -14,7 +14,8 @@ use Rattle.thp_model.specs.Places.{queue, without, has_page}
 use Rattle.thp_model.proofs.Bools.{by_bool, or_first, or_second}
 use Rattle.thp_model.proofs.LegalSteps.{legal_push}
 use Rattle.thp_model.proofs.Tallying.{tallies_stay}
-use Rattle.thp_model.proofs.Untouched.{Untouched, is_about, untouched}
+use Rattle.thp_model.proofs.Untouched.{Untouched, untouched}
+use Rattle.thp_model.specs.PageCalls.{is_about}
 use Rattle.thp_page.specs.Table.{Slot}
 use Rattle.thp_page.specs.Table.{Table}
 use Rattle.thp_page.specs.Slots.{slot_at}

@@ -38,25 +38,6 @@ same_use false false s s' g g' z z' a b e f i j t = refl
 below_size : (i n : ℕ) → nat_lt i n ≡ true → i < n
 below_size i n e = grind (arith, nat_tests)
 
--- an unpin changes the use of no subpage
-pub unpin_change : (old new : PageState) (used : Bool) (none : List Bool) → Pinned new old → used ≡ has_use new → none ≡ set_of (λ i. false) →
-    IsChange old new (record { unused = false; used_left = used; released = none })
-unpin_change old new used none p u n = record {
-  unused = sym (some_no (size old) _ (λ i below. neither (total_at old i) (total_at new i) (totals i below)));
-  used_left = u;
-  released = n ∙ set_of-ext _ _ (λ i below. sym (gone (holds old i) (holds new i) (same i)));
-} where
-  totals : (i : ℕ) → i < size old → total_at old i ≡ total_at new i
-  totals i below = ap₂ (λ a b. a + b) p.whole (p.own i (omega (arith, same_sizes old new p.order)))
-
-  same : (i : ℕ) → holds old i ≡ holds new i
-  same i = same_use _ _ _ _ _ _ _ _ _ _ (ap (nat_lt i) (same_sizes old new p.order)) p.split p.kept.gave_zero (ap (λ (set : List Bool). has set i) p.kept.zero) (λ y. totals i (below_size i (size old) y))
-
-  gone : (a b : Bool) → a ≡ b → (a && not b) ≡ false
-  gone true true e = refl
-  gone true false e = absurd (cc)
-  gone false b e = refl
-
 -- a loss leaves the order of its page, and whether it is split
 pub loss_order : (l : Loss) (old new : PageState) → Loses l old new → old.order ≡ new.order
 loss_order loss.UnmapWhole old new w = sym w.order

@@ -1,91 +1,42 @@
 //! What a call asks of one page, and what it does to the page.
-ghost use Rattle.std.specs.Prelude.{◌≡◌, ℕ, None, not};
-ghost use Rattle.thp_model.specs.PageCalls.{gain_call, Gains, loss_call, Loses, page_call};
-ghost use Rattle.thp_model.specs.Pages.{page_refusal, PageState, Pinned, has_use};
+ghost use Rattle.std.specs.Prelude.{◌≡◌, ℕ, not, OnOk, OnErr};
+ghost use Rattle.std.specs.Result.{result_err};
+ghost use Rattle.thp_model.specs.PageCalls.{loss_call, Loses};
+ghost use Rattle.thp_model.specs.Pages.{page_refusal};
 ghost use Rattle.thp_model.specs.PageChanges.{page_outcome, page_released};
-ghost use Rattle.thp_model.specs.Refusals.{unpin as unpin_call};
-ghost use Rattle.thp_page.specs.Changes.{IsChange};
 ghost use Rattle.thp_live_pages.specs.Outcomes.{outcome_by, released_after};
 ghost use Rattle.thp_live_pages.specs.PlacesState.{is_nowhere};
 
-use thp_model::{Done, Gain, Loss, Outcome, PageCall, Refusal, SubSet};
+use thp_model::{Done, Loss, Outcome, Refusal, SubSet};
 use thp_page::{Change, Page, Standing};
 
-// Why a page would refuse a call, if it would.
+// Takes it from a page that stands there, on a node that is closed or not, unless that is refused. What becomes of the page,
+// and the frames given back, then stand in `done`.
 #[inline(always)]
-pub(crate) fn refusal_of(call: PageCall, page: &Page) -> Option<Refusal>
-    ensures { (p : ℕ) → result ≡ page_refusal page.now (page_call call p) }
+pub(crate) fn lose_by(
+    loss: Loss,
+    page: &mut Page,
+    standing: Standing,
+    closed: bool,
+    done: &mut Done,
+) -> Result<(), Refusal>
+    ensures refusal { (p : ℕ) → result_err result ≡ page_refusal page.old (loss_call loss p) }
+    ensures page { OnOk result (Loses loss page.old page.new) }
+    ensures outcome { OnOk result (done.new.outcome ≡ page_outcome page.old page.new closed (not (is_nowhere standing))) }
+    ensures released { OnOk result (done.new.released ≡ page_released page.old page.new done.new.outcome) }
+    ensures kept { OnErr result (page.new ≡ page.old) }
 {
-    match call {
-        PageCall::Gain(Gain::MapWhole) => page.refusal_map_whole(),
-        PageCall::Gain(Gain::MapSub { first, count }) => page.refusal_map_sub(first, count),
-        PageCall::Gain(Gain::SplitPmd) => page.refusal_split_pmd(),
-        PageCall::Gain(Gain::Pin) => page.refusal_pin(),
-        PageCall::Gain(Gain::Write { first, count }) => page.refusal_write(first, count),
-        PageCall::Gain(Gain::Zero { first, count }) => page.refusal_zero(first, count),
-        PageCall::Loss(Loss::UnmapWhole) => page.refusal_unmap_whole(),
-        PageCall::Loss(Loss::UnmapSub { first, count }) => page.refusal_unmap_sub(first, count),
-        PageCall::Loss(Loss::Unpin) => page.refusal_unpin(),
+    let mut change = Change::none();
+    match page.lose(loss, &mut change) {
+        Ok(()) => {}
+        Err(refusal) => return Err(refusal),
     }
-}
-
-// Gives it to a page that doesn't refuse it.
-#[inline(always)]
-pub(crate) fn gain_by(gain: Gain, page: &mut Page)
-    requires { page_refusal page.old (gain_call gain 0) ≡ None }
-    ensures { Gains gain page.old page.new }
-{
-    match gain {
-        Gain::MapWhole => page.do_map_whole(),
-        Gain::MapSub { first, count } => page.do_map_sub(first, count),
-        Gain::SplitPmd => page.do_split_pmd(),
-        Gain::Pin => page.do_pin(),
-        Gain::Write { first, count } => page.do_write(first, count),
-        Gain::Zero { first, count } => page.do_zero(first, count),
-    }
-}
-
-// Takes it from a page that doesn't refuse it and that stands there, on a node that is closed or not. Answers what becomes
-// of the page, and the frames given back.
-#[inline(always)]
-pub(crate) fn lose_by(loss: Loss, page: &mut Page, standing: Standing, closed: bool) -> Done
-    requires { page_refusal page.old (loss_call loss 0) ≡ None }
-    ensures page { Loses loss page.old page.new }
-    ensures outcome { result.outcome ≡ page_outcome page.old page.new closed (not (is_nowhere standing)) }
-    ensures released { result.released ≡ page_released page.old page.new result.outcome }
-{
-    let change = take(loss, page);
     let outcome = outcome_of(page, &change, standing, closed);
-    let released = released_by(page, &change, outcome);
-    Done { outcome, released }
-}
-
-// Takes the mappings or the pin.
-#[inline(always)]
-fn take(loss: Loss, page: &mut Page) -> Change
-    requires { page_refusal page.old (loss_call loss 0) ≡ None }
-    ensures page { Loses loss page.old page.new }
-    ensures change { IsChange page.old page.new result }
-{
-    match loss {
-        Loss::UnmapWhole => page.do_unmap_whole(),
-        Loss::UnmapSub { first, count } => page.do_unmap_sub(first, count),
-        Loss::Unpin => unpin(page),
-    }
-}
-
-// Takes a pin, which changes the use of no subpage.
-fn unpin(page: &mut Page) -> Change
-    requires { page_refusal page.old (unpin_call 0) ≡ None }
-    ensures page { Pinned page.new page.old }
-    ensures change { IsChange page.old page.new result }
-{
-    page.do_unpin();
-    Change {
-        unused: false,
-        used_left: page.has_use(),
-        released: SubSet::empty(),
-    }
+    *done = Done {
+        outcome,
+        released: released_by(page, &change, outcome),
+    };
+    Ok(())
 }
 
 // What a change comes to, by the page after it.

@@ -1,8 +1,10 @@
 //! The pages of a node with their places: the table of their descriptors, and the queue that is linked through it.
-ghost use Rattle.std.specs.Prelude.{◌≡◌, ◌≢◌, ℕ, ◌+◌, ◌<◌, ◌≤◌, [], ◌∷◌, ◌++◌, length, drop, slice_get, Option, Some, None, IsSome, IfSome, IfNone, IfOk, MatchOption, IsTrue, ◌↔◌, Contains, false};
+ghost use Rattle.std.specs.Prelude.{◌≡◌, ◌≢◌, ℕ, ◌+◌, ◌<◌, ◌≤◌, [], ◌∷◌, ◌++◌, length, drop, slice_get, Option, Some, None, IsSome, IfSome, IfNone, IfOk, OnOk, OnErr, MatchOption, IsTrue, ◌↔◌, Contains, false};
 ghost use Rattle.std.specs.Bool.{OnTrue, OnFalse};
+ghost use Rattle.std.specs.Result.{result_err};
 ghost use Rattle.thp_links.specs.Indices.{without};
 ghost use Rattle.thp_links.specs.Standing.{Stands};
+ghost use Rattle.thp_model.specs.Limits.{max_order, min_order};
 ghost use Rattle.thp_model.specs.Pages.{gives_frames, is_worth, page_refusal, PageSplit, PageState};
 ghost use Rattle.thp_page.specs.Slots.{slot_at, HoldsPage};
 ghost use Rattle.thp_page.specs.Table.{Slot};
@@ -11,7 +13,7 @@ ghost use Rattle.thp_live_pages.specs.FreeChains.{IsFreeChain, Relinks};
 ghost use Rattle.thp_model.specs.PageCalls.{gain_call, loss_call, page_call, Gains};
 ghost use Rattle.thp_live_pages.specs.PlacesState.{AtSlot, Edits, batch_of, IsElsewhere, LeavesQueue, Lost, Placed, Reduced, TakesFirst};
 
-use crate::page_call::{gain_by, lose_by, refusal_of};
+use crate::page_call::lose_by;
 use std::alloc::{AllocError, Global};
 use std::marker::Model;
 use thp_links::{FreeChain, LinkTable, Queue};
@@ -42,8 +44,8 @@ impl Model for Places {
 impl Places {
     /// No page in any of the shape's blocks. It takes all memory that the pages will need, and fails where that isn't there.
     pub fn new(alloc: Global, shape: Shape) -> Result<Places, AllocError>
-        requires least { 2 ≤ shape.order }
-        requires most { shape.order ≤ 9 }
+        requires least { min_order ≤ shape.order }
+        requires most { shape.order ≤ max_order }
         ensures size { IfOk result (λ p. length p.table.slots ≡ shape.blocks) }
         ensures order { IfOk result (λ p. p.table.order ≡ shape.order) }
         ensures empty { IfOk result (λ p. (i : ℕ) → slot_at p.table i ≡ None) }
@@ -114,35 +116,46 @@ impl Places {
         ensures { AtSlot self.now.table block (λ x. (p : ℕ) → result ≡ page_refusal x.page (page_call call p)) }
     {
         match self.table.page(block) {
-            Some((_, page)) => refusal_of(call, page),
+            Some((_, page)) => page.refusal(call),
             None => unreachable!(),
         }
     }
 
-    /// Gives the page of a block mappings or a pin, or fills subpages of it, which isn't refused.
+    /// Gives the page of a block mappings or a pin, or fills subpages of it, unless the page refuses that.
     #[inline(always)]
-    pub fn gain(&mut self, block: u32, gain: Gain)
+    pub fn gain(&mut self, block: u32, gain: Gain) -> Result<(), Refusal>
         requires occupied { IsSome (slot_at self.old.table block) }
-        requires allowed { AtSlot self.old.table block (λ x. page_refusal x.page (gain_call gain 0) ≡ None) }
-        ensures { AtSlot self.old.table block (λ x. (p : PageState) × Gains gain x.page p × Edits self.old self.new block (Some (record x { page = p })) self.old.queue 0) }
+        ensures refusal { AtSlot self.old.table block (λ x. (p : ℕ) → result_err result ≡ page_refusal x.page (gain_call gain p)) }
+        ensures gained { OnOk result (AtSlot self.old.table block (λ x. (p : PageState) × Gains gain x.page p × Edits self.old self.new block (Some (record x { page = p })) self.old.queue 0)) }
+        ensures kept { OnErr result (self.new ≡ self.old) }
     {
         match self.table.page_mut(block) {
-            Some(page) => gain_by(gain, page),
+            Some(page) => page.gain(gain),
             None => unreachable!(),
         }
     }
 
-    /// Takes mappings or a pin from the page of a block, which isn't refused, and then queues or frees the page, or leaves
-    /// it. Answers that and the frames given back, and the caller whose batch the page left. The block of a page that is
-    /// freed has no page then.
+    /// Takes mappings or a pin from the page of a block, unless the page refuses that, and then queues or frees the page, or
+    /// leaves it. That and the frames given back then stand in `done`; the answer is the caller whose batch the page left. The
+    /// block of a page that is freed has no page then.
     #[inline(always)]
-    pub fn lose(&mut self, block: u32, loss: Loss, closed: bool) -> (Done, Option<u32>)
+    pub fn lose(
+        &mut self,
+        block: u32,
+        loss: Loss,
+        closed: bool,
+        done: &mut Done,
+    ) -> Result<Option<u32>, Refusal>
         requires occupied { IsSome (slot_at self.old.table block) }
-        requires allowed { AtSlot self.old.table block (λ x. page_refusal x.page (loss_call loss 0) ≡ None) }
-        ensures { AtSlot self.old.table block (λ x. Lost loss closed x self.old self.new block result.0 result.1) }
+        ensures refusal { AtSlot self.old.table block (λ x. (p : ℕ) → result_err result ≡ page_refusal x.page (loss_call loss p)) }
+        ensures lost { IfOk result (λ left. AtSlot self.old.table block (λ x. Lost loss closed x self.old self.new block done.new left)) }
+        ensures kept { OnErr result (self.new ≡ self.old) }
     {
         let standing = self.table.standing(block);
-        let done = self.reduce(block, loss, closed);
+        match self.reduce(block, loss, closed, done) {
+            Ok(()) => {}
+            Err(refusal) => return Err(refusal),
+        }
         let left = match done.outcome {
             Outcome::Stays => None,
             Outcome::Queued => {
@@ -154,7 +167,7 @@ impl Places {
                 batch_of(standing)
             }
         };
-        (done, left)
+        Ok(left)
     }
 
     /// Takes the oldest page of the queue, which isn't empty, into a caller's batch.
@@ -309,16 +322,23 @@ impl Places {
         chain.pop(&mut self.table)
     }
 
-    // Takes mappings or a pin from the page of a block, which isn't refused, and answers what becomes of it.
+    // Takes mappings or a pin from the page of a block, unless that is refused. What becomes of it then stands in `done`.
     #[inline(always)]
-    fn reduce(&mut self, block: u32, loss: Loss, closed: bool) -> Done
+    fn reduce(
+        &mut self,
+        block: u32,
+        loss: Loss,
+        closed: bool,
+        done: &mut Done,
+    ) -> Result<(), Refusal>
         requires occupied { IsSome (slot_at self.old.table block) }
-        requires allowed { AtSlot self.old.table block (λ x. page_refusal x.page (loss_call loss 0) ≡ None) }
-        ensures { AtSlot self.old.table block (λ x. Reduced loss closed x self.old self.new block result) }
+        ensures refusal { AtSlot self.old.table block (λ x. (p : ℕ) → result_err result ≡ page_refusal x.page (loss_call loss p)) }
+        ensures reduced { OnOk result (AtSlot self.old.table block (λ x. Reduced loss closed x self.old self.new block done.new)) }
+        ensures kept { OnErr result (self.new ≡ self.old) }
     {
         let standing = self.table.standing(block);
         match self.table.page_mut(block) {
-            Some(page) => lose_by(loss, page, standing, closed),
+            Some(page) => lose_by(loss, page, standing, closed, done),
             None => unreachable!(),
         }
     }

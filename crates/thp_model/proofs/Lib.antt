@@ -1,4 +1,5 @@
 pub mod Bools
+pub mod Options
 pub mod Counting
 pub mod ListPlaces
 pub mod LegalSteps
@@ -37,3 +38,4 @@ pub mod WorkedRows
 pub mod WordLemmas
 mod WordMarks
 mod WordCounts
+pub mod Narrowing

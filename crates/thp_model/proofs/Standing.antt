@@ -25,7 +25,8 @@ use Rattle.thp_model.proofs.Counting.{count-filter, count-le, count_any, count-c
 use Rattle.thp_model.proofs.LegalSteps.{legal_all}
 use Rattle.thp_model.proofs.Numbers.{Fresh, Numbered, live_below, beyond, fresh_push, numbered_none}
 use Rattle.thp_model.proofs.Pushes.{queue_push, flights_push, some_event_push, some_same, count_of_push, count_same, count_more}
-use Rattle.thp_model.proofs.Untouched.{is_about, untouched}
+use Rattle.thp_model.proofs.Untouched.{untouched}
+use Rattle.thp_model.specs.PageCalls.{is_about}
 
 -- how often page p stands in the queue, and in the flights
 unfoldable pub times : ℕ → List ℕ → ℕ

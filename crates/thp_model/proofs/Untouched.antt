@@ -4,6 +4,7 @@ use Rattle.thp_model.specs.declared.events.What.{What}
 use Rattle.thp_model.specs.declared.events.What.TheVariants.{Alloc, MapWhole, UnmapWhole, MapSub, UnmapSub, SplitPmd, Pin, Unpin, Write, Zero, Taken, Split, Pinned, Used, Back, Dropped, Close}
 use Rattle.thp_model.specs.Counts.{maps, unmaps, maps_whole, unmaps_whole, pins_page, unpins_page, allocates, frees, splits}
 use Rattle.thp_model.specs.Underused.{zeroes, writes, unmaps_some}
+use Rattle.thp_model.specs.PageCalls.{is_about}
 use Rattle.thp_model.proofs.Bools.{and_no}
 
 -- the event leaves every count and every state of page p
@@ -20,26 +21,6 @@ pub record Untouched (p : ℕ) (w : What) : Type 0 where
   pub no_zeroes : (i : ℕ) → zeroes p i w ≡ false
   pub no_writes : (i : ℕ) → writes p i w ≡ false
   pub no_unmap : unmaps_some p w ≡ false
-
--- the page that an event names; the events of the node have none
-abbrev pub is_about : ℕ → What → Bool
-is_about p (Alloc q block) = nat_eq p q
-is_about p (MapWhole q) = nat_eq p q
-is_about p (UnmapWhole outcome q set) = nat_eq p q
-is_about p (MapSub q first count) = nat_eq p q
-is_about p (UnmapSub outcome q first count set) = nat_eq p q
-is_about p (SplitPmd q) = nat_eq p q
-is_about p (Pin q) = nat_eq p q
-is_about p (Unpin outcome q set) = nat_eq p q
-is_about p (Write q first count) = nat_eq p q
-is_about p (Zero q first count) = nat_eq p q
-is_about p (Taken q) = false
-is_about p (Split q set) = nat_eq p q
-is_about p (Pinned q) = false
-is_about p (Used q) = false
-is_about p (Back q) = false
-is_about p (Dropped q) = false
-is_about p Close = false
 
 -- an event that names another page, or is a move from one place to another, leaves page p
 pub untouched : (p : ℕ) (w : What) → is_about p w ≡ false → Untouched p w

@@ -1,5 +1,5 @@
 -- What a call asks of one page: the call, its event, and what it does to the page.
-use Rattle.std.specs.Prelude.{ℕ, List, Bool}
+use Rattle.std.specs.Prelude.{ℕ, List, Bool, false, nat_eq}
 use Rattle.thp_model.specs.declared.events.Outcome.{Outcome}
 use Rattle.thp_model.specs.declared.events.What.{What}
 use Rattle.thp_model.specs.declared.events.What.TheVariants as what
@@ -63,3 +63,23 @@ Loses loss.Unpin old new = Pinned new old
 abbrev pub gain_splits : Gain → ℕ
 gain_splits gain.SplitPmd = 1
 gain_splits g = 0
+
+-- an event is about page p and changes it, or what the history says of it
+abbrev pub is_about : ℕ → What → Bool
+is_about p (what.Alloc q block) = nat_eq p q
+is_about p (what.MapWhole q) = nat_eq p q
+is_about p (what.UnmapWhole outcome q set) = nat_eq p q
+is_about p (what.MapSub q first count) = nat_eq p q
+is_about p (what.UnmapSub outcome q first count set) = nat_eq p q
+is_about p (what.SplitPmd q) = nat_eq p q
+is_about p (what.Pin q) = nat_eq p q
+is_about p (what.Unpin outcome q set) = nat_eq p q
+is_about p (what.Write q first count) = nat_eq p q
+is_about p (what.Zero q first count) = nat_eq p q
+is_about p (what.Taken q) = false
+is_about p (what.Split q set) = nat_eq p q
+is_about p (what.Pinned q) = false
+is_about p (what.Used q) = false
+is_about p (what.Back q) = false
+is_about p (what.Dropped q) = false
+is_about p what.Close = false

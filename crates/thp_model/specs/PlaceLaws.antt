@@ -3,13 +3,14 @@ use Rattle.std.specs.Prelude.{◌≡◌, ℕ, ◌≤◌, Bool, true, false, not,
 use Rattle.std.specs.List.{filter, list_all}
 use Rattle.thp_model.specs.declared.events.Event.{Event}
 use Rattle.thp_model.specs.declared.events.What.{What}
-use Rattle.thp_model.specs.declared.events.What.TheVariants.{Alloc, MapWhole, UnmapWhole, MapSub, UnmapSub, SplitPmd, Pin, Unpin, Write, Zero, Taken, Split, Pinned, Used, Back, Dropped}
+use Rattle.thp_model.specs.declared.events.What.TheVariants.{Alloc, UnmapWhole, UnmapSub, Unpin, Taken, Pinned, Used, Back, Dropped}
 use Rattle.thp_model.specs.declared.shape.Shape.{Shape}
 use Rattle.thp_model.specs.History.{History, by, some_event}
 use Rattle.thp_model.specs.Counts.{allocates, is_live, is_split, is_closed, is_queued}
 use Rattle.thp_model.specs.Places.{queue, queue_after, flight, standing, stands}
 use Rattle.thp_model.specs.FlightSteps.{flight_after}
 use Rattle.thp_model.specs.Legal.{IsLegal}
+use Rattle.thp_model.specs.PageCalls.{is_about}
 use Rattle.thp_model.specs.Runs.{still_flying}
 
 -- the queue and all flights joined repeat no page
@@ -32,22 +33,13 @@ OldestAreTaken =
 
 -- the event is about page p, and not its allocation
 abbrev pub acts_on : ℕ → What → Bool
-acts_on p (MapWhole q) = nat_eq p q
-acts_on p (UnmapWhole outcome q released) = nat_eq p q
-acts_on p (MapSub q first count) = nat_eq p q
-acts_on p (UnmapSub outcome q first count released) = nat_eq p q
-acts_on p (SplitPmd q) = nat_eq p q
-acts_on p (Pin q) = nat_eq p q
-acts_on p (Unpin outcome q released) = nat_eq p q
-acts_on p (Write q first count) = nat_eq p q
-acts_on p (Zero q first count) = nat_eq p q
+acts_on p (Alloc q block) = false
 acts_on p (Taken q) = nat_eq p q
-acts_on p (Split q released) = nat_eq p q
 acts_on p (Pinned q) = nat_eq p q
 acts_on p (Used q) = nat_eq p q
 acts_on p (Back q) = nat_eq p q
 acts_on p (Dropped q) = nat_eq p q
-acts_on p _ = false
+acts_on p w = is_about p w
 
 -- at each event about a page, the page was allocated before and not freed: so no freed page is ever taken, split, put
 -- back or dropped

@@ -3,12 +3,13 @@ use Rattle.std.specs.Prelude.{ℕ, zero, suc, Bool, false, ◌&&◌, ◌+◌, na
 use Rattle.std.specs.List.{range_with_len, count_by, list_any, list_all}
 use Rattle.std.specs.Cmp.{IsEquivalence, IsPartialEquivalence, bool_eq_equiv, partial_equiv_from_equiv}
 use Rattle.std.specs.Cmp.Lexicographic.{pointwise}
+use Rattle.thp_model.specs.Limits.{max_subpages}
 use Rattle.std.proofs.Math.Bool.{beq}
 use Rattle.std.proofs.lemmas.Cmp.{lists_equiv}
 
 -- the set of the numbers below 512 that pass a test
 unfoldable pub set_of : (ℕ → Bool) → List Bool
-set_of test = map test (range_with_len 0 512)
+set_of test = map test (range_with_len 0 max_subpages)
 
 -- whether i is in the set
 abbrev pub has : List Bool → ℕ → Bool

@@ -1,5 +1,6 @@
 -- The size of a node.
 use Rattle.std.specs.Prelude.{◌≡◌, ℕ, ◌^◌, ◌≤◌, ◌<◌, Some}
+use Rattle.thp_model.specs.Limits.{max_blocks, max_order, min_order}
 use Rattle.thp_model.specs.declared.shape.Shape.{Shape}
 
 -- how many subpages a page of the node has, and how many frames a block
@@ -10,7 +11,7 @@ subpages s = 2 ^ s.order
 -- subpages)
 pub record IsShape (s : Shape) : Type 0 where
   pub some_blocks : 1 ≤ s.blocks
-  pub few_blocks : s.blocks ≤ 4096
-  pub least_order : 2 ≤ s.order
-  pub most_order : s.order ≤ 9
+  pub few_blocks : s.blocks ≤ max_blocks
+  pub least_order : min_order ≤ s.order
+  pub most_order : s.order ≤ max_order
   pub low_threshold : (t : ℕ) → s.underused ≡ Some t → t < subpages s

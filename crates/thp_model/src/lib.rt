@@ -11,6 +11,7 @@
 
 mod events;
 mod laws;
+mod limits;
 mod page_call;
 mod refusal;
 mod rows;
@@ -23,7 +24,8 @@ pub use laws::{
     live_pages_are_apart, no_page_stands_twice, none_is_underused_while_off,
     nothing_enters_after_close, oldest_are_taken, others_only_free, requests_decide,
 };
-pub use page_call::{Done, Gain, Loss, PageCall};
+pub use limits::{MAX_BATCH, MAX_CALLERS, MAX_SUBPAGES, limits_are_defined};
+pub use page_call::{Done, Gain, Loss, PageCall, narrowed};
 pub use refusal::Refusal;
 pub use rows::{
     first_run_is_legal, pinned_goes_to_the_tail_is_legal, small_page_split_is_legal,

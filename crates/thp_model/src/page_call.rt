@@ -1,5 +1,5 @@
 //! What a call asks of one page, as a value, and the event that it leaves.
-ghost use Rattle.std.specs.Prelude.{◌≡◌};
+ghost use Rattle.std.specs.Prelude.{◌≡◌, min};
 ghost use Rattle.thp_model.specs.PageCalls.{gain_splits, gain_what, loss_what};
 
 use crate::events::{Outcome, PageId, What};
@@ -12,15 +12,15 @@ pub enum Gain {
     /// One more mapping of the whole page.
     MapWhole,
     /// One more mapping of each of the `count` subpages from `first` on.
-    MapSub { first: u32, count: u32 },
+    MapSub { first: u16, count: u16 },
     /// One mapping of the whole page becomes one of each subpage.
     SplitPmd,
     /// One more pin.
     Pin,
     /// Data into each of the `count` subpages from `first` on.
-    Write { first: u32, count: u32 },
+    Write { first: u16, count: u16 },
     /// Zeros into each of the `count` subpages from `first` on.
-    Zero { first: u32, count: u32 },
+    Zero { first: u16, count: u16 },
 }
 
 /// What takes mappings or a pin away. The page can be queued or freed by it.
@@ -29,7 +29,7 @@ pub enum Loss {
     /// One mapping of the whole page less.
     UnmapWhole,
     /// One mapping of each of the `count` subpages from `first` on less.
-    UnmapSub { first: u32, count: u32 },
+    UnmapSub { first: u16, count: u16 },
     /// One pin less.
     Unpin,
 }
@@ -48,6 +48,19 @@ pub struct Done {
     pub released: SubSet,
 }
 
+/// An operand of a page call in 16 bits, the greatest such number for each above it. A page has 512 subpages at most, so a
+/// range with either number is refused alike.
+#[inline(always)]
+pub fn narrowed(operand: u32) -> u16
+    ensures { result ≡ min operand 65535 }
+{
+    if operand < 65535 {
+        operand as u16
+    } else {
+        u16::MAX
+    }
+}
+
 impl Gain {
     /// The event of a page that gained this.
     #[inline(always)]
@@ -56,11 +69,23 @@ impl Gain {
     {
         match self {
             Gain::MapWhole => What::MapWhole { page },
-            Gain::MapSub { first, count } => What::MapSub { page, first, count },
+            Gain::MapSub { first, count } => What::MapSub {
+                page,
+                first: u32::from(first),
+                count: u32::from(count),
+            },
             Gain::SplitPmd => What::SplitPmd { page },
             Gain::Pin => What::Pin { page },
-            Gain::Write { first, count } => What::Write { page, first, count },
-            Gain::Zero { first, count } => What::Zero { page, first, count },
+            Gain::Write { first, count } => What::Write {
+                page,
+                first: u32::from(first),
+                count: u32::from(count),
+            },
+            Gain::Zero { first, count } => What::Zero {
+                page,
+                first: u32::from(first),
+                count: u32::from(count),
+            },
         }
     }
 
@@ -91,8 +116,8 @@ impl Loss {
             Loss::UnmapSub { first, count } => What::UnmapSub {
                 outcome,
                 page,
-                first,
-                count,
+                first: u32::from(first),
+                count: u32::from(count),
                 released,
             },
             Loss::Unpin => What::Unpin {

@@ -1,5 +1,6 @@
 //! How large a node is.
 ghost use Rattle.std.specs.Prelude.{◌≡◌, ◌≤◌, IsTrue, ◌↔◌};
+ghost use Rattle.thp_model.specs.Limits.{max_order};
 ghost use Rattle.thp_model.specs.Shapes.{subpages, IsShape};
 ghost use Rattle.thp_model.specs.Underused.{shrinks_underused};
 
@@ -46,7 +47,7 @@ impl Shape {
 
     /// How many subpages a page has.
     pub fn subpages(&self) -> u32
-        requires { self.now.order ≤ 9 }
+        requires { self.now.order ≤ max_order }
         ensures { result ≡ subpages self.now }
     {
         1 << self.order

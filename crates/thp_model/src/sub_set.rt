@@ -1,8 +1,10 @@
 //! A set of subpages of one page.
 ghost use Rattle.std.specs.Prelude.{◌≡◌, ℕ, ◌+◌, ◌-◌, ◌*◌, ◌^◌, ◌<◌, ◌≤◌, not, ◌&&◌, ◌||◌, IsTrue, ◌↔◌, min, nat_eq, nat_lt, slice_index, slice_set, length, true, false, if◌then◌else◌};
 ghost use Rattle.std.specs.Int.{bit_at};
+ghost use Rattle.thp_model.specs.Limits.{max_order, max_subpages};
 ghost use Rattle.thp_model.specs.Sets.{has, set_of, set_size, covers, same_set, same_set-equiv, same_set-partial_equiv};
 
+use crate::limits::MAX_SUBPAGES;
 use std::marker::Model;
 use std::simd::prelude::*;
 
@@ -56,7 +58,7 @@ impl SubSet {
     // out of line: where a branch alone wants it, LLVM would work it out before the branch
     #[inline(never)]
     pub fn full(order: u32) -> SubSet
-        requires { order ≤ 9 }
+        requires { order ≤ max_order }
         ensures { result ≡ set_of (λ i. nat_lt i (2 ^ order)) }
     {
         SubSet::below(1 << order)
@@ -64,15 +66,15 @@ impl SubSet {
 
     /// The `count` subpages from `first` on.
     pub fn range(first: u32, count: u32) -> SubSet
-        requires { first + count ≤ 512 }
+        requires { first + count ≤ max_subpages }
         ensures { result ≡ set_of (covers first count) }
     {
         SubSet::below(first + count).difference(SubSet::below(first))
     }
 
     /// Of the `count` subpages from `first` on, those whose map count is `n`.
-    pub fn with_count(counts: &[u16; 512], first: u32, count: u32, n: u16) -> SubSet
-        requires { first + count ≤ 512 }
+    pub fn with_count(counts: &[u16; MAX_SUBPAGES], first: u32, count: u32, n: u16) -> SubSet
+        requires { first + count ≤ max_subpages }
         ensures { result ≡ set_of (λ i. covers first count i && nat_eq (slice_index counts.now i) n) }
     {
         if count == 0 {
@@ -99,7 +101,7 @@ impl SubSet {
 
     /// Whether subpage `i` is in the set.
     pub fn contains(&self, i: u32) -> bool
-        requires { i < 512 }
+        requires { i < max_subpages }
         ensures { result ≡ has self.now i }
     {
         let word = self.words[i as usize / 64];
@@ -108,7 +110,7 @@ impl SubSet {
 
     /// Puts subpage `i` into the set.
     pub fn insert(&mut self, i: u32)
-        requires { i < 512 }
+        requires { i < max_subpages }
         ensures { self.new ≡ slice_set self.old i true }
     {
         let at = i as usize / 64;
@@ -166,38 +168,38 @@ impl SubSet {
 
     /// The first subpage from `from` on that is in the set, or 512 where there is none.
     pub fn first_in(&self, from: u32) -> u32
-        requires { from ≤ 512 }
-        ensures size { length self.now ≡ 512 }
+        requires { from ≤ max_subpages }
+        ensures size { length self.now ≡ max_subpages }
         ensures from { from ≤ result }
-        ensures within { result ≤ 512 }
+        ensures within { result ≤ max_subpages }
         ensures none_before { (i : ℕ) → from ≤ i → i < result → has self.now i ≡ false }
-        ensures found { result < 512 → has self.now result ≡ true }
+        ensures found { result < max_subpages → has self.now result ≡ true }
     {
         self.first_that(true, from)
     }
 
     /// The first subpage from `from` on that isn't in the set, or 512 where there is none.
     pub fn first_out(&self, from: u32) -> u32
-        requires { from ≤ 512 }
+        requires { from ≤ max_subpages }
         ensures from { from ≤ result }
-        ensures within { result ≤ 512 }
+        ensures within { result ≤ max_subpages }
         ensures all_before { (i : ℕ) → from ≤ i → i < result → has self.now i ≡ true }
-        ensures found { result < 512 → has self.now result ≡ false }
+        ensures found { result < max_subpages → has self.now result ≡ false }
     {
         self.first_that(false, from)
     }
 
     // the first number from `from` on that is in the set as `is_in` says, or 512
     fn first_that(&self, is_in: bool, from: u32) -> u32
-        requires { from ≤ 512 }
-        ensures size { length self.now ≡ 512 }
+        requires { from ≤ max_subpages }
+        ensures size { length self.now ≡ max_subpages }
         ensures from { from ≤ result }
-        ensures within { result ≤ 512 }
+        ensures within { result ≤ max_subpages }
         ensures none_before { (i : ℕ) → from ≤ i → i < result → has self.now i ≡ not is_in }
-        ensures found { result < 512 → has self.now result ≡ is_in }
+        ensures found { result < max_subpages → has self.now result ≡ is_in }
     {
         let mut at = from;
-        while at < 512 {
+        while at < MAX_SUBPAGES as u32 {
             let word = self.words[at as usize / 64];
             let ahead = marks(word, is_in) >> (at % 64);
             if ahead != 0 {
@@ -210,7 +212,7 @@ impl SubSet {
 
     // the set of the numbers below n
     fn below(n: u32) -> SubSet
-        requires { n ≤ 512 }
+        requires { n ≤ max_subpages }
         ensures { result ≡ set_of (λ i. nat_lt i n) }
     {
         SubSet {
@@ -236,7 +238,7 @@ fn marks(word: u64, is_in: bool) -> u64
 }
 
 // word k of the set of the numbers whose count is n, by one compare of 64 counts
-fn equal_bits(counts: &[u16; 512], k: u32, n: u16) -> u64
+fn equal_bits(counts: &[u16; MAX_SUBPAGES], k: u32, n: u16) -> u64
     requires { k < 8 }
     ensures { (r : ℕ) → r < 64 → (nat_eq (bit_at result r) 1) ≡ nat_eq (slice_index counts.now (64 * k + r)) n }
 {

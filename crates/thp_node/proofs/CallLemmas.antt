@@ -1,12 +1,14 @@
 -- What a call did, put together from what its parts did.
-use Rattle.std.proofs.Common.{◌≡◌, ℕ, zero, suc, ◌+◌, ◌<◌, ◌≤◌, List, [], ◌∷◌, ◌++◌, length, map, refl, ap, sym, ◌∙◌, arith, get_or, length-append, append_assoc}
+use Rattle.std.proofs.Common.{◌≡◌, Option, Some, None, inl, inr, ℕ, zero, suc, ◌+◌, ◌<◌, ◌≤◌, List, [], ◌∷◌, ◌++◌, length, map, refl, ap, sym, ◌∙◌, arith, get_or, length-append, append_assoc}
+use Rattle.std.proofs.lemmas.Bool.{cases_lt}
 use Rattle.std.specs.List.{All}
+use Rattle.thp_model.specs.declared.refusal.Refusal.{Refusal}
 use Rattle.thp_model.specs.declared.events.Event.{Event}
 use Rattle.thp_model.specs.declared.events.What.{What}
 use Rattle.thp_model.specs.History.{by}
 use Rattle.thp_model.specs.Legal.{IsLegal}
 use Rattle.thp_model.proofs.ListPlaces.{append_none}
-use Rattle.thp_node.specs.Calls.{Did}
+use Rattle.thp_node.specs.Calls.{Did, Refused}
 use Rattle.thp_node.specs.NodeState.{NodeState}
 
 -- each event of a list is by caller c
@@ -68,3 +70,11 @@ did_then a b d c es fs m n = record {
   room = omega (arith, m.room, n.room, length-append es fs);
   work = omega (arith, m.work, n.work, length-append es fs);
 }
+
+-- a call that was refused once room was looked for: only a call that isn't refused makes room
+pub refused_by : (old mid new : NodeState) (why : Option Refusal) (r : Refusal) → new ≡ mid → why ≡ Some r → (0 < old.room → mid ≡ old) → (old.room ≡ 0 → why ≡ None) →
+    Refused old new why 1 r
+refused_by old mid new why r kept is same none = elim (cases_lt 0 old.room) [
+  | inl some ↦ record { same = kept ∙ same some; cause = inl is }
+  | inr full ↦ absurd (let no : why ≡ None = none (omega arith) in cc (is, no))
+]

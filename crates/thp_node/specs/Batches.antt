@@ -1,6 +1,7 @@
 -- What contracts see of a batch, what a try and a put-back answer, and what a scan counts.
 use Rattle.std.specs.Prelude.{◌≡◌, ◌≢◌, ℕ, ◌≤◌, ◌<◌, length, count_by, nat_eq, if◌then◌else◌, Bool, true, false, List, ◌++◌, drop, Option, Some, None}
 use Rattle.std.specs.List.{All}
+use Rattle.thp_model.specs.Limits.{max_batch, max_callers}
 use Rattle.thp_model.specs.declared.events.Event.{Event}
 use Rattle.thp_model.specs.declared.events.What.{What}
 use Rattle.thp_model.specs.declared.events.What.TheVariants.{Taken, Split as SplitOf, Pinned as PinnedOf, Used as UsedOf, Back, Dropped}
@@ -28,8 +29,8 @@ rest b = drop b.place b.pages
 
 -- what a batch keeps
 pub record IsBatch (b : BatchState) : Type 0 where
-  pub caller : b.caller < 64
-  pub few : length b.pages ≤ 128
+  pub caller : b.caller < max_callers
+  pub few : length b.pages ≤ max_batch
   pub inside : b.place ≤ length b.pages
 
 -- the pages of the batch that are still in flight come first in the flight of its caller

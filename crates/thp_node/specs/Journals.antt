@@ -8,6 +8,7 @@ use Rattle.thp_model.specs.declared.events.What.TheVariants.{UnmapWhole, UnmapSu
 use Rattle.thp_model.specs.declared.shape.Shape.{Shape}
 use Rattle.thp_model.specs.Sets.{set_size}
 use Rattle.thp_model.specs.Shapes.{IsShape}
+use Rattle.thp_model.specs.Limits.{max_callers}
 use Rattle.thp_model.specs.History.{History}
 use Rattle.thp_model.specs.Counts.{is_closed, allocations, is_alloc, closes, whole}
 use Rattle.thp_model.specs.Underused.{is_partly_mapped}
@@ -135,7 +136,7 @@ frames_of _ = 0
 
 -- a page can join the flight of caller c, or leave it, by the counts of pages in flight
 abbrev pub CanJoin : List ℕ → ℕ → Type 0
-CanJoin flying c = (c < 64) × (slice_index_or flying c 0 + 1 < 2 ^ 8)
+CanJoin flying c = (c < max_callers) × (slice_index_or flying c 0 + 1 < 2 ^ 8)
 
 abbrev pub CanLeave : List ℕ → ℕ → Type 0
 CanLeave flying c = 0 < slice_index_or flying c 0

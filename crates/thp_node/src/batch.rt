@@ -1,10 +1,11 @@
 //! Pages that a caller took from the queue together.
+ghost use Rattle.thp_model.specs.Limits.{max_batch, max_callers};
 ghost use Rattle.std.specs.Prelude.{◌≡◌, ◌+◌, ◌<◌, ◌≤◌, [], ◌∷◌, ◌++◌, drop, length, slice_get, Option};
 ghost use Rattle.thp_node.specs.Batches.{rest, IsBatch};
 
 use arrayvec::ArrayVec;
 use std::marker::Model;
-use thp_model::PageId;
+use thp_model::{MAX_BATCH, PageId};
 
 /// The pages of one take, oldest first, and how far they were tried.
 ///
@@ -13,7 +14,7 @@ use thp_model::PageId;
 #[derive(Drop)]
 pub struct Batch {
     caller: u32,
-    pages: ArrayVec<PageId, 128>,
+    pages: ArrayVec<PageId, MAX_BATCH>,
     // how many pages stand before the place where the next try begins
     place: usize,
 }
@@ -32,7 +33,7 @@ impl Batch {
     /// The caller that took the pages.
     pub fn caller(&self) -> u32
         ensures value { result ≡ self.now.caller }
-        ensures small { result < 64 }
+        ensures small { result < max_callers }
     {
         self.caller
     }
@@ -40,7 +41,7 @@ impl Batch {
     /// The pages taken, oldest first.
     pub fn pages(&self) -> &[PageId]
         ensures value { result.now ≡ self.now.pages }
-        ensures few { length result.now ≤ 128 }
+        ensures few { length result.now ≤ max_batch }
     {
         &self.pages
     }
@@ -53,7 +54,7 @@ impl Batch {
 
     // A caller's batch with no page yet.
     pub(crate) fn new(caller: u32) -> Batch
-        requires { caller < 64 }
+        requires { caller < max_callers }
         ensures { result ≡ record { caller = caller; pages = []; place = 0 } }
     {
         Batch {
@@ -65,7 +66,7 @@ impl Batch {
 
     // One page more.
     pub(crate) fn push(&mut self, page: PageId)
-        requires { length self.old.pages < 128 }
+        requires { length self.old.pages < max_batch }
         ensures { self.new ≡ record self.old { pages = self.old.pages ++ page ∷ [] } }
     {
         self.pages.push(page);

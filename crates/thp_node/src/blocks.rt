@@ -1,6 +1,7 @@
 //! The blocks of a node: the pages that lie in them, and the chain of those that are free.
-ghost use Rattle.std.specs.Prelude.{◌≡◌, ◌≢◌, ℕ, ◌<◌, [], ◌∷◌, ◌++◌, false, length, ◌↔◌, IsTrue, Option, Some, None, IsSome, IfOk, MatchOption};
+ghost use Rattle.std.specs.Prelude.{◌≡◌, ◌≢◌, ℕ, ◌<◌, [], ◌∷◌, ◌++◌, false, length, ◌↔◌, IsTrue, Option, Some, None, IsSome, IfOk, OnOk, OnErr, MatchOption};
 ghost use Rattle.std.specs.Bool.{OnTrue, OnFalse};
+ghost use Rattle.std.specs.Result.{result_err};
 ghost use Rattle.thp_links.specs.Standing.{Stands};
 ghost use Rattle.thp_model.specs.Shapes.{IsShape};
 ghost use Rattle.thp_model.specs.Pages.{page_refusal, gives_frames, is_worth, PageState, PageSplit};
@@ -71,29 +72,41 @@ impl Blocks {
         self.places.refusal(block, call)
     }
 
-    // Gives the page of a block mappings or a pin, or fills subpages of it, which isn't refused.
+    // Gives the page of a block mappings or a pin, or fills subpages of it, unless the page refuses that.
     #[inline(always)]
-    pub(crate) fn gain(&mut self, block: u32, gain: Gain)
+    pub(crate) fn gain(&mut self, block: u32, gain: Gain) -> Result<(), Refusal>
         requires occupied { IsSome (slot_at self.old.table block) }
-        requires allowed { AtSlot self.old.table block (λ x. page_refusal x.page (gain_call gain 0) ≡ None) }
-        ensures { AtSlot self.old.table block (λ x. (p : PageState) × Gains gain x.page p × Edits self.old self.new block (Some (record x { page = p })) self.old.queue 0) }
+        ensures refusal { AtSlot self.old.table block (λ x. (p : ℕ) → result_err result ≡ page_refusal x.page (gain_call gain p)) }
+        ensures gained { OnOk result (AtSlot self.old.table block (λ x. (p : PageState) × Gains gain x.page p × Edits self.old self.new block (Some (record x { page = p })) self.old.queue 0)) }
+        ensures kept { OnErr result (self.new ≡ self.old) }
     {
-        self.places.gain(block, gain);
+        self.places.gain(block, gain)?;
+        Ok(())
     }
 
-    // Takes mappings or a pin from the page of a block, which isn't refused, and then queues or frees the page, or leaves
-    // it. Answers that and the frames given back, and the caller whose batch the page left.
+    // Takes mappings or a pin from the page of a block, unless the page refuses that, and then queues or frees the page, or
+    // leaves it. Answers that and the frames given back, and the caller whose batch the page left.
     #[inline(always)]
-    pub(crate) fn lose(&mut self, block: u32, loss: Loss, closed: bool) -> (Done, Option<u32>)
+    pub(crate) fn lose(
+        &mut self,
+        block: u32,
+        loss: Loss,
+        closed: bool,
+        done: &mut Done,
+    ) -> Result<Option<u32>, Refusal>
         requires occupied { IsSome (slot_at self.old.table block) }
-        requires allowed { AtSlot self.old.table block (λ x. page_refusal x.page (loss_call loss 0) ≡ None) }
-        ensures { AtSlot self.old.table block (λ x. LostChained loss closed x self.old self.new block result.0 result.1) }
+        ensures refusal { AtSlot self.old.table block (λ x. (p : ℕ) → result_err result ≡ page_refusal x.page (loss_call loss p)) }
+        ensures lost { IfOk result (λ left. AtSlot self.old.table block (λ x. LostChained loss closed x self.old self.new block done.new left)) }
+        ensures kept { OnErr result (self.new ≡ self.old) }
     {
-        let (done, left) = self.places.lose(block, loss, closed);
+        let left = match self.places.lose(block, loss, closed, done) {
+            Ok(left) => left,
+            Err(refusal) => return Err(refusal),
+        };
         if let Outcome::Freed = done.outcome {
             self.places.push_free(&mut self.free, block);
         }
-        (done, left)
+        Ok(left)
     }
 
     // Takes the oldest page of the queue into a caller's batch.

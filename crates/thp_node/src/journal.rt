@@ -1,6 +1,7 @@
 //! The journal of a node, and the numbers that are kept beside it.
-ghost use Rattle.std.specs.Prelude.{◌≡◌, ℕ, ◌+◌, ◌<◌, ◌≤◌, [], ◌∷◌, ◌++◌, ◌^◌, length, OnOk, OnErr, IfSome, None, Some, not};
+ghost use Rattle.std.specs.Prelude.{◌≡◌, ℕ, ◌+◌, ◌<◌, ◌≤◌, [], ◌∷◌, ◌++◌, ◌^◌, length, OnOk, OnErr, IfSome, IsTrue, ◌↔◌, None, Some, not};
 ghost use Rattle.std.specs.Int.{from_bool};
+ghost use Rattle.thp_model.specs.Limits.{max_callers};
 ghost use Rattle.thp_model.specs.History.{by};
 ghost use Rattle.thp_model.specs.Shapes.{IsShape};
 ghost use Rattle.thp_model.specs.Sets.{set_size};
@@ -13,7 +14,7 @@ ghost use Rattle.thp_node.specs.Journals.{HasFlightRoom, unsaid_of, leaves_by, j
 use crate::answers::Counters;
 use std::alloc::{AllocError, Global};
 use std::marker::Model;
-use thp_model::{Event, Outcome, Shape, SubSet, What};
+use thp_model::{Event, MAX_CALLERS, Outcome, Shape, SubSet, What};
 
 // What an event does that it doesn't say itself.
 #[derive(Clone, Copy)]
@@ -25,6 +26,9 @@ pub(crate) enum Unsaid {
     // How many PMD mappings a page had that its caller split, and whether it was partly mapped.
     OfSplit { mappings: u32, partly: bool },
 }
+
+// How many callers a journal counts for.
+const SEATS: usize = MAX_CALLERS as usize;
 
 // What happened on a node, and the numbers of it that the calls need at once.
 #[derive(Drop)]
@@ -41,7 +45,7 @@ struct Tally {
     next: u64,
     closed: bool,
     // how many pages each caller has in flight
-    flying: [u8; 64],
+    flying: [u8; SEATS],
     frames_given: u128,
     counters: Counters,
 }
@@ -70,7 +74,7 @@ impl Journal {
             tally: Tally {
                 next: 0,
                 closed: false,
-                flying: [0; 64],
+                flying: [0; SEATS],
                 frames_given: 0,
                 counters: Counters {
                     split_page: 0,
@@ -95,11 +99,19 @@ impl Journal {
         self.events.try_reserve(count)
     }
 
+    // Whether an event can be recorded before the journal has to grow.
+    #[inline(always)]
+    pub(crate) fn has_room(&self) -> bool
+        ensures { IsTrue result ↔ (0 < self.now.room) }
+    {
+        self.events.len() < self.events.capacity()
+    }
+
     // Records what a caller did, which fits, with what the event leaves unsaid. It is inlined, so that a caller who knows the
     // kind of its event writes and counts that kind alone.
     #[inline(always)]
     pub(crate) fn record(&mut self, caller: u32, what: What, unsaid: Unsaid)
-        requires caller { caller < 64 }
+        requires caller { caller < max_callers }
         requires room { 0 < self.old.room }
         requires fits { Fits self.old.shape self.old.events (by caller what) }
         requires flight { HasFlightRoom self.old.events caller what }
@@ -148,7 +160,7 @@ impl Journal {
 
     // How many pages a caller has in flight.
     pub(crate) fn flying(&self, caller: u32) -> u64
-        requires { caller < 64 }
+        requires { caller < max_callers }
         ensures { result ≡ length (flight self.now.events caller) }
     {
         u64::from(self.tally.flying[caller as usize])
@@ -273,7 +285,7 @@ impl Unsaid {
 }
 
 // Counts a page that joins a caller's flight.
-fn join(flying: &mut [u8; 64], caller: u32)
+fn join(flying: &mut [u8; SEATS], caller: u32)
     requires { CanJoin flying.old caller }
     ensures { Moves flying.old flying.new (Some caller) None }
 {
@@ -281,7 +293,7 @@ fn join(flying: &mut [u8; 64], caller: u32)
 }
 
 // Counts a page that leaves the flight of a caller, if there is one.
-fn leave(flying: &mut [u8; 64], flier: Option<u32>)
+fn leave(flying: &mut [u8; SEATS], flier: Option<u32>)
     requires { IfSome flier (CanLeave flying.old) }
     ensures { Moves flying.old flying.new None flier }
 {

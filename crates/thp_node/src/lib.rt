@@ -4,9 +4,8 @@
 //! at every moment; a call that is refused changes nothing. What the calls record and answer, and when they are refused,
 //! is said by the definitions of `thp_model`; what every call keeps is said once, in `specs/Calls.antt`.
 //!
-//! The public surface: `Node::new`, `reserve`; `alloc_page`, `close`; `gain` and `lose`, and by name `map_whole`,
-//! `unmap_whole`, `map_sub`, `unmap_sub`, `split_pmd`, `pin`, `unpin`, `write`, `zero`; `take`, `split_next`, `put_back`, `scan`; the readers `shape`,
-//! `journal`, `table`, `queue`, `queue_len`, `frames_given`, `frames_held`, `counters`; `Batch` with `caller`, `pages`,
+//! The public surface: `Node::new`, `reserve`; `alloc_page`, `close`; `gain` and `lose`, and each page
+//! call by its name; `take`, `split_next`, `put_back`, `scan`; the readers `shape`, `journal`, `table`, `queue`, `queue_len`, `frames_given`, `frames_held`, `counters`; `Batch` with `caller`, `pages`,
 //! `abandon`; the values `Gain`, `Loss`; and the answers `NewFault`, `Done`, `Tried`, `BackReply`, `ScanReply`, `Counters`.
 //!
 //! For callers' proofs: `journal` ensures the laws of `specs/JournalLaws.antt`, which `proofs/JournalFacts` has for every legal

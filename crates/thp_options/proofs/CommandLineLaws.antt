@@ -17,6 +17,8 @@ use Rattle.clap.specs.declared.parser.matches.Found.{Found}
 use Rattle.clap.proofs.OnLiterals.{clap_on_literals}
 use Rattle.clap.proofs.WalkLemmas.{first_value-rows, one_text-rows}
 use Rattle.std.proofs.lemmas.List.Elements.{All-nil}
+use Rattle.thp_model.specs.Limits.{max_blocks}
+use Rattle.thp_text.specs.Limits.{max_nodes, max_workers}
 use Rattle.thp_options.specs.CommandLine.{FailsAsWords, HoldsWords, TellsFlag, WritesNumber, bare, blocks_rule, nodes_rule, own_rules, report_name, report_names, report_rule, with_rules, workers_rule}
 use Rattle.thp_options.specs.OwnCommand.{IsOwnCommand}
 use Rattle.thp_options.specs.declared.line.Line.{Line}
@@ -28,13 +30,13 @@ ReportNames = Bor (List (Bor (List ℕ)))
 abbrev pub thpsplit : ReportNames → App
 thpsplit names = with_rules bare (own_rules names)
 
-nodes_default : (names : ReportNames) → IsDefaultRule (own_rules names) 0 nodes_rule (Signed (pos 1) (pos 8))
+nodes_default : (names : ReportNames) → IsDefaultRule (own_rules names) 0 nodes_rule (Signed (pos 1) (pos max_nodes))
 nodes_default names = record { within = omega arith; here = λ d. refl; once = refl; set = refl; range = refl; default = refl; reads = refl; exact_case = refl; named = refl; own = refl }
 
-blocks_default : (names : ReportNames) → IsDefaultRule (own_rules names) 1 blocks_rule (Signed (pos 1) (pos 4096))
+blocks_default : (names : ReportNames) → IsDefaultRule (own_rules names) 1 blocks_rule (Signed (pos 1) (pos max_blocks))
 blocks_default names = record { within = omega arith; here = λ d. refl; once = refl; set = refl; range = refl; default = refl; reads = refl; exact_case = refl; named = refl; own = refl }
 
-workers_default : (names : ReportNames) → IsDefaultRule (own_rules names) 2 workers_rule (Signed (pos 1) (pos 63))
+workers_default : (names : ReportNames) → IsDefaultRule (own_rules names) 2 workers_rule (Signed (pos 1) (pos max_workers))
 workers_default names = record { within = omega arith; here = λ d. refl; once = refl; set = refl; range = refl; default = refl; reads = refl; exact_case = refl; named = refl; own = refl }
 
 report_default : (names : ReportNames) → IsDefaultRule (own_rules names) 3 (report_rule names) (Names names)
@@ -56,9 +58,9 @@ module _ (new start command : Command) (version : _) (about after_help : _) (opt
           reports = all;
           options = chained_app start command options (own_rules names) adds are ∙ ap (λ a. with_rules a (own_rules names)) start-app;
         };
-        nodes = λ m parsed. option_value start command (own_rules names) 0 nodes_rule (Signed (pos 1) (pos 8)) m chain none (nodes_default names) parsed;
-        blocks = λ m parsed. option_value start command (own_rules names) 1 blocks_rule (Signed (pos 1) (pos 4096)) m chain none (blocks_default names) parsed;
-        workers = λ m parsed. option_value start command (own_rules names) 2 workers_rule (Signed (pos 1) (pos 63)) m chain none (workers_default names) parsed;
+        nodes = λ m parsed. option_value start command (own_rules names) 0 nodes_rule (Signed (pos 1) (pos max_nodes)) m chain none (nodes_default names) parsed;
+        blocks = λ m parsed. option_value start command (own_rules names) 1 blocks_rule (Signed (pos 1) (pos max_blocks)) m chain none (blocks_default names) parsed;
+        workers = λ m parsed. option_value start command (own_rules names) 2 workers_rule (Signed (pos 1) (pos max_workers)) m chain none (workers_default names) parsed;
         report = λ m parsed. option_value start command (own_rules names) 3 (report_rule names) (Names names) m chain none (report_default names) parsed;
       }
 

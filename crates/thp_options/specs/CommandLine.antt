@@ -6,9 +6,11 @@ use Rattle.clap.specs.Words.{App, FailsBy, Row, Rule, fault_of, first_of, matche
 use Rattle.clap.specs.declared.builder.action.ArgAction.TheVariants.{Set, SetTrue}
 use Rattle.clap.specs.declared.builder.value_parser.ValueParser.TheVariants.{Names, Signed}
 use Rattle.clap.specs.declared.error.Error.{Error}
+use Rattle.thp_model.specs.Limits.{max_blocks}
 use Rattle.thp_options.specs.declared.line.Line.{Line}
 use Rattle.thp_text.specs.declared.settings.Report.{Report}
 use Rattle.thp_text.specs.declared.settings.Report.TheVariants.{Totals, Journal, Answers}
+use Rattle.thp_text.specs.Limits.{max_nodes, max_workers}
 use Rattle.thp_text.specs.Settings.{IsWithinLimits}
 
 -- `--NAME VALUE`
@@ -21,15 +23,15 @@ number_rule name high default = record (valued_rule name) { defaults = default �
 
 -- `--nodes NODES`: 1 to 8
 abbrev pub nodes_rule : Rule
-nodes_rule = number_rule (codes "nodes") 8 (codes "1")
+nodes_rule = number_rule (codes "nodes") max_nodes (codes "1")
 
 -- `--blocks BLOCKS`: 1 to 4,096
 abbrev pub blocks_rule : Rule
-blocks_rule = number_rule (codes "blocks") 4096 (codes "16")
+blocks_rule = number_rule (codes "blocks") max_blocks (codes "16")
 
 -- `--workers WORKERS`: 1 to 63
 abbrev pub workers_rule : Rule
-workers_rule = number_rule (codes "workers") 63 (codes "1")
+workers_rule = number_rule (codes "workers") max_workers (codes "1")
 
 -- the program's name of a report
 abbrev pub report_name : Report → List ℕ

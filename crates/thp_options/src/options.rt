@@ -7,6 +7,8 @@ ghost use Rattle.thp_options.specs.Options.{IsOption};
 use crate::help::{AFTER_HELP, VERSION};
 use clap::{Arg, ArgAction, Command, value_parser};
 use std::alloc::{AllocError, Global};
+use thp_model::Shape;
+use thp_text::{MAX_NODES, MAX_WORKERS};
 
 static REPORTS: [&str; 3] = ["totals", "journal", "answers"];
 
@@ -18,7 +20,7 @@ fn nodes_option<'a>(alloc: Global) -> Arg<'a>
         .value_name("NODES")
         .help("Memory nodes, 1 to 8")
         .action(ArgAction::Set)
-        .value_parser(value_parser!(u32).range(1..=8))
+        .value_parser(value_parser!(u32).range(1..=MAX_NODES as i64))
         .default_value("1")
 }
 
@@ -30,7 +32,7 @@ fn blocks_option<'a>(alloc: Global) -> Arg<'a>
         .value_name("BLOCKS")
         .help("Blocks of each node, 1 to 4096")
         .action(ArgAction::Set)
-        .value_parser(value_parser!(u32).range(1..=4096))
+        .value_parser(value_parser!(u32).range(1..=i64::from(Shape::MAX_BLOCKS)))
         .default_value("16")
 }
 
@@ -42,7 +44,7 @@ fn workers_option<'a>(alloc: Global) -> Arg<'a>
         .value_name("WORKERS")
         .help("Workers that a script may name, 1 to 63")
         .action(ArgAction::Set)
-        .value_parser(value_parser!(u32).range(1..=63))
+        .value_parser(value_parser!(u32).range(1..=i64::from(MAX_WORKERS)))
         .default_value("1")
 }
 

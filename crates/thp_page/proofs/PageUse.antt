@@ -4,8 +4,8 @@ use Rattle.std.proofs.lemmas.Bool.Decides.{nat_tests}
 use Rattle.std.proofs.lemmas.Bool.{cases_lt}
 use Rattle.thp_model.specs.Sets.{covers, set_of, has, count_below}
 use Rattle.thp_model.specs.Words.{get_or-set_of}
-use Rattle.thp_model.specs.Pages.{PageState, size, own_at, total_at, holds, used_set, has_use, drops_use, gives_frames, zero_at, zero_set, WholeUnmapped, RangeUnmapped, PageSplit}
-use Rattle.thp_page.specs.Changes.{split_set}
+use Rattle.thp_model.specs.Pages.{PageState, size, own_at, total_at, holds, used_set, has_use, drops_use, gives_frames, zero_at, zero_set, WholeUnmapped, RangeUnmapped, PageSplit, Pinned}
+use Rattle.thp_page.specs.Changes.{IsChange, split_set}
 use Rattle.thp_page.specs.PageView.{mapped_count}
 use Rattle.thp_page.specs.Ranges.{count_in_range}
 use Rattle.thp_model.proofs.Below.{some_yes, some_no, some_below-ext}
@@ -179,3 +179,40 @@ used_set-unmapped t n all bare long unmapped e f =
     ∙ go i n (2 ^ t.order) t.whole (own_at t i) long unmapped) where
       go : (i n m w x : ℕ) → n ≡ m → w ≡ 0 → (nat_lt i m && not (covers 0 n i && nat_eq x 0)) ≡ (nat_lt i m && nat_lt 0 (w + x))
       go i n m w x long e = grind (arith, nat_tests)
+
+same_sizes : (a b : PageState) → a.order ≡ b.order → size a ≡ size b
+unfolding size
+same_sizes a b e = ap (λ n. 2 ^ n) e
+
+neither : (a b : ℕ) → a ≡ b → (nat_lt 0 a && nat_eq b 0) ≡ false
+neither a b e = grind (arith, nat_tests)
+
+same_use : (x x' s s' g g' z z' : Bool) (a b : ℕ) → x ≡ x' → s ≡ s' → g ≡ g' → z ≡ z' → (x ≡ true → a ≡ b) →
+    (x && (not s || (nat_lt 0 a && not (g && z)))) ≡ (x' && (not s' || (nat_lt 0 b && not (g' && z'))))
+same_use true true s s' g g' z z' a b e f i j t =
+    ap₂ (λ (p q : Bool). not p || q) f (ap₂ (λ (n : ℕ) (r : Bool). nat_lt 0 n && not r) (t refl) (ap₂ (λ (u v : Bool). u && v) i j))
+same_use true false s s' g g' z z' a b e f i j t = absurd (cc)
+same_use false true s s' g g' z z' a b e f i j t = absurd (cc)
+same_use false false s s' g g' z z' a b e f i j t = refl
+
+below_size : (i n : ℕ) → nat_lt i n ≡ true → i < n
+below_size i n e = grind (arith, nat_tests)
+
+-- an unpin changes the use of no subpage
+pub unpin_change : (old new : PageState) (used : Bool) (none : List Bool) → Pinned new old → used ≡ has_use new → none ≡ set_of (λ i. false) →
+    IsChange old new (record { unused = false; used_left = used; released = none })
+unpin_change old new used none p u n = record {
+  unused = sym (some_no (size old) _ (λ i below. neither (total_at old i) (total_at new i) (totals i below)));
+  used_left = u;
+  released = n ∙ set_of-ext _ _ (λ i below. sym (gone (holds old i) (holds new i) (same i)));
+} where
+  totals : (i : ℕ) → i < size old → total_at old i ≡ total_at new i
+  totals i below = ap₂ (λ a b. a + b) p.whole (p.own i (omega (arith, same_sizes old new p.order)))
+
+  same : (i : ℕ) → holds old i ≡ holds new i
+  same i = same_use _ _ _ _ _ _ _ _ _ _ (ap (nat_lt i) (same_sizes old new p.order)) p.split p.kept.gave_zero (ap (λ (set : List Bool). has set i) p.kept.zero) (λ y. totals i (below_size i (size old) y))
+
+  gone : (a b : Bool) → a ≡ b → (a && not b) ≡ false
+  gone true true e = refl
+  gone true false e = absurd (cc)
+  gone false b e = refl

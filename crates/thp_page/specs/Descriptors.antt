@@ -1,4 +1,5 @@
 -- How the fields of a table make up what contracts see of it.
+use Rattle.thp_model.specs.Limits.{max_order, min_order}
 use Rattle.std.specs.Prelude.{◌≡◌, ◌<◌, ◌≤◌, ℕ, ◌^◌, List, [], ◌∷◌, map, length, Option, Some, None}
 use Rattle.thp_links.specs.declared.link.Link.{Link}
 use Rattle.thp_links.specs.declared.link.TheConstants.{NIL}
@@ -23,8 +24,8 @@ slots_of _ _ = []
 
 -- each block has a number or none, and a descriptor
 pub record IsSized (order : ℕ) (numbers : List (Option ℕ)) (descriptors : List Descriptor) : Type 0 where
-  pub least_order : 2 ≤ order
-  pub most_order : order ≤ 9
+  pub least_order : min_order ≤ order
+  pub most_order : order ≤ max_order
   pub small : length descriptors < 2 ^ 32
   pub numbered : length numbers ≡ length descriptors
 

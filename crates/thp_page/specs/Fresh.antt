@@ -1,5 +1,6 @@
 -- A page that was just allocated.
 use Rattle.std.specs.Prelude.{ℕ, ◌^◌, false, nat_lt, replicate}
+use Rattle.thp_model.specs.Limits.{max_subpages}
 use Rattle.thp_model.specs.Sets.{set_of}
 use Rattle.thp_model.specs.Pages.{PageState}
 
@@ -8,7 +9,7 @@ abbrev pub fresh_page : ℕ → PageState
 fresh_page order = record {
   order = order;
   whole = 1;
-  own = replicate 512 0;
+  own = replicate max_subpages 0;
   pins = 0;
   split = false;
   zero = set_of (λ i. nat_lt i (2 ^ order));

@@ -1,17 +1,16 @@
 //! One page: its map counts, its pins, whether it is split, and which of its subpages are zero-filled.
-ghost use Rattle.std.specs.Prelude.{◌≡◌, ℕ, ◌+◌, ◌<◌, ◌≤◌, Bool, true, false, not, ◌&&◌, ◌||◌, nat_eq, nat_lt, length, OnOk, OnErr, IfOk, Option, None};
-ghost use Rattle.std.specs.Result.{result_err};
-ghost use Rattle.thp_model.specs.Pages.{size, own_at, total_at, zero_at, holds, used_set, has_use, zero_set, zero_count, is_worth, gives_frames, some_in_range, page_refusal, IsFresh, WholeMapped, WholeUnmapped, RangeMapped, RangeUnmapped, PmdSplit, Pinned, RangeWritten, RangeZeroed, PageSplit};
+ghost use Rattle.std.specs.Prelude.{◌≡◌, ◌+◌, ◌<◌, ◌≤◌, true, false, not, ◌&&◌, ◌||◌, nat_eq, nat_lt, length, Option, None};
+ghost use Rattle.thp_model.specs.Limits.{max_order, max_subpages, min_order};
+ghost use Rattle.thp_model.specs.Pages.{size, own_at, total_at, zero_at, holds, used_set, has_use, zero_set, zero_count, is_worth, gives_frames, some_in_range, IsFresh, PageSplit};
 ghost use Rattle.thp_model.specs.Sets.{set_of, has};
 ghost use Rattle.thp_model.specs.Refusals.{most};
-ghost use Rattle.thp_model.specs.Refusals as call;
 ghost use Rattle.thp_page.specs.Fresh.{fresh_page};
 
-use crate::counts::{
-    MOST_SUBPAGES, add_to_range, map_range, range_has_count, subpages_with_count, unmap_range,
-};
+mod calls;
+
+use crate::counts::{add_to_range, range_has_count, subpages_with_count};
 use std::marker::Model;
-use thp_model::{Refusal, SubSet};
+use thp_model::{MAX_SUBPAGES, SubSet};
 
 /// What an unmap did to the use of its page.
 #[derive(Clone, Copy, PartialEq, Eq, Debug)]
@@ -22,6 +21,19 @@ pub struct Change {
     pub used_left: bool,
     /// The subpages whose frames were given back, since the page is split.
     pub released: SubSet,
+}
+
+impl Change {
+    /// No change: nothing in use before or after, and no frame given back.
+    pub fn none() -> Change
+        ensures { result ≡ record { unused = false; used_left = false; released = set_of (λ i. false) } }
+    {
+        Change {
+            unused: false,
+            used_left: false,
+            released: SubSet::empty(),
+        }
+    }
 }
 
 /// The map counts, the pins, the split state and the zero-filled subpages of one page.
@@ -50,7 +62,7 @@ pub struct Page {
     // The zero-filled subpages.
     zero: SubSet,
     // How often a PTE entry maps each subpage. No call looks behind the page's last subpage.
-    own: [u16; MOST_SUBPAGES],
+    own: [u16; MAX_SUBPAGES],
 }
 
 impl Model for Page {
@@ -70,8 +82,8 @@ impl Page {
 
     /// A page that was just allocated: mapped whole once, and all zero-filled.
     pub fn fresh(order: u32) -> Page
-        requires least { 2 ≤ order }
-        requires most { order ≤ 9 }
+        requires least { min_order ≤ order }
+        requires most { order ≤ max_order }
         ensures fresh { IsFresh order result }
         ensures state { result ≡ fresh_page order }
     {
@@ -84,370 +96,8 @@ impl Page {
             gave_zero: false,
             mapped: 0,
             zero: SubSet::full(order),
-            own: [0; MOST_SUBPAGES],
+            own: [0; MAX_SUBPAGES],
         }
-    }
-
-    /// One more mapping of the whole page. Refused as `IsSplit` and `TooMany`.
-    pub fn map_whole(&mut self) -> Result<(), Refusal>
-        ensures refusal { (p : ℕ) → result_err result ≡ page_refusal self.old (call.map_whole p) }
-        ensures counts { OnOk result (WholeMapped self.old self.new) }
-        ensures kept { OnErr result (self.new ≡ self.old) }
-    {
-        match self.refusal_map_whole() {
-            Some(refusal) => Err(refusal),
-            None => {
-                self.do_map_whole();
-                Ok(())
-            }
-        }
-    }
-
-    /// Why `map_whole` would be refused, if it would.
-    #[tactic(auto, unfolding(thp_model::specs::Pages::page_refusal))]
-    pub fn refusal_map_whole(&self) -> Option<Refusal>
-        ensures { (p : ℕ) → result ≡ page_refusal self.now (call.map_whole p) }
-    {
-        if self.split {
-            Some(Refusal::IsSplit)
-        } else if self.has_total_at_limit(0, self.subpages()) {
-            Some(Refusal::TooMany)
-        } else {
-            None
-        }
-    }
-
-    /// `map_whole`, where it isn't refused.
-    pub fn do_map_whole(&mut self)
-        requires { page_refusal self.old (call.map_whole 0) ≡ None }
-        ensures { WholeMapped self.old self.new }
-    {
-        self.whole += 1;
-    }
-
-    /// One mapping of the whole page less. Refused as `IsSplit` and `NotMapped`.
-    pub fn unmap_whole(&mut self) -> Result<Change, Refusal>
-        ensures refusal { (p : ℕ) → result_err result ≡ page_refusal self.old (call.unmap_whole p) }
-        ensures counts { OnOk result (WholeUnmapped self.old self.new) }
-        ensures change { IfOk result (IsChange self.old self.new) }
-        ensures kept { OnErr result (self.new ≡ self.old) }
-    {
-        match self.refusal_unmap_whole() {
-            Some(refusal) => Err(refusal),
-            None => Ok(self.do_unmap_whole()),
-        }
-    }
-
-    /// Why `unmap_whole` would be refused, if it would.
-    #[tactic(auto, unfolding(thp_model::specs::Pages::page_refusal))]
-    pub fn refusal_unmap_whole(&self) -> Option<Refusal>
-        ensures { (p : ℕ) → result ≡ page_refusal self.now (call.unmap_whole p) }
-    {
-        if self.split {
-            Some(Refusal::IsSplit)
-        } else if self.whole == 0 {
-            Some(Refusal::NotMapped)
-        } else {
-            None
-        }
-    }
-
-    /// `unmap_whole`, where it isn't refused.
-    pub fn do_unmap_whole(&mut self) -> Change
-        requires { page_refusal self.old (call.unmap_whole 0) ≡ None }
-        ensures counts { WholeUnmapped self.old self.new }
-        ensures change { IsChange self.old self.new result }
-    {
-        let unused = self.whole == 1 && (self.mapped as usize) < self.subpages();
-        self.whole -= 1;
-        let used_left = self.has_use();
-        self.partly |= unused && used_left;
-        Change {
-            unused,
-            used_left,
-            released: SubSet::empty(),
-        }
-    }
-
-    /// One more mapping of each of the `count` subpages from `first` on. Refused as `BadRange`, `Gone` and `TooMany`.
-    pub fn map_sub(&mut self, first: u32, count: u32) -> Result<(), Refusal>
-        ensures refusal { (p : ℕ) → result_err result ≡ page_refusal self.old (call.map_sub p first count) }
-        ensures counts { OnOk result (RangeMapped first count self.old self.new) }
-        ensures kept { OnErr result (self.new ≡ self.old) }
-    {
-        match self.refusal_map_sub(first, count) {
-            Some(refusal) => Err(refusal),
-            None => {
-                self.do_map_sub(first, count);
-                Ok(())
-            }
-        }
-    }
-
-    /// Why `map_sub` would be refused, if it would.
-    #[tactic(auto, unfolding(thp_model::specs::Pages::page_refusal))]
-    #[inline(always)]
-    pub fn refusal_map_sub(&self, first: u32, count: u32) -> Option<Refusal>
-        ensures { (p : ℕ) → result ≡ page_refusal self.now (call.map_sub p first count) }
-    {
-        if self.is_bad_range(first, count) {
-            return Some(Refusal::BadRange);
-        }
-        let (first, count) = (first as usize, count as usize);
-        if self.split && self.has_gone_frame(first, count) {
-            Some(Refusal::Gone)
-        } else if self.has_total_at_limit(first, count) {
-            Some(Refusal::TooMany)
-        } else {
-            None
-        }
-    }
-
-    /// `map_sub`, where it isn't refused.
-    #[inline(always)]
-    pub fn do_map_sub(&mut self, first: u32, count: u32)
-        requires { page_refusal self.old (call.map_sub 0 first count) ≡ None }
-        ensures { RangeMapped first count self.old self.new }
-    {
-        self.mapped += map_range(&mut self.own, first as usize, count as usize);
-    }
-
-    /// One mapping of each of the `count` subpages from `first` on less. Refused as `BadRange` and `NotMapped`.
-    pub fn unmap_sub(&mut self, first: u32, count: u32) -> Result<Change, Refusal>
-        ensures refusal { (p : ℕ) → result_err result ≡ page_refusal self.old (call.unmap_sub p first count) }
-        ensures counts { OnOk result (RangeUnmapped first count self.old self.new) }
-        ensures change { IfOk result (IsChange self.old self.new) }
-        ensures kept { OnErr result (self.new ≡ self.old) }
-    {
-        match self.refusal_unmap_sub(first, count) {
-            Some(refusal) => Err(refusal),
-            None => Ok(self.do_unmap_sub(first, count)),
-        }
-    }
-
-    /// Why `unmap_sub` would be refused, if it would.
-    #[tactic(auto, unfolding(thp_model::specs::Pages::page_refusal))]
-    #[inline(always)]
-    pub fn refusal_unmap_sub(&self, first: u32, count: u32) -> Option<Refusal>
-        ensures { (p : ℕ) → result ≡ page_refusal self.now (call.unmap_sub p first count) }
-    {
-        if self.is_bad_range(first, count) {
-            Some(Refusal::BadRange)
-        } else if self.has_unmapped(first as usize, count as usize) {
-            Some(Refusal::NotMapped)
-        } else {
-            None
-        }
-    }
-
-    /// `unmap_sub`, where it isn't refused.
-    #[inline(always)]
-    pub fn do_unmap_sub(&mut self, first: u32, count: u32) -> Change
-        requires { page_refusal self.old (call.unmap_sub 0 first count) ≡ None }
-        ensures counts { RangeUnmapped first count self.old self.new }
-        ensures change { IsChange self.old self.new result }
-    {
-        let (first, count) = (first as usize, count as usize);
-        let gone = unmap_range(&mut self.own, first, count);
-        self.mapped -= gone;
-        let unused = self.whole == 0 && gone > 0;
-        let used_left = self.has_use();
-        let released = if self.split {
-            self.without_given(subpages_with_count(&self.own, first, count, 0))
-        } else {
-            SubSet::empty()
-        };
-        self.partly |= unused && used_left;
-        Change {
-            unused,
-            used_left,
-            released,
-        }
-    }
-
-    /// Makes a mapping of the whole page into one of each subpage. Refused as `IsSplit` and `NotMapped`.
-    pub fn split_pmd(&mut self) -> Result<(), Refusal>
-        ensures refusal { (p : ℕ) → result_err result ≡ page_refusal self.old (call.split_pmd p) }
-        ensures counts { OnOk result (PmdSplit self.old self.new) }
-        ensures kept { OnErr result (self.new ≡ self.old) }
-    {
-        match self.refusal_split_pmd() {
-            Some(refusal) => Err(refusal),
-            None => {
-                self.do_split_pmd();
-                Ok(())
-            }
-        }
-    }
-
-    /// Why `split_pmd` would be refused, if it would.
-    #[tactic(auto, unfolding(thp_model::specs::Pages::page_refusal))]
-    pub fn refusal_split_pmd(&self) -> Option<Refusal>
-        ensures { (p : ℕ) → result ≡ page_refusal self.now (call.split_pmd p) }
-    {
-        // Like an unmap it needs a whole mapping.
-        self.refusal_unmap_whole()
-    }
-
-    /// `split_pmd`, where it isn't refused.
-    pub fn do_split_pmd(&mut self)
-        requires { page_refusal self.old (call.split_pmd 0) ≡ None }
-        ensures { PmdSplit self.old self.new }
-    {
-        let subpages = self.subpages();
-        self.whole -= 1;
-        self.mapped += map_range(&mut self.own, 0, subpages);
-    }
-
-    /// One more pin, which keeps the page from being split. Refused as `IsSplit` and `TooMany`.
-    pub fn pin(&mut self) -> Result<(), Refusal>
-        ensures refusal { (p : ℕ) → result_err result ≡ page_refusal self.old (call.pin p) }
-        ensures counts { OnOk result (Pinned self.old self.new) }
-        ensures kept { OnErr result (self.new ≡ self.old) }
-    {
-        match self.refusal_pin() {
-            Some(refusal) => Err(refusal),
-            None => {
-                self.do_pin();
-                Ok(())
-            }
-        }
-    }
-
-    /// Why `pin` would be refused, if it would.
-    #[tactic(auto, unfolding(thp_model::specs::Pages::page_refusal))]
-    #[inline(always)]
-    pub fn refusal_pin(&self) -> Option<Refusal>
-        ensures { (p : ℕ) → result ≡ page_refusal self.now (call.pin p) }
-    {
-        if self.split {
-            Some(Refusal::IsSplit)
-        } else if self.pins == u16::MAX {
-            Some(Refusal::TooMany)
-        } else {
-            None
-        }
-    }
-
-    /// `pin`, where it isn't refused.
-    #[inline(always)]
-    pub fn do_pin(&mut self)
-        requires { page_refusal self.old (call.pin 0) ≡ None }
-        ensures { Pinned self.old self.new }
-    {
-        self.pins += 1;
-    }
-
-    /// One pin less. Refused as `IsSplit` and `NotPinned`.
-    pub fn unpin(&mut self) -> Result<(), Refusal>
-        ensures refusal { (p : ℕ) → result_err result ≡ page_refusal self.old (call.unpin p) }
-        ensures counts { OnOk result (Pinned self.new self.old) }
-        ensures kept { OnErr result (self.new ≡ self.old) }
-    {
-        match self.refusal_unpin() {
-            Some(refusal) => Err(refusal),
-            None => {
-                self.do_unpin();
-                Ok(())
-            }
-        }
-    }
-
-    /// Why `unpin` would be refused, if it would.
-    #[tactic(auto, unfolding(thp_model::specs::Pages::page_refusal))]
-    #[inline(always)]
-    pub fn refusal_unpin(&self) -> Option<Refusal>
-        ensures { (p : ℕ) → result ≡ page_refusal self.now (call.unpin p) }
-    {
-        if self.split {
-            Some(Refusal::IsSplit)
-        } else if self.pins == 0 {
-            Some(Refusal::NotPinned)
-        } else {
-            None
-        }
-    }
-
-    /// `unpin`, where it isn't refused.
-    #[inline(always)]
-    pub fn do_unpin(&mut self)
-        requires { page_refusal self.old (call.unpin 0) ≡ None }
-        ensures { Pinned self.new self.old }
-    {
-        self.pins -= 1;
-    }
-
-    /// Data is written to each of the `count` subpages from `first` on, so that none of them is zero-filled any more. Refused
-    /// as `BadRange`, `IsSplit` and `NotMapped`.
-    pub fn write(&mut self, first: u32, count: u32) -> Result<(), Refusal>
-        ensures refusal { (p : ℕ) → result_err result ≡ page_refusal self.old (call.write p first count) }
-        ensures written { OnOk result (RangeWritten first count self.old self.new) }
-        ensures kept { OnErr result (self.new ≡ self.old) }
-    {
-        match self.refusal_write(first, count) {
-            Some(refusal) => Err(refusal),
-            None => {
-                self.do_write(first, count);
-                Ok(())
-            }
-        }
-    }
-
-    /// Why `write` would be refused, if it would.
-    #[tactic(auto, unfolding(thp_model::specs::Pages::page_refusal))]
-    pub fn refusal_write(&self, first: u32, count: u32) -> Option<Refusal>
-        ensures { (p : ℕ) → result ≡ page_refusal self.now (call.write p first count) }
-    {
-        if self.is_bad_range(first, count) {
-            Some(Refusal::BadRange)
-        } else if self.split {
-            Some(Refusal::IsSplit)
-        } else if self.has_unused(first as usize, count as usize) {
-            Some(Refusal::NotMapped)
-        } else {
-            None
-        }
-    }
-
-    /// `write`, where it isn't refused.
-    pub fn do_write(&mut self, first: u32, count: u32)
-        requires { page_refusal self.old (call.write 0 first count) ≡ None }
-        ensures { RangeWritten first count self.old self.new }
-    {
-        self.zero = self.zero.difference(SubSet::range(first, count));
-    }
-
-    /// Zeros are written to each of the `count` subpages from `first` on, so that all of them are zero-filled. Refused as
-    /// `BadRange`, `IsSplit` and `NotMapped`.
-    pub fn zero(&mut self, first: u32, count: u32) -> Result<(), Refusal>
-        ensures refusal { (p : ℕ) → result_err result ≡ page_refusal self.old (call.zero_fill p first count) }
-        ensures zeroed { OnOk result (RangeZeroed first count self.old self.new) }
-        ensures kept { OnErr result (self.new ≡ self.old) }
-    {
-        match self.refusal_zero(first, count) {
-            Some(refusal) => Err(refusal),
-            None => {
-                self.do_zero(first, count);
-                Ok(())
-            }
-        }
-    }
-
-    /// Why `zero` would be refused, if it would.
-    #[tactic(auto, unfolding(thp_model::specs::Pages::page_refusal))]
-    pub fn refusal_zero(&self, first: u32, count: u32) -> Option<Refusal>
-        ensures { (p : ℕ) → result ≡ page_refusal self.now (call.zero_fill p first count) }
-    {
-        // Zeros are written as data is.
-        self.refusal_write(first, count)
-    }
-
-    /// `zero`, where it isn't refused.
-    pub fn do_zero(&mut self, first: u32, count: u32)
-        requires { page_refusal self.old (call.zero_fill 0 first count) ≡ None }
-        ensures { RangeZeroed first count self.old self.new }
-    {
-        self.zero = self.zero.union(SubSet::range(first, count));
     }
 
     /// Splits the page into base pages, each with all its mappings as its own, and answers the subpages whose frames that
@@ -481,7 +131,7 @@ impl Page {
     /// The page's order.
     pub fn order(&self) -> u32
         ensures value { result ≡ self.now.order }
-        ensures most { result ≤ 9 }
+        ensures most { result ≤ max_order }
     {
         self.order
     }
@@ -570,16 +220,16 @@ impl Page {
     // How many subpages the page has.
     fn subpages(&self) -> usize
         ensures size { result ≡ size self.now }
-        ensures most { result ≤ 512 }
+        ensures most { result ≤ max_subpages }
     {
         1 << self.order
     }
 
     // Whether a range has no subpage, or one that the page hasn't.
-    fn is_bad_range(&self, first: u32, count: u32) -> bool
+    fn is_bad_range(&self, first: u16, count: u16) -> bool
         ensures { result ≡ (nat_eq count 0 || nat_lt (size self.now) (first + count)) }
     {
-        let subpages = self.subpages() as u32;
+        let subpages = self.subpages() as u16;
         count == 0 || count > subpages || first > subpages - count
     }
 
@@ -629,7 +279,7 @@ impl Page {
 
     // The subpages of a set but those whose frames the page's split gave back as zero-filled.
     fn without_given(&self, subpages: SubSet) -> SubSet
-        requires { length subpages ≡ 512 }
+        requires { length subpages ≡ max_subpages }
         ensures { result ≡ set_of (λ i. has subpages i && not (self.now.gave_zero && zero_at self.now i)) }
     {
         if self.gave_zero {

@@ -1,6 +1,7 @@
 //! The table of page descriptors: for each block of a node a link pair and, where it is taken, a page.
 ghost use Rattle.std.specs.Prelude.{◌≡◌, ◌<◌, ◌≤◌, ℕ, ◌+◌, length, replicate, IsSome, IfOk, IfSome, IfNone, Option, Some, None};
 ghost use Rattle.std.specs.Option.{option_map, option_copied_mut};
+ghost use Rattle.thp_model.specs.Limits.{max_order, min_order};
 ghost use Rattle.thp_model.specs.Pages.{IsFresh};
 ghost use Rattle.thp_page.specs.Fresh.{fresh_page};
 ghost use Rattle.thp_page.specs.Table.{Slot};
@@ -63,8 +64,8 @@ impl PageTable {
 
     /// A table of `blocks` empty blocks, for pages of `2 ^ order` subpages. It takes all memory that the table will need.
     pub fn new(alloc: Global, blocks: u32, order: u32) -> Result<PageTable, AllocError>
-        requires least { 2 ≤ order }
-        requires most { order ≤ 9 }
+        requires least { min_order ≤ order }
+        requires most { order ≤ max_order }
         ensures order { IfOk result (λ t. t.order ≡ order) }
         ensures size { IfOk result (λ t. length t.links ≡ blocks) }
         ensures empty { IfOk result (λ t. t.slots ≡ replicate blocks None) }

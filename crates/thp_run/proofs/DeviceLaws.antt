@@ -3,7 +3,13 @@ use Rattle.std.proofs.Common.{◌≡◌, ℕ, ◌<◌, List, [], ◌∷◌, ◌+
 use Rattle.std.proofs.lemmas.List.{append-nil, take-append-drop}
 use Rattle.std.specs.Prelude.{IfSome}
 use Rattle.std.specs.Io.KnownBytes.{Consumes, Appends, Keeps, IsAtEnd}
+use Rattle.thp_text.specs.Limits.{max_input}
 use Rattle.thp_run.specs.Devices.{IsInputOf, WritesFront}
+
+-- nothing was read
+pub read_nothing : (a : Option (List ℕ)) → Consumes a a []
+read_nothing None = tt
+read_nothing (Some xs) = refl
 
 -- one more piece was read
 pub read_more : (a b c : Option (List ℕ)) (bytes piece : List ℕ) → Consumes a b bytes → Consumes b c piece → Consumes a c (bytes ++ piece)
@@ -21,7 +27,7 @@ read_all (Some xs) (Some ys) (Some zs) bytes [] h k none end = record { rest = y
 read_all (Some xs) (Some ys) (Some zs) bytes (b ∷ piece) h k none end = absurd (omega arith)
 
 -- more was read than an input may have
-pub read_beyond : (a b : Option (List ℕ)) (bytes : List ℕ) → Consumes a b bytes → 16777216 < length bytes → IfSome a (IsInputOf bytes)
+pub read_beyond : (a b : Option (List ℕ)) (bytes : List ℕ) → Consumes a b bytes → max_input < length bytes → IfSome a (IsInputOf bytes)
 read_beyond None b bytes h lt = tt
 read_beyond (Some xs) None bytes h lt = absurd h
 read_beyond (Some xs) (Some ys) bytes h lt = record { rest = ys; front = h; all = λ le. absurd (omega arith) }
@@ -74,7 +80,3 @@ flush_ends (Some xs) None c text rest w e k = absurd w.written
 flush_ends (Some xs) (Some ys) None text rest w e k = absurd k
 flush_ends (Some xs) (Some ys) (Some zs) text [] w e k = k ∙ w.written ∙ ap (λ (t : List ℕ). xs ++ t) (sym (w.parts ∙ append-nil w.front))
 flush_ends (Some xs) (Some ys) (Some zs) text (r ∷ rest) w e k = absurd (omega arith)
-
--- what was told of the bytes so far goes on with one more piece
-pub goes_on : {A : Type 0} (before now whole : List ℕ → A) (bytes piece : List ℕ) → ((more : List ℕ) → now more ≡ before (piece ++ more)) → ((more : List ℕ) → before more ≡ whole (bytes ++ more)) → (more : List ℕ) → now more ≡ whole ((bytes ++ piece) ++ more)
-goes_on before now whole bytes piece step so-far more = step more ∙ so-far (piece ++ more) ∙ ap whole (sym (append_assoc bytes piece more))

@@ -7,6 +7,7 @@ use Rattle.std.proofs.lemmas.List.{append-nil, length-append}
 use Rattle.thp_text.specs.declared.fault.ReadFault.{ReadFault}
 use Rattle.thp_text.specs.declared.fault.ReadFault.TheVariants as reading
 use Rattle.thp_text.specs.declared.settings.Settings.{Settings}
+use Rattle.thp_text.specs.Limits.{max_input}
 use Rattle.thp_text.specs.Scripts.{Fault, TellsFault, script_of}
 use Rattle.thp_text.specs.declared.fault.TextKind.TheVariants.{TooLong}
 use Rattle.thp_text.proofs.ScriptLaws.{too_long}
@@ -65,7 +66,7 @@ module _ {A : Type 0} (IsAnswer : List ℕ → A → List ℕ → Type 0) (HasFa
 
 pub same_script : (s : Settings) (input bytes : List ℕ) → IsInputOf bytes input → script_of s bytes ≡ script_of s input
 same_script s input bytes read =
-    elim (cases_lt 16777216 (length bytes)) [
+    elim (cases_lt max_input (length bytes)) [
       | inl more ↦ too_long s bytes more ∙ sym (too_long s input (rw read.front (omega (arith, length-append bytes read.rest))))
       | inr less ↦ ap (script_of s) (sym (read.front ∙ rw (read.all less, append-nil) refl))
     ]
@@ -98,13 +99,13 @@ run_ends_early s known old bytes rf wf fault r read told e f is =
 
 -- ---- journals
 
-journal_too_long : (text : List ℕ) → 16777216 < length text → journals_of text ≡ Err (0, TooLong)
+journal_too_long : (text : List ℕ) → max_input < length text → journals_of text ≡ Err (0, TooLong)
 unfolding journals_of
-journal_too_long text lt = rw (lt-ltb 16777216 (length text) lt) refl
+journal_too_long text lt = rw (lt-ltb max_input (length text) lt) refl
 
 same_journals : (input bytes : List ℕ) → IsInputOf bytes input → journals_of bytes ≡ journals_of input
 same_journals input bytes read =
-    elim (cases_lt 16777216 (length bytes)) [
+    elim (cases_lt max_input (length bytes)) [
       | inl more ↦ journal_too_long bytes more ∙ sym (journal_too_long input (rw read.front (omega (arith, length-append bytes read.rest))))
       | inr less ↦ ap journals_of (sym (read.front ∙ rw (read.all less, append-nil) refl))
     ]

@@ -1,29 +1,31 @@
 -- The settings that a command line asks for.
 use Rattle.std.specs.Prelude.{◌≡◌, ◌++◌, ℕ, List, drop, replicate, Option, Some, None, Result, Ok, Err}
 use Rattle.std.specs.Borrow.{Bor}
+use Rattle.thp_model.specs.Limits.{max_order}
 use Rattle.thp_options.specs.declared.line.Line.{Line}
 use Rattle.thp_text.specs.declared.settings.Settings.{Settings}
+use Rattle.thp_text.specs.Limits.{max_nodes}
 use Rattle.thp_text.specs.NumberLists.{orders_in, thresholds_in}
 use Rattle.thp_text.specs.Settings.{AreOrdersFor, AreThresholdsFor}
 use Rattle.thp_run.specs.declared.ending.ProgramFault.{ProgramFault}
 use Rattle.thp_run.specs.declared.ending.ProgramFault.TheVariants.{Run, Usage, NoText, Orders, Underused}
 
--- the orders of all nodes by the option `--orders`: those that its text lists for the nodes, and 9 where it isn't given
+-- the orders of all nodes by the option `--orders`: those that its text lists for the nodes, and the greatest where it isn't given
 abbrev pub HasOrders : Option (Bor (List ℕ)) → ℕ → List ℕ → Type 0
-HasOrders None nodes all = all ≡ replicate 8 9
+HasOrders None nodes all = all ≡ replicate max_nodes max_order
 HasOrders (Some text) nodes all =
-    (orders : List ℕ) × (orders_in text.now ≡ Some orders) × AreOrdersFor nodes (replicate 8 None) orders × (all ≡ orders ++ drop nodes (replicate 8 9))
+    (orders : List ℕ) × (orders_in text.now ≡ Some orders) × AreOrdersFor nodes (replicate max_nodes None) orders × (all ≡ orders ++ drop nodes (replicate max_nodes max_order))
 
 -- the option's text lists no orders for the nodes
 abbrev pub HasBadOrders : Option (Bor (List ℕ)) → ℕ → Type 0
 HasBadOrders None nodes = ⊥
-HasBadOrders (Some text) nodes = (orders : List ℕ) → orders_in text.now ≡ Some orders → ¬ AreOrdersFor nodes (replicate 8 None) orders
+HasBadOrders (Some text) nodes = (orders : List ℕ) → orders_in text.now ≡ Some orders → ¬ AreOrdersFor nodes (replicate max_nodes None) orders
 
 -- the thresholds of all nodes by the option `--underused`: those that its text lists for the nodes, and none where it isn't given
 abbrev pub HasThresholds : Option (Bor (List ℕ)) → ℕ → List ℕ → List (Option ℕ) → Type 0
-HasThresholds None nodes orders all = all ≡ replicate 8 None
+HasThresholds None nodes orders all = all ≡ replicate max_nodes None
 HasThresholds (Some text) nodes orders all =
-    (thresholds : List (Option ℕ)) × (thresholds_in text.now ≡ Some thresholds) × AreThresholdsFor nodes orders thresholds × (all ≡ thresholds ++ drop nodes (replicate 8 None))
+    (thresholds : List (Option ℕ)) × (thresholds_in text.now ≡ Some thresholds) × AreThresholdsFor nodes orders thresholds × (all ≡ thresholds ++ drop nodes (replicate max_nodes None))
 
 -- the option's text lists no thresholds for the nodes
 abbrev pub HasBadThresholds : Option (Bor (List ℕ)) → ℕ → List ℕ → Type 0

@@ -1,6 +1,7 @@
 -- What watched devices do to the bytes that a reader has left and a writer holds, where those are known.
 use Rattle.std.specs.Prelude.{◌≡◌, ◌≤◌, ◌<◌, ◌++◌, ℕ, List, [], length, take, Option, MatchOption}
 use Rattle.std.specs.Io.KnownBytes.{Keeps, Appends, Consumes, IsAtEnd}
+use Rattle.thp_text.specs.Limits.{max_input}
 
 -- a read gave n bytes, none only at the end or where there was no room; or it gave nothing
 abbrev pub Reads : Option (List ℕ) → Option (List ℕ) → Option ℕ → List ℕ → Type 0
@@ -16,7 +17,7 @@ Writes old new result buf = MatchOption result (Appends old new [])
 pub record IsInputOf (bytes input : List ℕ) : Type 0 where
   pub rest : List ℕ
   pub front : input ≡ bytes ++ rest
-  pub all : length bytes ≤ 16777216 → rest ≡ []
+  pub all : length bytes ≤ max_input → rest ≡ []
 
 -- the writer took some front of the text
 pub record WritesFront (old new : Option (List ℕ)) (text : List ℕ) : Type 0 where

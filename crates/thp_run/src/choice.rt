@@ -1,5 +1,7 @@
 //! The settings that a command line asks for.
 ghost use Rattle.std.specs.Prelude.{◌≡◌, ◌++◌, IfSome, IfNone, None, drop, replicate};
+ghost use Rattle.thp_model.specs.Limits.{max_order};
+ghost use Rattle.thp_text.specs.Limits.{max_nodes};
 ghost use Rattle.thp_options.specs.CommandLine.{IsLineWithinLimits};
 ghost use Rattle.thp_run.specs.Choices.{Chooses, HasBadOrders, HasBadThresholds, HasOrders, HasThresholds};
 
@@ -14,19 +16,19 @@ fn numbers_of(line: &Line) -> Settings
     ensures blocks { result.blocks ≡ line.now.blocks }
     ensures workers { result.workers ≡ line.now.workers }
     ensures report { result.report ≡ line.now.report }
-    ensures orders { result.orders ≡ replicate 8 9 }
-    ensures underused { result.underused ≡ replicate 8 None }
+    ensures orders { result.orders ≡ replicate max_nodes max_order }
+    ensures underused { result.underused ≡ replicate max_nodes None }
 {
     Settings::new(line.nodes, line.blocks, line.workers, line.report).unwrap()
 }
 
 /// The settings with the orders that the option `--orders` gives, if any.
 fn with_orders(settings: Settings, option: Option<&str>) -> Option<Settings>
-    requires orders { settings.orders ≡ replicate 8 9 }
-    requires underused { settings.underused ≡ replicate 8 None }
+    requires orders { settings.orders ≡ replicate max_nodes max_order }
+    requires underused { settings.underused ≡ replicate max_nodes None }
     ensures chosen { IfSome result (λ chosen. HasOrders option.entry settings.nodes chosen.orders) }
     ensures bad { IfNone result (HasBadOrders option.entry settings.nodes) }
-    ensures underused { IfSome result (λ chosen. chosen.underused ≡ replicate 8 None) }
+    ensures underused { IfSome result (λ chosen. chosen.underused ≡ replicate max_nodes None) }
     ensures nodes { IfSome result (λ chosen. chosen.nodes ≡ settings.nodes) }
     ensures blocks { IfSome result (λ chosen. chosen.blocks ≡ settings.blocks) }
     ensures workers { IfSome result (λ chosen. chosen.workers ≡ settings.workers) }
@@ -41,7 +43,7 @@ fn with_orders(settings: Settings, option: Option<&str>) -> Option<Settings>
 
 /// The settings with the thresholds that the option `--underused` gives, if any.
 fn with_underused(settings: Settings, option: Option<&str>) -> Option<Settings>
-    requires { settings.underused ≡ replicate 8 None }
+    requires { settings.underused ≡ replicate max_nodes None }
     ensures chosen { IfSome result (λ chosen. HasThresholds option.entry settings.nodes settings.orders chosen.underused) }
     ensures bad { IfNone result (HasBadThresholds option.entry settings.nodes settings.orders) }
     ensures orders { IfSome result (λ chosen. chosen.orders ≡ settings.orders) }

@@ -1,5 +1,6 @@
 //! All of a reader's bytes, part by part, and a text to a writer.
-ghost use Rattle.std.specs.Prelude.{◌≡◌, [], ℕ, List, true, false, IfSome, IfNone, IfErr, IfOk};
+ghost use Rattle.std.specs.Prelude.{◌≡◌, ◌++◌, [], ℕ, List, true, false, refl, IfSome, IfNone, IfErr, IfOk};
+ghost use Rattle.std.proofs.Common.{◌∙◌, ap, append_assoc, sym};
 ghost use Rattle.std.specs.Io.KnownBytes.{Appends};
 ghost use Rattle.thp_run.specs.Devices.{IsInputOf, WritesFront};
 ghost use Rattle.thp_run.specs.RunFaults.{IsReadingFault};
@@ -7,20 +8,88 @@ ghost use Rattle.thp_journal_reader.specs.Journals.{journals_of};
 ghost use Rattle.thp_journal_reader.specs.Parts.{told_with};
 ghost use Rattle.thp_text.specs.Parts.{spelled_with};
 ghost use Rattle.thp_text.specs.Scripts.{script_of};
+ghost use Rattle.thp_text.specs.declared.fault.ReadFault.TheVariants.{OutOfMemory};
 
 use crate::fault::RunFault;
 use crate::watched::Watched;
 use std::alloc::Global;
 use std::io::{Read, Write};
 use thp_journal_reader::JournalReader;
-use thp_text::{MAX_INPUT, ScriptReader, Settings};
+use thp_text::{MAX_INPUT, ReadFault, ScriptReader, Settings};
 
 /// How many bytes one read may give.
 const PART: usize = 65_536;
 
-/// The script whose text a reader gives, part by part: all of its bytes, or more of them than an input may have.
+/// What reads a text that comes in parts.
+trait ReadsParts: Sized {
+    /// The first reader becomes the second as these bytes come.
+    ghost has_read: { Self → List ℕ → Self → Type 0 };
+
+    /// Reads the next part of the text.
+    fn read_part(self, part: &[u8]) -> Result<Self, ReadFault>
+        ensures read { IfOk result (has_read self part.now) }
+        ensures memory { IfErr result (λ fault. fault ≡ OutOfMemory) };
+
+    /// A reader stays as it is while nothing comes.
+    ghost nothing_read: { (r : Self) → has_read r [] r };
+
+    /// Bytes come one behind the other.
+    ghost more_read: { (a b c : Self) (first more : List ℕ) → has_read a first b → has_read b more c → has_read a (first ++ more) c };
+}
+
+impl<'a> ReadsParts for ScriptReader<'a> {
+    ghost has_read = { λ old bytes new. ((more : List ℕ) → spelled_with new more ≡ spelled_with old (bytes ++ more)) × (new.settings ≡ old.settings) };
+
+    fn read_part(self, part: &[u8]) -> Result<Self, ReadFault> {
+        ScriptReader::read_part(self, part)
+    }
+
+    ghost nothing_read = { λ r. (λ more. refl, refl) };
+
+    ghost more_read = { λ a b c first more old new. (λ rest. new.0 rest ∙ old.0 (more ++ rest) ∙ ap (spelled_with a) (sym (append_assoc first more rest)), new.1 ∙ old.1) };
+}
+
+impl ReadsParts for JournalReader {
+    ghost has_read = { λ old bytes new. (more : List ℕ) → told_with new more ≡ told_with old (bytes ++ more) };
+
+    fn read_part(self, part: &[u8]) -> Result<Self, ReadFault> {
+        JournalReader::read_part(self, part)
+    }
+
+    ghost nothing_read = { λ r more. refl };
+
+    ghost more_read = { λ a b c first more old new rest. new rest ∙ old (more ++ rest) ∙ ap (told_with a) (sym (append_assoc first more rest)) };
+}
+
+/// Reads all of a reader's bytes, part by part, or more of them than an input may have.
 ///
-/// Each read but the last gives at least one byte, so there are at most 16,777,217 of them.
+/// Each read but the last gives at least one byte, so there are at most `MAX_INPUT + 1` of them.
+fn read_parts<R: Read, P: ReadsParts + Drop>(
+    first: P,
+    reader: &mut Watched<R>,
+) -> Result<P, RunFault>
+    requires { reader.old.failed ≡ false }
+    ensures parts { IfOk result (λ last. (bytes : List ℕ) × IfSome (R.remaining reader.old.device) (IsInputOf bytes) × P.has_read first bytes last) }
+    ensures flag { IfOk result (λ _. reader.new.failed ≡ false) }
+    ensures fault { IfErr result (IsReadingFault reader.new.failed) }
+{
+    let mut text = first;
+    let mut part = [0u8; PART];
+    let mut given = 0;
+    while given <= MAX_INPUT {
+        let Some(count) = reader.read(&mut part) else {
+            return Err(RunFault::Read);
+        };
+        if count == 0 {
+            return Ok(text);
+        }
+        text = text.read_part(&part[..count])?;
+        given += count;
+    }
+    Ok(text)
+}
+
+/// The script whose text a reader gives, part by part: all of its bytes, or more of them than an input may have.
 pub(crate) fn read_script_parts<'a, R: Read>(
     alloc: Global,
     settings: &'a Settings,
@@ -32,25 +101,11 @@ pub(crate) fn read_script_parts<'a, R: Read>(
     ensures flag { IfOk result (λ _. reader.new.failed ≡ false) }
     ensures fault { IfErr result (IsReadingFault reader.new.failed) }
 {
-    let mut script = ScriptReader::new(alloc, settings)?;
-    let mut part = [0u8; PART];
-    let mut given = 0;
-    while given <= MAX_INPUT {
-        let Some(count) = reader.read(&mut part) else {
-            return Err(RunFault::Read);
-        };
-        if count == 0 {
-            return Ok(script);
-        }
-        script = script.read_part(&part[..count])?;
-        given += count;
-    }
-    Ok(script)
+    let script = ScriptReader::new(alloc, settings)?;
+    read_parts(script, reader)
 }
 
 /// The journals whose text a reader gives, part by part: all of its bytes, or more of them than an input may have.
-///
-/// Each read but the last gives at least one byte, so there are at most 16,777,217 of them.
 pub(crate) fn read_journal_parts<R: Read>(
     alloc: Global,
     reader: &mut Watched<R>,
@@ -60,20 +115,7 @@ pub(crate) fn read_journal_parts<R: Read>(
     ensures flag { IfOk result (λ _. reader.new.failed ≡ false) }
     ensures fault { IfErr result (IsReadingFault reader.new.failed) }
 {
-    let mut journals = JournalReader::new(alloc);
-    let mut part = [0u8; PART];
-    let mut given = 0;
-    while given <= MAX_INPUT {
-        let Some(count) = reader.read(&mut part) else {
-            return Err(RunFault::Read);
-        };
-        if count == 0 {
-            return Ok(journals);
-        }
-        journals = journals.read_part(&part[..count])?;
-        given += count;
-    }
-    Ok(journals)
+    read_parts(JournalReader::new(alloc), reader)
 }
 
 /// Writes a text and flushes. At `None` the writer failed, and took some front of the text.

@@ -17,17 +17,17 @@ pub use fault::RunFault;
 pub use program::run_program;
 pub use running::run;
 pub use thp_journal_reader::{Journals, NodeJournal, check_text, read_journal};
-pub use thp_model::{PageId, Refusal, Shape};
+pub use thp_model::{Gain, Loss, PageCall, PageId, Refusal, Shape};
 pub use thp_node::{BackReply, Done, Node, ScanReply, Tried};
 pub use thp_options::{Line, read_line};
 pub use thp_report::report_text;
 pub use thp_script_runs::{Ran, run_script};
 pub use thp_sections::{
-    Answer, AnswerLog, Gate, NoGate, NodePass, NodePasses, Passes, Reply, Rest, Section, Step,
-    Steps, Worked, run_range, run_workers, work, work_rest,
+    Answer, AnswerLog, Answers, Gate, NoGate, NodeCall, NodePass, NodePasses, Passes, Reply, Rest,
+    Section, Step, Steps, Worked, run_range, run_workers, work, work_rest,
 };
 pub use thp_text::{
-    Command, Op, ReadFault, Report, Script, Sequence, Settings, TextKind, read_orders, read_script,
-    read_underused,
+    Command, MAX_INPUT, Op, ReadFault, Report, Script, Sequence, Settings, TextKind, read_orders,
+    read_script, read_underused,
 };
 pub use watched::Watched;

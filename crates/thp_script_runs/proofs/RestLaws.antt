@@ -7,15 +7,17 @@ use Rattle.std.proofs.lemmas.Option.{slice_get_read}
 use Rattle.std.proofs.lemmas.List.Elements.{All-cons, All-head, All-nil, All-push, All-tail}
 use Rattle.thp_text.specs.declared.script.Command.{Command}
 use Rattle.thp_text.specs.declared.script.Script.{Script}
+use Rattle.thp_text.specs.Limits.{max_workers}
+use Rattle.thp_sections.specs.declared.answer_log.Answers.{Answers}
 use Rattle.thp_sections.specs.declared.reply.Section.{Section}
 use Rattle.thp_sections.specs.declared.reply.Worked.{Worked}
 use Rattle.thp_sections.specs.Fronts.{Fronts, Goes, HasAll, HasCaller}
 use Rattle.thp_sections.specs.Halves.{AllWork, CanRun, KnowsOf, Ran}
 use Rattle.thp_sections.specs.Halves as halves
-use Rattle.thp_sections.specs.Sections.{IsDoneFor, IsKept, Works}
+use Rattle.thp_sections.specs.Sections.{AnswersAre, IsDoneFor, Works}
 use Rattle.thp_sections.proofs.HalvesLaws.{works_from, all_work_as}
 use Rattle.thp_sections.proofs.StepLaws.{same_refl, same_trans, has_later}
-use Rattle.thp_script_runs.specs.Sections.{GoesFrom, IsFitScript, IsFitSection, IsNew, KeepsAnswers, RunsTo, commands_in, numbered}
+use Rattle.thp_script_runs.specs.Sections.{GoesFrom, IsFitScript, IsFitSection, IsNew, RunsTo, SectionAnswersAre, commands_in, numbered}
 use Rattle.thp_script_runs.proofs.RunLaws.{all_work-length, same_nodes}
 
 -- ---- callers that went on
@@ -185,11 +187,11 @@ module _ (f mid : Fronts) (script : Script) (vs : List (Vec Command Global)) (ne
     pub ran_all : HasAll ran
     ran_all = record { low = r.first ∙ begins.same.first ∙ new.first; high = r.end ∙ begins.same.end ∙ new.end ∙ sym new.callers ∙ sym begins.same.callers ∙ sym r.same.callers }
 
-    pub few_vs : length vs ≤ 63
+    pub few_vs : length vs ≤ max_workers
     few_vs = omega (arith, count_vs, fits.most)
 
     module _ (end : Fronts) (xs : List Worked) (goes : GoesFrom 1 ran end) (work : AllWork 1 mid end vs xs) where
-      pub few_done : length xs ≤ 63
+      pub few_done : length xs ≤ max_workers
       few_done = let same = all_work-length 1 mid end vs xs work in omega (arith, same, few_vs)
 
       pub runs_to : (setup : Worked) (sections : List Section) → Works 0 f mid script.setup setup → IsDoneFor setup → All IsDoneFor xs → sections ≡ numbered 0 (setup ∷ xs) → RunsTo f end script sections
@@ -212,8 +214,8 @@ module _ (f mid : Fronts) (script : Script) (vs : List (Vec Command Global)) (ne
 pub at_index : (vs : List (Vec Command Global)) (v : Vec Command Global) (i n : ℕ) → i ≡ n → n < length vs → v ≡ get_or vs i v → slice_get vs n ≡ Some v
 at_index vs v i n e lt is = subst (λ k. slice_get vs k ≡ Some v) e (slice_get_read vs (length vs) i v refl (omega (arith, e, lt)) is)
 
--- sections keep the answers that their workers' did
-pub kept_numbered : (keeps : Bool) (k : ℕ) (ws : List Worked) → All (IsKept keeps) ws → All (KeepsAnswers keeps) (numbered k ws)
-kept_numbered keeps k [] all = All-nil (KeepsAnswers keeps)
-kept_numbered keeps k (w ∷ ws) all =
-    All-cons (KeepsAnswers keeps) (record { worker = k; answers = w.answers }) (numbered (k + 1) ws) (All-head (IsKept keeps) w ws all) (kept_numbered keeps (k + 1) ws (All-tail (IsKept keeps) w ws all))
+-- what became of the answers is the same by section as by worker
+pub answers_numbered : (are : Answers) (k : ℕ) (ws : List Worked) → All (AnswersAre are) ws → All (SectionAnswersAre are) (numbered k ws)
+answers_numbered are k [] all = All-nil (SectionAnswersAre are)
+answers_numbered are k (w ∷ ws) all =
+    All-cons (SectionAnswersAre are) (record { worker = k; answers = w.answers }) (numbered (k + 1) ws) (All-head (AnswersAre are) w ws all) (answers_numbered are (k + 1) ws (All-tail (AnswersAre are) w ws all))

@@ -15,6 +15,7 @@ use Rattle.thp_text.specs.declared.script.Script.{Script}
 use Rattle.thp_text.specs.declared.settings.Settings.{Settings}
 use Rattle.thp_text.specs.Commands.{FitsBatch}
 use Rattle.thp_text.specs.Commands as text
+use Rattle.thp_text.specs.Limits.{max_nodes, max_workers}
 use Rattle.thp_text.specs.Scripts.{IsScriptFor}
 use Rattle.thp_sections.specs.declared.reply.Section.{Section}
 use Rattle.thp_sections.specs.Does.{IsFit}
@@ -57,7 +58,7 @@ fresh_fronts callers (p ∷ ps) fresh zero = (All-head (IsFresh callers) p ps fr
 fresh_fronts callers (p ∷ ps) fresh (suc n) = fresh_fronts callers ps (All-tail (IsFresh callers) p ps fresh) n
 
 module _ (callers : ℕ) (ps : List PassState) (held : List Held) (pairs : Pairs IsUnused ps held) (fresh : All (IsFresh callers) ps) where
-  pub agree_new : length ps ≤ 8 → Agree callers 0 callers held
+  pub agree_new : length ps ≤ max_nodes → Agree callers 0 callers held
   agree_new few = record {
     few = let same = pairs_length IsUnused ps held pairs in omega (arith, same, few);
     each = λ n h at.
@@ -140,7 +141,7 @@ fit_op _ fits = tt
 commands_fit : (nodes : ℕ) (commands : List Command) → All (text.IsCommandFor nodes) commands → All (IsCommandFor nodes) commands
 commands_fit nodes commands fit = λ k d lt. let one = fit k d lt in record { node_exists = one.node_exists; fits = fit_op (get_or commands k d).op one.fits_batch }
 
-pub script_fits : (s : Settings) (script : Script) (nodes : ℕ) → IsScriptFor s script → AreFew script → nodes ≡ s.nodes → 1 ≤ s.workers → s.workers ≤ 63 → IsFitScript nodes script
+pub script_fits : (s : Settings) (script : Script) (nodes : ℕ) → IsScriptFor s script → AreFew script → nodes ≡ s.nodes → 1 ≤ s.workers → s.workers ≤ max_workers → IsFitScript nodes script
 script_fits s script nodes for-it few is least most = rw is (record {
   setup = record { few = few.setup; fit = commands_fit s.nodes script.setup for-it.setup_commands };
   workers = λ k d lt. let one = for-it.worker_commands k d lt in record { few = few.workers k d lt; fit = commands_fit s.nodes (get_or script.workers k d) one };

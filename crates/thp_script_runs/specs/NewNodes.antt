@@ -1,13 +1,14 @@
 -- The nodes of a run, as the settings ask for them.
 use Rattle.std.specs.Prelude.{◌≡◌, ℕ, List, [], Option, Some, None, length, slice_get, slice_index_or}
 use Rattle.thp_model.specs.declared.shape.Shape.{Shape}
+use Rattle.thp_model.specs.Limits.{max_order}
 use Rattle.thp_model.specs.History.{History}
 use Rattle.thp_node.specs.NodeState.{NodeState}
 use Rattle.thp_text.specs.declared.settings.Settings.{Settings}
 
 -- each node has the blocks that the settings say, its own order, and its own threshold of underused pages, if it has one
 abbrev pub shape_of : Settings → ℕ → Shape
-shape_of s n = record { blocks = s.blocks; order = slice_index_or s.orders n 9; underused = slice_index_or s.underused n None }
+shape_of s n = record { blocks = s.blocks; order = slice_index_or s.orders n max_order; underused = slice_index_or s.underused n None }
 
 -- the journal of a node; where there is none, nothing happened
 abbrev pub journal_in : Option NodeState → History

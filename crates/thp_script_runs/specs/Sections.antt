@@ -1,10 +1,12 @@
 -- All sections of a script, done by the holder of all callers of the nodes.
-use Rattle.std.specs.Prelude.{◌≡◌, ℕ, ◌+◌, ◌<◌, ◌≤◌, ◌^◌, Bool, List, [], ◌∷◌, ◌++◌, All, None, length, map, Vec}
+use Rattle.std.specs.Prelude.{◌≡◌, ℕ, ◌+◌, ◌<◌, ◌≤◌, ◌^◌, List, [], ◌∷◌, ◌++◌, All, None, length, map, Vec}
 use Rattle.std.specs.declared.alloc.Global.{Global}
 use Rattle.thp_model.specs.History.{History}
 use Rattle.thp_model.specs.Legal.{IsLegal}
 use Rattle.thp_text.specs.declared.script.Command.{Command}
 use Rattle.thp_text.specs.declared.script.Script.{Script}
+use Rattle.thp_text.specs.Limits.{max_workers}
+use Rattle.thp_sections.specs.declared.answer_log.Answers.{Answers}
 use Rattle.thp_sections.specs.declared.reply.Section.{Section}
 use Rattle.thp_sections.specs.declared.reply.Worked.{Worked}
 use Rattle.thp_sections.specs.Fronts.{Fronts, Goes, HasCaller, SameHolding}
@@ -24,12 +26,12 @@ pub record IsFitSection (nodes : ℕ) (commands : List Command) : Type 0 where
   pub few : length commands < 2 ^ 32
   pub fit : All (IsCommandFor nodes) commands
 
--- a script for so many nodes, with at least one worker and at most 63
+-- a script for so many nodes, with at least one worker and no more than there may be
 pub record IsFitScript (nodes : ℕ) (script : Script) : Type 0 where
   pub setup : IsFitSection nodes script.setup
   pub workers : All (IsFitSection nodes) script.workers
   pub some : 0 < length script.workers
-  pub most : length script.workers ≤ 63
+  pub most : length script.workers ≤ max_workers
 
 -- callers from `from` on went on, and those below did nothing
 pub record GoesFrom (from : ℕ) (old new : Fronts) : Type 0 where
@@ -42,9 +44,9 @@ pub record GoesFrom (from : ℕ) (old new : Fronts) : Type 0 where
 abbrev pub commands_in : List (Vec Command Global) → List (List Command)
 commands_in workers = map (λ (v : Vec Command Global). v.items) workers
 
--- the answers of the section are kept, or aren't
-abbrev pub KeepsAnswers : Bool → Section → Type 0
-KeepsAnswers keeps section = section.answers.keeps ≡ keeps
+-- this became of the section's answers
+abbrev pub SectionAnswersAre : Answers → Section → Type 0
+SectionAnswersAre are section = section.answers.are ≡ are
 
 -- what became of sections, by number
 abbrev pub numbered : ℕ → List Worked → List Section

@@ -1,11 +1,11 @@
 //! Runs of whole scripts.
-ghost use Rattle.std.specs.Prelude.{◌≡◌, ◌+◌, ◌≤◌, ◌<◌, ◌^◌, [], true, All, IfOk, length, map};
+ghost use Rattle.std.specs.Prelude.{◌≡◌, ◌↔◌, ◌+◌, ◌≤◌, ◌<◌, ◌^◌, [], All, IfOk, IsTrue, length, map};
 ghost use Rattle.thp_cell.specs.Views.{PassState};
+ghost use Rattle.thp_text.specs.Limits.{max_nodes};
 ghost use Rattle.thp_text.specs.Scripts.{IsScriptFor};
 ghost use Rattle.thp_script_runs.specs.NewNodes.{histories_of, shapes_of, AreNodesFor};
 ghost use Rattle.thp_script_runs.specs.Runs.{IsRun};
-ghost use Rattle.thp_text.specs.declared.settings.Report.TheVariants.{Answers};
-ghost use Rattle.thp_script_runs.specs.Sections.{IsFitScript, KeepsAnswers};
+ghost use Rattle.thp_script_runs.specs.Sections.{IsFitScript, SectionAnswersAre};
 ghost use Rattle.thp_script_runs.specs.Sharing.{cell_of, AreFew, IsFresh, RunsOn};
 
 use crate::nodes::new_nodes;
@@ -15,7 +15,7 @@ use std::alloc::{AllocError, Global};
 use std::thread::Threads;
 use thp_cell::{NodeCell, Pass};
 use thp_node::Node;
-use thp_sections::{Gate, NodePasses, Section};
+use thp_sections::{Answers, Gate, NodePasses, Section};
 use thp_text::{Report, Script, Settings};
 
 /// What a run leaves: the nodes, and the answers of each section.
@@ -39,7 +39,7 @@ pub fn run_script<R: Threads + Sync, G: Gate + Sync>(
 ) -> Result<Ran, AllocError>
     requires { IsScriptFor settings.now script }
     ensures nodes { IfOk result (λ r. AreNodesFor settings.now r.nodes.items) }
-    ensures answers { settings.now.report ≡ Answers → IfOk result (λ r. All (KeepsAnswers true) r.sections.items) }
+    ensures answers { settings.now.report ≡ Report.Answers → IfOk result (λ r. All (SectionAnswersAre Answers.Kept) r.sections.items) }
     ensures run { IfOk result (λ r. IsRun settings.now.nodes (shapes_of r.nodes.items) script (histories_of r.nodes.items) r.sections.items) }
 {
     if !are_few(&script) {
@@ -48,7 +48,7 @@ pub fn run_script<R: Threads + Sync, G: Gate + Sync>(
     let callers = settings.workers + 1;
     let nodes = new_nodes(alloc, settings, room_of_each(&script, settings.nodes))?;
     let (cells, passes) = share(alloc, nodes, callers)?;
-    let keeps = tells_answers(settings.report);
+    let answers = answers_for(settings.report);
     let (passes, sections) = run_on(
         rt,
         alloc,
@@ -56,7 +56,7 @@ pub fn run_script<R: Threads + Sync, G: Gate + Sync>(
         passes,
         callers,
         script,
-        keeps,
+        answers,
         gate,
     )?;
     let nodes = finish(alloc, cells, passes)?;
@@ -71,20 +71,20 @@ fn run_on<R: Threads + Sync, G: Gate + Sync>(
     passes: Vec<Pass>,
     callers: u32,
     script: Script,
-    keeps: bool,
+    answers: Answers,
     gate: &G,
 ) -> Result<(Vec<Pass>, Vec<Section>), AllocError>
     requires cells { map cell_of passes.items ≡ cells.now }
     requires callers { callers ≡ 1 + length script.workers }
     requires fresh { All (IsFresh callers) passes.items }
-    requires few { length passes.items ≤ 8 }
+    requires few { length passes.items ≤ max_nodes }
     requires fits { IsFitScript (length passes.items) script }
     ensures runs { IfOk result (λ r. RunsOn passes.items r.0.items script r.1.items) }
-    ensures keeps { IfOk result (λ r. All (KeepsAnswers keeps) r.1.items) }
+    ensures answers { IfOk result (λ r. All (SectionAnswersAre answers) r.1.items) }
 {
     let nodes = open(alloc, cells, passes)?;
     let passes = NodePasses::new(nodes, callers, 0, callers);
-    let (passes, sections) = run_sections(rt, alloc, passes, script, keeps, gate)?;
+    let (passes, sections) = run_sections(rt, alloc, passes, script, answers, gate)?;
     Ok((close(alloc, passes)?, sections))
 }
 
@@ -103,16 +103,19 @@ fn room_of_each(script: &Script, nodes: u32) -> u32
         .saturating_mul(2)
 }
 
-/// Whether a report tells answers; no other one does.
-fn tells_answers(report: Report) -> bool
-    ensures { report ≡ Answers → result ≡ true }
+/// What becomes of the answers: they are kept where the report is of them.
+fn answers_for(report: Report) -> Answers
+    ensures { (result ≡ Answers.Kept) ↔ (report ≡ Report.Answers) }
 {
-    matches!(report, Report::Answers)
+    match report {
+        Report::Answers => Answers::Kept,
+        Report::Totals | Report::Journal => Answers::Counted,
+    }
 }
 
 /// Each section has fewer than 2^32 commands.
 fn are_few(script: &Script) -> bool
-    ensures { result ≡ true → AreFew script.now }
+    ensures { IsTrue result ↔ AreFew script.now }
 {
     let most = u32::MAX as usize;
     script.setup.as_slice().len() <= most

@@ -1,35 +1,40 @@
 //! All sections of a script: `setup`, the workers side by side, and what they postponed.
-ghost use Rattle.std.specs.Prelude.{◌≡◌, ◌+◌, ◌≤◌, ◌∷◌, [], All, Bool, IfOk, length};
+ghost use Rattle.std.specs.Prelude.{◌≡◌, ◌+◌, ◌≤◌, ◌∷◌, [], All, IfOk, length};
+ghost use Rattle.thp_sections.specs.declared.answer_log.Answers.{Answers};
 ghost use Rattle.thp_sections.specs.Fronts.{Fronts, HasAll};
 ghost use Rattle.thp_sections.specs.Halves.{AllWork, IsSection};
-ghost use Rattle.thp_sections.specs.Sections.{IsDoneFor, IsKept};
-ghost use Rattle.thp_script_runs.specs.Sections.{commands_in, numbered, GoesFrom, IsFitScript, IsNew, KeepsAnswers, RunsTo};
+ghost use Rattle.thp_sections.specs.Sections.{AnswersAre, IsDoneFor};
+ghost use Rattle.thp_text.specs.Limits.{max_workers};
+ghost use Rattle.thp_script_runs.specs.Sections.{commands_in, numbered, GoesFrom, IsFitScript, IsNew, RunsTo, SectionAnswersAre};
 
 use std::alloc::{AllocError, Global};
 use std::thread::Threads;
-use thp_sections::{Gate, NoGate, Passes, Section, Steps, Worked, run_range, work, work_rest};
+use thp_sections::{
+    Answers, Gate, NoGate, Passes, Section, Steps, Worked, run_range, work, work_rest,
+};
 use thp_text::{Command, Script, Sequence};
 
 /// Does `setup` as caller 0, then the section of each worker on a thread of its own, and then, workers ascending, what they
-/// postponed. The passes have caller 0 and a caller for each worker. The answers are kept or aren't.
+/// postponed. The passes have caller 0 and a caller for each worker. `answers`
+/// says what becomes of the answers.
 pub(crate) fn run_sections<R: Threads + Sync, P: Passes + Send + Drop, G: Gate + Sync>(
     rt: &R,
     alloc: Global,
     passes: P,
     script: Script,
-    keeps: bool,
+    answers: Answers,
     gate: &G,
 ) -> Result<(P, Vec<Section>), AllocError>
     requires new { IsNew (length script.workers) (P.fronts passes) }
     requires fits { IsFitScript (P.fronts passes).nodes script }
     ensures runs { IfOk result (λ r. RunsTo (P.fronts passes) (P.fronts r.0) script r.1.items) }
-    ensures keeps { IfOk result (λ r. All (KeepsAnswers keeps) r.1.items) }
+    ensures answers { IfOk result (λ r. All (SectionAnswersAre answers) r.1.items) }
 {
     let Script { setup, workers } = script;
     let mut passes = passes;
-    let setup = work(alloc, setup.as_slice(), 0, keeps, &mut passes, &NoGate)?;
+    let setup = work(alloc, setup.as_slice(), 0, answers, &mut passes, &NoGate)?;
     let workers = vectors(alloc, workers)?;
-    let (passes, worked) = run_range(rt, alloc, passes, 1, workers.as_slice(), keeps, gate)?;
+    let (passes, worked) = run_range(rt, alloc, passes, 1, workers.as_slice(), answers, gate)?;
     let mut passes = passes;
     let done = do_rest(alloc, workers.as_slice(), worked, &mut passes)?;
     let sections = sections(alloc, setup, done)?;
@@ -59,13 +64,13 @@ fn do_rest<P: Steps>(
 ) -> Result<Vec<Worked>, AllocError>
     requires holds { HasAll (P.fronts passes.old) }
     requires callers { (P.fronts passes.old).callers ≡ 1 + length workers.now }
-    requires most { length workers.now ≤ 63 }
+    requires most { length workers.now ≤ max_workers }
     requires sections { All (IsSection (P.fronts passes.old).nodes) workers.now }
     requires worked { (old : Fronts) × AllWork 1 old (P.fronts passes.old) workers.now worked.items }
     ensures goes { IfOk result (λ _. GoesFrom 1 (P.fronts passes.old) (P.fronts passes.new)) }
     ensures work { (old : Fronts) → AllWork 1 old (P.fronts passes.old) workers.now worked.items → IfOk result (λ r. AllWork 1 old (P.fronts passes.new) workers.now r.items) }
     ensures done { IfOk result (λ r. All IsDoneFor r.items) }
-    ensures keeps { (keeps : Bool) → All (IsKept keeps) worked.items → IfOk result (λ r. All (IsKept keeps) r.items) }
+    ensures answers { (are : Answers) → All (AnswersAre are) worked.items → IfOk result (λ r. All (AnswersAre are) r.items) }
 {
     let mut done = Vec::new(alloc);
     for worked in worked {
@@ -78,7 +83,7 @@ fn do_rest<P: Steps>(
 
 /// The sections by number: `setup` is section 0.
 fn sections(alloc: Global, setup: Worked, workers: Vec<Worked>) -> Result<Vec<Section>, AllocError>
-    requires { length workers.items ≤ 63 }
+    requires { length workers.items ≤ max_workers }
     ensures { IfOk result (λ r. r.items ≡ numbered 0 (setup ∷ workers.items)) }
 {
     let mut all = Vec::new(alloc);

@@ -51,40 +51,12 @@ proceeds_more c command first begun old mid new answer has fit g p a =
 -- a command that isn't a scan has one step
 one_ends : (o : Op) (begun : Begun) (answer : Reaction) → is_scan o ≡ false → goes_on o begun answer ≡ Ended answer
 one_ends (op.Scan n) begun answer one = absurd (cc)
-one_ends op.Alloc begun answer one = refl
-one_ends (op.MapWhole p) begun answer one = refl
-one_ends (op.UnmapWhole p) begun answer one = refl
-one_ends (op.Map f k p) begun answer one = refl
-one_ends (op.Unmap f k p) begun answer one = refl
-one_ends (op.Write f k p) begun answer one = refl
-one_ends (op.Zero f k p) begun answer one = refl
-one_ends (op.SplitPmd p) begun answer one = refl
-one_ends (op.Pin p) begun answer one = refl
-one_ends (op.Unpin p) begun answer one = refl
-one_ends op.Close begun answer one = refl
-one_ends op.Count begun answer one = refl
-one_ends (op.Take k) begun answer one = refl
-one_ends op.SplitNext begun answer one = refl
-one_ends op.PutBack begun answer one = refl
+one_ends _ begun answer one = refl
 
 -- a refusal ends each command
 refusal_ends : (o : Op) (begun : Begun) (r : Refusal) → goes_on o begun (Err r) ≡ Ended (Err r)
 refusal_ends (op.Scan n) begun r = refl
-refusal_ends op.Alloc begun r = refl
-refusal_ends (op.MapWhole p) begun r = refl
-refusal_ends (op.UnmapWhole p) begun r = refl
-refusal_ends (op.Map f k p) begun r = refl
-refusal_ends (op.Unmap f k p) begun r = refl
-refusal_ends (op.Write f k p) begun r = refl
-refusal_ends (op.Zero f k p) begun r = refl
-refusal_ends (op.SplitPmd p) begun r = refl
-refusal_ends (op.Pin p) begun r = refl
-refusal_ends (op.Unpin p) begun r = refl
-refusal_ends op.Close begun r = refl
-refusal_ends op.Count begun r = refl
-refusal_ends (op.Take k) begun r = refl
-refusal_ends op.SplitNext begun r = refl
-refusal_ends op.PutBack begun r = refl
+refusal_ends _ begun r = refl
 
 -- the steps of a scan go on as a scan does
 pub scan_goes : (o : Op) (begun : Begun) (answer : Reaction) → is_scan o ≡ true → goes_on o begun answer ≡ scan_goes_on begun answer

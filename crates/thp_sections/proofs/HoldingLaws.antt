@@ -17,6 +17,7 @@ use Rattle.thp_model.specs.History.{History, by}
 use Rattle.thp_model.specs.Places.{queue}
 use Rattle.thp_model.specs.Refusals.{Call, refusal}
 use Rattle.thp_model.specs.Refusals as call
+use Rattle.thp_model.specs.PageCalls.{page_call}
 use Rattle.thp_model.specs.declared.page_call.Done.{Done}
 use Rattle.thp_node.specs.declared.answers.Tried.{Tried}
 use Rattle.thp_node.specs.declared.answers.BackReply.{BackReply}
@@ -27,13 +28,14 @@ use Rattle.thp_cell.specs.declared.fault.CellFault.TheVariants.{Busy, Refused}
 use Rattle.thp_cell.specs.Calls.{at_front, BatchesStay, OtherBatchesStay, Called, Failed, Follows}
 use Rattle.thp_cell.specs.Says.{DidOne, DidAlloc, DidLose, DidTake, DidTry, DidPutBack}
 use Rattle.thp_cell.specs.Views.{PassState, HasCaller}
-use Rattle.thp_text.specs.declared.script.Op.{Op}
-use Rattle.thp_text.specs.declared.script.Op.TheVariants as op
+use Rattle.thp_sections.specs.declared.steps.NodeCall.{NodeCall}
+use Rattle.thp_sections.specs.declared.steps.NodeCall.TheVariants as node
 use Rattle.thp_sections.specs.declared.steps.Step.{Step}
-use Rattle.thp_sections.specs.declared.steps.Step.TheVariants.{One, Take, SplitNext, PutBack}
+use Rattle.thp_sections.specs.declared.steps.Step.TheVariants as steps
+use Rattle.thp_sections.specs.declared.steps.Step.TheVariants.{Take, SplitNext, PutBack}
 use Rattle.thp_sections.specs.declared.reply.Reply.{Reply}
 use Rattle.thp_sections.specs.declared.reply.Reply.TheVariants as reply
-use Rattle.thp_sections.specs.Does.{Open, Reaction, Does, DoesOp, open_of, refusal_of, refusal_of_op}
+use Rattle.thp_sections.specs.Does.{Open, Reaction, Does, DoesCall, open_of, refusal_of, refusal_of_call}
 use Rattle.thp_sections.specs.Holdings.{IsHeld, Acts, HeldAnswered, HeldDone, batch_of, open_in, unit_reply, loss_reply}
 
 -- a call is never refused at a history for want of memory
@@ -44,76 +46,32 @@ memory_last false why rest here later is = later is
 abbrev pub NotMemory : Option Refusal → Type 0
 NotMemory why = why ≡ Some OutOfMemory → ⊥
 
-never_alloc : (s : Shape) (h : History) → NotMemory (refusal s h call.alloc_page)
+never : (s : Shape) (h : History) (call : Call) → NotMemory (refusal s h call)
 unfolding refusal
-never_alloc s h = memory_last _ Closed _ (λ e. cc) (memory_last _ NoBlock None (λ e. cc) (λ e. cc))
-
-never_map_whole : (s : Shape) (h : History) (p : ℕ) → NotMemory (refusal s h (call.map_whole p))
-unfolding refusal
-never_map_whole s h p = memory_last _ NoPage _ (λ e. cc) (memory_last _ IsSplit _ (λ e. cc) (memory_last _ TooMany None (λ e. cc) (λ e. cc)))
-
-never_unmap_whole : (s : Shape) (h : History) (p : ℕ) → NotMemory (refusal s h (call.unmap_whole p))
-unfolding refusal
-never_unmap_whole s h p = memory_last _ NoPage _ (λ e. cc) (memory_last _ IsSplit _ (λ e. cc) (memory_last _ NotMapped None (λ e. cc) (λ e. cc)))
-
-never_map : (s : Shape) (h : History) (p first count : ℕ) → NotMemory (refusal s h (call.map_sub p first count))
-unfolding refusal
-never_map s h p first count = memory_last _ NoPage _ (λ e. cc) (memory_last _ BadRange _ (λ e. cc) (memory_last _ Gone _ (λ e. cc) (memory_last _ TooMany None (λ e. cc) (λ e. cc))))
-
-never_unpin : (s : Shape) (h : History) (p : ℕ) → NotMemory (refusal s h (call.unpin p))
-unfolding refusal
-never_unpin s h p = memory_last _ NoPage _ (λ e. cc) (memory_last _ IsSplit _ (λ e. cc) (memory_last _ NotPinned None (λ e. cc) (λ e. cc)))
-
-never_split_pmd : (s : Shape) (h : History) (p : ℕ) → NotMemory (refusal s h (call.split_pmd p))
-unfolding refusal
-never_split_pmd s h p = memory_last _ NoPage _ (λ e. cc) (memory_last _ IsSplit _ (λ e. cc) (memory_last _ NotMapped None (λ e. cc) (λ e. cc)))
-
-never_unmap : (s : Shape) (h : History) (p first count : ℕ) → NotMemory (refusal s h (call.unmap_sub p first count))
-unfolding refusal
-never_unmap s h p first count = memory_last _ NoPage _ (λ e. cc) (memory_last _ BadRange _ (λ e. cc) (memory_last _ NotMapped None (λ e. cc) (λ e. cc)))
-
-never_write : (s : Shape) (h : History) (p first count : ℕ) → NotMemory (refusal s h (call.write p first count))
-unfolding refusal
-never_write s h p first count = memory_last _ NoPage _ (λ e. cc) (memory_last _ BadRange _ (λ e. cc) (memory_last _ IsSplit _ (λ e. cc) (memory_last _ NotMapped None (λ e. cc) (λ e. cc))))
-
-never_zero : (s : Shape) (h : History) (p first count : ℕ) → NotMemory (refusal s h (call.zero_fill p first count))
-unfolding refusal
-never_zero s h p first count = memory_last _ NoPage _ (λ e. cc) (memory_last _ BadRange _ (λ e. cc) (memory_last _ IsSplit _ (λ e. cc) (memory_last _ NotMapped None (λ e. cc) (λ e. cc))))
-
-never_pin : (s : Shape) (h : History) (p : ℕ) → NotMemory (refusal s h (call.pin p))
-unfolding refusal
-never_pin s h p = memory_last _ NoPage _ (λ e. cc) (memory_last _ IsSplit _ (λ e. cc) (memory_last _ TooMany None (λ e. cc) (λ e. cc)))
-
-never_close : (s : Shape) (h : History) → NotMemory (refusal s h call.close)
-unfolding refusal
-never_close s h = memory_last _ Closed None (λ e. cc) (λ e. cc)
-
-never_take : (s : Shape) (h : History) (c : ℕ) → NotMemory (refusal s h (call.take c))
-unfolding refusal
-never_take s h c = memory_last _ HasBatch None (λ e. cc) (λ e. cc)
+never s h call.alloc_page = memory_last _ Closed _ (λ e. cc) (memory_last _ NoBlock None (λ e. cc) (λ e. cc))
+never s h (call.map_whole p) = memory_last _ NoPage _ (λ e. cc) (memory_last _ IsSplit _ (λ e. cc) (memory_last _ TooMany None (λ e. cc) (λ e. cc)))
+never s h (call.unmap_whole p) = memory_last _ NoPage _ (λ e. cc) (memory_last _ IsSplit _ (λ e. cc) (memory_last _ NotMapped None (λ e. cc) (λ e. cc)))
+never s h (call.map_sub p first count) = memory_last _ NoPage _ (λ e. cc) (memory_last _ BadRange _ (λ e. cc) (memory_last _ Gone _ (λ e. cc) (memory_last _ TooMany None (λ e. cc) (λ e. cc))))
+never s h (call.unmap_sub p first count) = memory_last _ NoPage _ (λ e. cc) (memory_last _ BadRange _ (λ e. cc) (memory_last _ NotMapped None (λ e. cc) (λ e. cc)))
+never s h (call.split_pmd p) = memory_last _ NoPage _ (λ e. cc) (memory_last _ IsSplit _ (λ e. cc) (memory_last _ NotMapped None (λ e. cc) (λ e. cc)))
+never s h (call.pin p) = memory_last _ NoPage _ (λ e. cc) (memory_last _ IsSplit _ (λ e. cc) (memory_last _ TooMany None (λ e. cc) (λ e. cc)))
+never s h (call.unpin p) = memory_last _ NoPage _ (λ e. cc) (memory_last _ IsSplit _ (λ e. cc) (memory_last _ NotPinned None (λ e. cc) (λ e. cc)))
+never s h (call.write p first count) = memory_last _ NoPage _ (λ e. cc) (memory_last _ BadRange _ (λ e. cc) (memory_last _ IsSplit _ (λ e. cc) (memory_last _ NotMapped None (λ e. cc) (λ e. cc))))
+never s h (call.zero_fill p first count) = memory_last _ NoPage _ (λ e. cc) (memory_last _ BadRange _ (λ e. cc) (memory_last _ IsSplit _ (λ e. cc) (memory_last _ NotMapped None (λ e. cc) (λ e. cc))))
+never s h call.close = memory_last _ Closed None (λ e. cc) (λ e. cc)
+never s h (call.take c) = memory_last _ HasBatch None (λ e. cc) (λ e. cc)
+never s h (call.scan c) = memory_last _ HasBatch None (λ e. cc) (λ e. cc)
 
 -- no step is refused at a history for want of memory
-never_op : (s : Shape) (h : History) (o : Op) → NotMemory (refusal_of_op s h o)
-never_op s h op.Alloc = never_alloc s h
-never_op s h (op.MapWhole p) = never_map_whole s h p
-never_op s h (op.UnmapWhole p) = never_unmap_whole s h p
-never_op s h (op.Map first count p) = never_map s h p first count
-never_op s h (op.Unmap first count p) = never_unmap s h p first count
-never_op s h (op.Write first count p) = never_write s h p first count
-never_op s h (op.Zero first count p) = never_zero s h p first count
-never_op s h (op.SplitPmd p) = never_split_pmd s h p
-never_op s h (op.Pin p) = never_pin s h p
-never_op s h (op.Unpin p) = never_unpin s h p
-never_op s h op.Close = never_close s h
-never_op s h op.Count = λ e. cc
-never_op s h (op.Scan n) = λ e. cc
-never_op s h (op.Take n) = λ e. cc
-never_op s h op.SplitNext = λ e. cc
-never_op s h op.PutBack = λ e. cc
+never_call : (s : Shape) (h : History) (k : NodeCall) → NotMemory (refusal_of_call s h k)
+never_call s h node.Alloc = never s h call.alloc_page
+never_call s h (node.Page p k) = never s h (page_call k p)
+never_call s h node.Close = never s h call.close
+never_call s h node.Count = λ e. cc
 
 never_memory : (s : Shape) (h : History) (c : ℕ) (step : Step) → NotMemory (refusal_of s h c step)
-never_memory s h c (One o) = never_op s h o
-never_memory s h c (Take n) = never_take s h c
+never_memory s h c (steps.One k) = never_call s h k
+never_memory s h c (Take n) = never s h (call.take c)
 never_memory s h c SplitNext = λ e. cc
 never_memory s h c PutBack = λ e. cc
 
@@ -201,47 +159,47 @@ module _ (p q : PassState) (bs : List (Option BatchState)) (c : ℕ) (same : q �
         | inr none ↦ inr (rw (shape, f.others.goes_on) at none.0, none.1)
       ])
 
-does_refused : (s : Shape) (h : History) (c : ℕ) (o : Op) (batch : Option Open) (why : Refusal) → refusal_of_op s h o ≡ Some why → Does s h c batch (One o) [] (Err why) batch
+does_refused : (s : Shape) (h : History) (c : ℕ) (k : NodeCall) (batch : Option Open) (why : Refusal) → refusal_of_call s h k ≡ Some why → Does s h c batch (steps.One k) [] (Err why) batch
 unfolding Does
-does_refused s h c o batch why e = rw e (refl, refl, refl)
+does_refused s h c k batch why e = rw e (refl, refl, refl)
 
-does_op : (s : Shape) (h : History) (c : ℕ) (o : Op) (batch : Option Open) (own : List Event) (answer : Reply) → refusal_of_op s h o ≡ None → DoesOp s h c o own (Ok answer) → Does s h c batch (One o) own (Ok answer) batch
+does_call : (s : Shape) (h : History) (c : ℕ) (k : NodeCall) (batch : Option Open) (own : List Event) (answer : Reply) → refusal_of_call s h k ≡ None → DoesCall s h c k own (Ok answer) → Does s h c batch (steps.One k) own (Ok answer) batch
 unfolding Does
-does_op s h c o batch own answer e does = rw e (does, refl)
+does_call s h c k batch own answer e does = rw e (does, refl)
 
 -- a page was allocated
-pub alloc_done : (p q : PassState) (bs : List (Option BatchState)) (c : ℕ) (page : ℕ) → q ≡ at_front p q.front → Called p q c (DidAlloc p.shape c page) → HeldAnswered c (One op.Alloc) (record { pass = p; batches = bs }) (record { pass = q; batches = bs }) (Ok (reply.Page page))
+pub alloc_done : (p q : PassState) (bs : List (Option BatchState)) (c : ℕ) (page : ℕ) → q ≡ at_front p q.front → Called p q c (DidAlloc p.shape c page) → HeldAnswered c (steps.One node.Alloc) (record { pass = p; batches = bs }) (record { pass = q; batches = bs }) (Ok (reply.Page page))
 alloc_done p q bs c page same r =
-    held_called p q bs c same (One op.Alloc) (reply.Page page) (DidAlloc p.shape c page) r
-    (λ h own d. does_op p.shape h c op.Alloc _ own (reply.Page page) d.allowed (d.block, rw d.number at d.recorded, rw d.number refl))
+    held_called p q bs c same (steps.One node.Alloc) (reply.Page page) (DidAlloc p.shape c page) r
+    (λ h own d. does_call p.shape h c node.Alloc _ own (reply.Page page) d.allowed (d.block, rw d.number at d.recorded, rw d.number refl))
 
-pub count_done : (p q : PassState) (bs : List (Option BatchState)) (c n : ℕ) → Follows p q → n ≡ length (queue q.shape q.front) → HeldAnswered c (One op.Count) (record { pass = p; batches = bs }) (record { pass = q; batches = bs }) (Ok (reply.Count n))
+pub count_done : (p q : PassState) (bs : List (Option BatchState)) (c n : ℕ) → Follows p q → n ≡ length (queue q.shape q.front) → HeldAnswered c (steps.One node.Count) (record { pass = p; batches = bs }) (record { pass = q; batches = bs }) (Ok (reply.Count n))
 count_done p q bs c n f is = record {
   others = f.others.others;
   own = [];
   after = batch_of (record { pass = p; batches = bs }) c;
   acts = acts_followed p q bs c f.same f;
-  does = does_op p.shape (p.front ++ f.others.others) c op.Count _ [] (reply.Count n) refl (refl, rw (is, ap (λ (x : PassState). x.shape) f.same, f.others.goes_on) refl);
+  does = does_call p.shape (p.front ++ f.others.others) c node.Count _ [] (reply.Count n) refl (refl, rw (is, ap (λ (x : PassState). x.shape) f.same, f.others.goes_on) refl);
 }
 
-pub op_failed : (p q : PassState) (bs : List (Option BatchState)) (c : ℕ) (o : Op) (m : ℕ) (fault : CellFault) → q ≡ at_front p q.front → Failed p q (refusal_of_op q.shape q.front o) m fault → HeldDone c (One o) (record { pass = p; batches = bs }) (record { pass = q; batches = bs }) (Err fault)
-op_failed p q bs c o m fault same failed = held_failed p q bs c same (One o) m fault failed (λ h why e. does_refused p.shape h c o _ why e)
+pub call_failed : (p q : PassState) (bs : List (Option BatchState)) (c : ℕ) (k : NodeCall) (m : ℕ) (fault : CellFault) → q ≡ at_front p q.front → Failed p q (refusal_of_call q.shape q.front k) m fault → HeldDone c (steps.One k) (record { pass = p; batches = bs }) (record { pass = q; batches = bs }) (Err fault)
+call_failed p q bs c k m fault same failed = held_failed p q bs c same (steps.One k) m fault failed (λ h why e. does_refused p.shape h c k _ why e)
 
 -- a call that tells nothing
-pub unit_done : (p q : PassState) (bs : List (Option BatchState)) (c : ℕ) (o : Op) (w : What) (r : Result (Unit {0}) CellFault) (m : ℕ) (call : Call) → q ≡ at_front p q.front → OnOk r (Called p q c (DidOne p.shape call c w)) → IfErr r (Failed p q (refusal_of_op q.shape q.front o) m)
-    → ((s : Shape) (h : History) → refusal_of_op s h o ≡ refusal s h call) → ((s : Shape) (h : History) (own : List Event) → own ≡ by c w ∷ [] → DoesOp s h c o own (Ok reply.Unit))
-    → HeldDone c (One o) (record { pass = p; batches = bs }) (record { pass = q; batches = bs }) (unit_reply r)
-unit_done p q bs c o w (Ok x) m call same called failed is does =
-    held_called p q bs c same (One o) reply.Unit (DidOne p.shape call c w) called (λ h own d. does_op p.shape h c o _ own reply.Unit (is p.shape h ∙ d.allowed) (does p.shape h own d.recorded))
-unit_done p q bs c o w (Err fault) m call same called failed is does = op_failed p q bs c o m fault same failed
+pub unit_done : (p q : PassState) (bs : List (Option BatchState)) (c : ℕ) (k : NodeCall) (w : What) (r : Result (Unit {0}) CellFault) (m : ℕ) (call : Call) → q ≡ at_front p q.front → OnOk r (Called p q c (DidOne p.shape call c w)) → IfErr r (Failed p q (refusal_of_call q.shape q.front k) m)
+    → ((s : Shape) (h : History) → refusal_of_call s h k ≡ refusal s h call) → ((s : Shape) (h : History) (own : List Event) → own ≡ by c w ∷ [] → DoesCall s h c k own (Ok reply.Unit))
+    → HeldDone c (steps.One k) (record { pass = p; batches = bs }) (record { pass = q; batches = bs }) (unit_reply r)
+unit_done p q bs c k w (Ok x) m call same called failed is does =
+    held_called p q bs c same (steps.One k) reply.Unit (DidOne p.shape call c w) called (λ h own d. does_call p.shape h c k _ own reply.Unit (is p.shape h ∙ d.allowed) (does p.shape h own d.recorded))
+unit_done p q bs c k w (Err fault) m call same called failed is does = call_failed p q bs c k m fault same failed
 
 -- a call that may give frames back
-pub loss_done : (p q : PassState) (bs : List (Option BatchState)) (c page : ℕ) (o : Op) (w : Outcome → List Bool → What) (r : Result Done CellFault) (m : ℕ) (call : Call) → q ≡ at_front p q.front → IfOk r (λ d. Called p q c (DidLose p.shape call c page w d)) → IfErr r (Failed p q (refusal_of_op q.shape q.front o) m)
-    → ((s : Shape) (h : History) → refusal_of_op s h o ≡ refusal s h call) → ((s : Shape) (h : History) (own : List Event) (d : Done) → own ≡ by c (w d.outcome d.released) ∷ [] → DoesOp s h c o own (Ok (reply.Done d)))
-    → HeldDone c (One o) (record { pass = p; batches = bs }) (record { pass = q; batches = bs }) (loss_reply r)
-loss_done p q bs c page o w (Ok done) m call same called failed is does =
-    held_called p q bs c same (One o) (reply.Done done) (DidLose p.shape call c page w done) called (λ h own d. does_op p.shape h c o _ own (reply.Done done) (is p.shape h ∙ d.allowed) (does p.shape h own done d.recorded))
-loss_done p q bs c page o w (Err fault) m call same called failed is does = op_failed p q bs c o m fault same failed
+pub loss_done : (p q : PassState) (bs : List (Option BatchState)) (c page : ℕ) (k : NodeCall) (w : Outcome → List Bool → What) (r : Result Done CellFault) (m : ℕ) (call : Call) → q ≡ at_front p q.front → IfOk r (λ d. Called p q c (DidLose p.shape call c page w d)) → IfErr r (Failed p q (refusal_of_call q.shape q.front k) m)
+    → ((s : Shape) (h : History) → refusal_of_call s h k ≡ refusal s h call) → ((s : Shape) (h : History) (own : List Event) (d : Done) → own ≡ by c (w d.outcome d.released) ∷ [] → DoesCall s h c k own (Ok (reply.Done d)))
+    → HeldDone c (steps.One k) (record { pass = p; batches = bs }) (record { pass = q; batches = bs }) (loss_reply r)
+loss_done p q bs c page k w (Ok done) m call same called failed is does =
+    held_called p q bs c same (steps.One k) (reply.Done done) (DidLose p.shape call c page w done) called (λ h own d. does_call p.shape h c k _ own (reply.Done done) (is p.shape h ∙ d.allowed) (does p.shape h own done d.recorded))
+loss_done p q bs c page k w (Err fault) m call same called failed is does = call_failed p q bs c k m fault same failed
 
 -- ---- calls that change an open batch
 

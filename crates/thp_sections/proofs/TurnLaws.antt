@@ -7,6 +7,7 @@ use Rattle.std.proofs.lemmas.List.Elements.{All-nil, All-head, All-tail, All-pus
 use Rattle.std.specs.List.{find, after_first, position_or_len}
 use Rattle.std.proofs.lemmas.List.{length-drop, length-take}
 use Rattle.std.proofs.lemmas.Bool.{eqb-true}
+use Rattle.thp_model.specs.Limits.{max_batch}
 use Rattle.thp_model.specs.declared.events.Event.{Event}
 use Rattle.thp_model.specs.declared.refusal.Refusal.{Refusal}
 use Rattle.thp_model.specs.declared.shape.Shape.{Shape}
@@ -156,26 +157,12 @@ single o begun told answer other is = elim is.so_far [ inl none ↦ rw none.0 re
 -- one step more
 pub turned : (o : Op) (begun : Begun) (answer : Reaction) (told : List Told) → IsBegun o told begun → Reacts o begun answer → Turned o (told ++ record { step = next_step o begun; answer = answer } ∷ []) (goes_on o begun answer)
 turned (op.Scan n) begun answer told is reacts = turned_by n begun answer told is reacts
-turned op.Alloc begun answer told is reacts = single op.Alloc begun told answer (λ n e. cc) is
-turned (op.MapWhole p) begun answer told is reacts = single (op.MapWhole p) begun told answer (λ n e. cc) is
-turned (op.UnmapWhole p) begun answer told is reacts = single (op.UnmapWhole p) begun told answer (λ n e. cc) is
-turned (op.Map f k p) begun answer told is reacts = single (op.Map f k p) begun told answer (λ n e. cc) is
-turned (op.Unmap f k p) begun answer told is reacts = single (op.Unmap f k p) begun told answer (λ n e. cc) is
-turned (op.Write f k p) begun answer told is reacts = single (op.Write f k p) begun told answer (λ n e. cc) is
-turned (op.Zero f k p) begun answer told is reacts = single (op.Zero f k p) begun told answer (λ n e. cc) is
-turned (op.SplitPmd p) begun answer told is reacts = single (op.SplitPmd p) begun told answer (λ n e. cc) is
-turned (op.Pin p) begun answer told is reacts = single (op.Pin p) begun told answer (λ n e. cc) is
-turned (op.Unpin p) begun answer told is reacts = single (op.Unpin p) begun told answer (λ n e. cc) is
-turned op.Close begun answer told is reacts = single op.Close begun told answer (λ n e. cc) is
-turned op.Count begun answer told is reacts = single op.Count begun told answer (λ n e. cc) is
-turned (op.Take k) begun answer told is reacts = single (op.Take k) begun told answer (λ n e. cc) is
-turned op.SplitNext begun answer told is reacts = single op.SplitNext begun told answer (λ n e. cc) is
-turned op.PutBack begun answer told is reacts = single op.PutBack begun told answer (λ n e. cc) is
+turned o begun answer told is reacts = single o begun told answer (λ n e. cc) is
 
 -- ---- what a step leaves the next one
 
 -- the next step is one that there is
-cond_step : (n : ℕ) (a b : Bool) → n ≤ 128 → IsStep (cond a (Take n) (cond b SplitNext PutBack))
+cond_step : (n : ℕ) (a b : Bool) → n ≤ max_batch → IsStep (cond a (Take n) (cond b SplitNext PutBack))
 cond_step n true b le = le
 cond_step n false true le = tt
 cond_step n false false le = tt
@@ -183,20 +170,7 @@ cond_step n false false le = tt
 pub step_fits : (o : Op) (begun : Begun) → IsFit o → IsStep (next_step o begun)
 step_fits (op.Scan n) begun fit = cond_step n _ _ fit
 step_fits (op.Take n) begun fit = fit
-step_fits op.SplitNext begun fit = tt
-step_fits op.PutBack begun fit = tt
-step_fits op.Alloc begun fit = tt
-step_fits (op.MapWhole p) begun fit = tt
-step_fits (op.UnmapWhole p) begun fit = tt
-step_fits (op.Map f k p) begun fit = tt
-step_fits (op.Unmap f k p) begun fit = tt
-step_fits (op.Write f k p) begun fit = tt
-step_fits (op.Zero f k p) begun fit = tt
-step_fits (op.SplitPmd p) begun fit = tt
-step_fits (op.Pin p) begun fit = tt
-step_fits (op.Unpin p) begun fit = tt
-step_fits op.Close begun fit = tt
-step_fits op.Count begun fit = tt
+step_fits _ begun fit = tt
 
 some_left : (test : ℕ → Bool) (xs : List ℕ) (p : ℕ) → find test xs ≡ Some p → 0 < length xs
 some_left test [] p e = absurd (cc)
@@ -210,7 +184,7 @@ fewer_behind : (test : ℕ → Bool) (xs : List ℕ) (p : ℕ) → find test xs 
 fewer_behind test xs p e = omega (arith, length-drop (position_or_len test xs + 1) xs, some_left test xs p e)
 
 -- a try leaves the scan ready
-try_ready : (s : Shape) (h : History) (page : Option ℕ) (begun : Begun) (pages left behind : List ℕ) → begun.steps ≡ 1 + tries_of begun.so_far → tries_of begun.so_far + length left ≤ 128
+try_ready : (s : Shape) (h : History) (page : Option ℕ) (begun : Begun) (pages left behind : List ℕ) → begun.steps ≡ 1 + tries_of begun.so_far → tries_of begun.so_far + length left ≤ max_batch
     → length behind ≤ length left → ((p : ℕ) → page ≡ Some p → length behind < length left) → StaysReady (Some (record { pages = pages; left = behind })) (scan_goes_on begun (Ok (reply.Tried (tried s h page))))
 try_ready s h None begun pages left behind at few less fewer = inr (record { open_batch = record { pages = pages; left = behind }; is = refl; few = omega (arith, few, less); short = omega (arith, at) })
 try_ready s h (Some p) begun pages left behind at few less fewer =
@@ -226,7 +200,7 @@ try_ready s h (Some p) begun pages left behind at few less fewer =
 abbrev Fares : Step → Begun → Reaction → Option Open → Type 0
 Fares step begun answer after = StepReacts step answer × StaysReady after (scan_goes_on begun answer)
 
-take_fares : (s : Shape) (h : History) (c n : ℕ) (batch : Option Open) (begun : Begun) (own : List Event) (answer : Reaction) (after : Option Open) → n ≤ 128 → (batch ≡ None → begun ≡ first_begun) → Does s h c batch (Take n) own answer after → Fares (Take n) begun answer after
+take_fares : (s : Shape) (h : History) (c n : ℕ) (batch : Option Open) (begun : Begun) (own : List Event) (answer : Reaction) (after : Option Open) → n ≤ max_batch → (batch ≡ None → begun ≡ first_begun) → Does s h c batch (Take n) own answer after → Fares (Take n) begun answer after
 unfolding Does
 take_fares s h c n (Some b) begun own answer after le first does = rw does.1 (tt, tt)
 take_fares s h c n None begun own answer after le first does = by_refusal (refusal s h (call.take c)) does
@@ -237,7 +211,7 @@ take_fares s h c n None begun own answer after le first does = by_refusal (refus
     by_refusal None d =
         rw (d.1, d.2, first refl) (tt, inr (record { open_batch = record { pages = take n (queue s h); left = take n (queue s h) }; is = refl; few = omega (arith, length-take n (queue s h), le); short = omega arith }))
 
-next_fares : (s : Shape) (h : History) (c : ℕ) (b : Open) (begun : Begun) (own : List Event) (answer : Reaction) (after : Option Open) → begun.steps ≡ 1 + tries_of begun.so_far → tries_of begun.so_far + length b.left ≤ 128
+next_fares : (s : Shape) (h : History) (c : ℕ) (b : Open) (begun : Begun) (own : List Event) (answer : Reaction) (after : Option Open) → begun.steps ≡ 1 + tries_of begun.so_far → tries_of begun.so_far + length b.left ≤ max_batch
     → Does s h c (Some b) SplitNext own answer after → Fares SplitNext begun answer after
 unfolding Does
 next_fares s h c b begun own answer after at few does =
@@ -247,7 +221,7 @@ back_fares : (s : Shape) (h : History) (c : ℕ) (b : Open) (begun : Begun) (own
 unfolding Does
 back_fares s h c b begun own answer after does = rw does.1 (tt, tt)
 
-scan_fares : (s : Shape) (h : History) (c n : ℕ) (batch : Option Open) (begun : Begun) (own : List Event) (answer : Reaction) (after : Option Open) → n ≤ 128 → IsReady batch begun → Does s h c batch (next_step (op.Scan n) begun) own answer after
+scan_fares : (s : Shape) (h : History) (c n : ℕ) (batch : Option Open) (begun : Begun) (own : List Event) (answer : Reaction) (after : Option Open) → n ≤ max_batch → IsReady batch begun → Does s h c batch (next_step (op.Scan n) begun) own answer after
     → Fares (next_step (op.Scan n) begun) begun answer after
 scan_fares s h c n batch begun own answer after le ready does =
     elim ready [
@@ -261,7 +235,7 @@ scan_fares s h c n batch begun own answer after le ready does =
           by_place holds.open_batch holds.few (begun.steps == 0) (begun.steps == 1 + tries) refl at
     ]
   where
-    by_place : (b : Open) → tries_of begun.so_far + length b.left ≤ 128 → (first next : Bool) → (begun.steps == 1 + tries_of begun.so_far) ≡ next → Does s h c (Some b) (cond first (Take n) (cond next SplitNext PutBack)) own answer after
+    by_place : (b : Open) → tries_of begun.so_far + length b.left ≤ max_batch → (first next : Bool) → (begun.steps == 1 + tries_of begun.so_far) ≡ next → Does s h c (Some b) (cond first (Take n) (cond next SplitNext PutBack)) own answer after
         → Fares (cond first (Take n) (cond next SplitNext PutBack)) begun answer after
     by_place b few true next e d = take_fares s h c n (Some b) begun own answer after le (λ f. absurd (cc)) d
     by_place b few false true e d = next_fares s h c b begun own answer after (eqb-true begun.steps (1 + tries_of begun.so_far) e) few d
@@ -271,21 +245,7 @@ scan_fares s h c n batch begun own answer after le ready does =
 pub fares : (s : Shape) (h : History) (c : ℕ) (o : Op) (batch : Option Open) (begun : Begun) (own : List Event) (answer : Reaction) (after : Option Open) → IsFit o → IsReady batch begun → Does s h c batch (next_step o begun) own answer after
     → Reacts o begun answer × StaysReady after (goes_on o begun answer)
 fares s h c (op.Scan n) batch begun own answer after fit ready does = scan_fares s h c n batch begun own answer after fit ready does
-fares s h c (op.Take n) batch begun own answer after fit ready does = (tt, tt)
-fares s h c op.SplitNext batch begun own answer after fit ready does = (tt, tt)
-fares s h c op.PutBack batch begun own answer after fit ready does = (tt, tt)
-fares s h c op.Alloc batch begun own answer after fit ready does = (tt, tt)
-fares s h c (op.MapWhole p) batch begun own answer after fit ready does = (tt, tt)
-fares s h c (op.UnmapWhole p) batch begun own answer after fit ready does = (tt, tt)
-fares s h c (op.Map f k p) batch begun own answer after fit ready does = (tt, tt)
-fares s h c (op.Unmap f k p) batch begun own answer after fit ready does = (tt, tt)
-fares s h c (op.Write f k p) batch begun own answer after fit ready does = (tt, tt)
-fares s h c (op.Zero f k p) batch begun own answer after fit ready does = (tt, tt)
-fares s h c (op.SplitPmd p) batch begun own answer after fit ready does = (tt, tt)
-fares s h c (op.Pin p) batch begun own answer after fit ready does = (tt, tt)
-fares s h c (op.Unpin p) batch begun own answer after fit ready does = (tt, tt)
-fares s h c op.Close batch begun own answer after fit ready does = (tt, tt)
-fares s h c op.Count batch begun own answer after fit ready does = (tt, tt)
+fares s h c _ batch begun own answer after fit ready does = (tt, tt)
 
 -- a command that goes on has one step more
 scan_longer : (begun more : Begun) (answer : Reaction) → scan_goes_on begun answer ≡ On more → more.steps ≡ begun.steps + 1
@@ -301,5 +261,5 @@ longer (op.Scan n) begun more answer e = scan_longer begun more answer e
 longer _ begun more answer e = absurd (cc)
 
 -- a command that can go on has few steps yet
-pub few_steps : (batch : Option Open) (begun : Begun) → IsReady batch begun → (begun.steps ≤ 130) × (tries_of begun.so_far ≤ 128)
+pub few_steps : (batch : Option Open) (begun : Begun) → IsReady batch begun → (begun.steps ≤ max_batch + 2) × (tries_of begun.so_far ≤ max_batch)
 few_steps batch begun ready = elim ready [ inl first ↦ rw first (omega arith, omega arith) | inr h ↦ (omega (arith, h.few, h.short), omega (arith, h.few)) ]

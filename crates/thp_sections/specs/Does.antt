@@ -1,5 +1,6 @@
 -- What one step of a caller does to its node and to its open batch there, and what it is answered.
 use Rattle.std.specs.Prelude.{◌≡◌, ℕ, ◌≤◌, ⊤, Bool, List, [], ◌∷◌, Option, Some, None, Result, Ok, Err, length, take}
+use Rattle.thp_model.specs.Limits.{max_batch}
 use Rattle.thp_model.specs.declared.events.Event.{Event}
 use Rattle.thp_model.specs.declared.events.Outcome.{Outcome}
 use Rattle.thp_model.specs.declared.events.What.{What}
@@ -10,13 +11,18 @@ use Rattle.thp_model.specs.declared.shape.Shape.{Shape}
 use Rattle.thp_model.specs.Counts.{allocations}
 use Rattle.thp_model.specs.History.{History, by}
 use Rattle.thp_model.specs.Places.{queue}
-use Rattle.thp_model.specs.Refusals.{Call, refusal}
+use Rattle.thp_model.specs.Refusals.{refusal}
 use Rattle.thp_model.specs.Refusals as call
 use Rattle.thp_model.specs.Runs.{take_events, split_next_events, put_back_events, next_page, rest_after, still_flying}
+use Rattle.thp_model.specs.PageCalls.{gain_what, loss_what, page_call}
 use Rattle.thp_model.specs.declared.page_call.Done.{Done}
+use Rattle.thp_model.specs.declared.page_call.PageCall.{PageCall}
+use Rattle.thp_model.specs.declared.page_call.PageCall.TheVariants as either
 use Rattle.thp_node.specs.Batches.{BatchState, rest, tried, back_reply}
 use Rattle.thp_text.specs.declared.script.Op.{Op}
 use Rattle.thp_text.specs.declared.script.Op.TheVariants as op
+use Rattle.thp_sections.specs.declared.steps.NodeCall.{NodeCall}
+use Rattle.thp_sections.specs.declared.steps.NodeCall.TheVariants as node
 use Rattle.thp_sections.specs.declared.steps.Step.{Step}
 use Rattle.thp_sections.specs.declared.steps.Step.TheVariants.{One, Take, SplitNext, PutBack}
 use Rattle.thp_sections.specs.declared.reply.Reply.{Reply}
@@ -40,22 +46,14 @@ abbrev pub open_of : BatchState → Open
 open_of b = record { pages = b.pages; left = rest b }
 
 -- the refusal of a step of caller c at h: a try, a put-back and a count are never refused
-abbrev pub refusal_of_op : Shape → History → Op → Option Refusal
-refusal_of_op s h op.Alloc = refusal s h call.alloc_page
-refusal_of_op s h (op.MapWhole p) = refusal s h (call.map_whole p)
-refusal_of_op s h (op.UnmapWhole p) = refusal s h (call.unmap_whole p)
-refusal_of_op s h (op.Map first count p) = refusal s h (call.map_sub p first count)
-refusal_of_op s h (op.Unmap first count p) = refusal s h (call.unmap_sub p first count)
-refusal_of_op s h (op.Write first count p) = refusal s h (call.write p first count)
-refusal_of_op s h (op.Zero first count p) = refusal s h (call.zero_fill p first count)
-refusal_of_op s h (op.SplitPmd p) = refusal s h (call.split_pmd p)
-refusal_of_op s h (op.Pin p) = refusal s h (call.pin p)
-refusal_of_op s h (op.Unpin p) = refusal s h (call.unpin p)
-refusal_of_op s h op.Close = refusal s h call.close
-refusal_of_op s h _ = None
+abbrev pub refusal_of_call : Shape → History → NodeCall → Option Refusal
+refusal_of_call s h node.Alloc = refusal s h call.alloc_page
+refusal_of_call s h (node.Page p c) = refusal s h (page_call c p)
+refusal_of_call s h node.Close = refusal s h call.close
+refusal_of_call s h node.Count = None
 
 abbrev pub refusal_of : Shape → History → ℕ → Step → Option Refusal
-refusal_of s h c (One o) = refusal_of_op s h o
+refusal_of s h c (One k) = refusal_of_call s h k
 refusal_of s h c (Take n) = refusal s h (call.take c)
 refusal_of s h c _ = None
 
@@ -67,21 +65,17 @@ DoesOne c w own answer = (own ≡ by c w ∷ []) × (answer ≡ Ok reply.Unit)
 abbrev pub DoesLoss : ℕ → (Outcome → List Bool → What) → List Event → Reaction → Type 0
 DoesLoss c w own answer = (d : Done) × (own ≡ by c (w d.outcome d.released) ∷ []) × (answer ≡ Ok (reply.Done d))
 
--- the events and the answer of a step that isn't refused, of a command that is one call; a new page's block is free to choose
-abbrev pub DoesOp : Shape → History → ℕ → Op → List Event → Reaction → Type 0
-DoesOp s h c op.Alloc own answer = (block : ℕ) × (own ≡ by c (what.Alloc (allocations h) block) ∷ []) × (answer ≡ Ok (reply.Page (allocations h)))
-DoesOp s h c (op.MapWhole p) own answer = DoesOne c (what.MapWhole p) own answer
-DoesOp s h c (op.UnmapWhole p) own answer = DoesLoss c (λ o set. what.UnmapWhole o p set) own answer
-DoesOp s h c (op.Map first count p) own answer = DoesOne c (what.MapSub p first count) own answer
-DoesOp s h c (op.Unmap first count p) own answer = DoesLoss c (λ o set. what.UnmapSub o p first count set) own answer
-DoesOp s h c (op.Write first count p) own answer = DoesOne c (what.Write p first count) own answer
-DoesOp s h c (op.Zero first count p) own answer = DoesOne c (what.Zero p first count) own answer
-DoesOp s h c (op.SplitPmd p) own answer = DoesOne c (what.SplitPmd p) own answer
-DoesOp s h c (op.Pin p) own answer = DoesOne c (what.Pin p) own answer
-DoesOp s h c (op.Unpin p) own answer = DoesLoss c (λ o set. what.Unpin o p set) own answer
-DoesOp s h c op.Close own answer = DoesOne c what.Close own answer
-DoesOp s h c op.Count own answer = (own ≡ []) × (answer ≡ Ok (reply.Count (length (queue s h))))
-DoesOp s h c _ own answer = ⊥
+-- caller c made this call of page p
+abbrev pub DoesPageCall : ℕ → ℕ → PageCall → List Event → Reaction → Type 0
+DoesPageCall c p (either.Gain g) own answer = DoesOne c (gain_what g p) own answer
+DoesPageCall c p (either.Loss l) own answer = DoesLoss c (loss_what l p) own answer
+
+-- the events and the answer of a call that isn't refused; a new page's block is free to choose
+abbrev pub DoesCall : Shape → History → ℕ → NodeCall → List Event → Reaction → Type 0
+DoesCall s h c node.Alloc own answer = (block : ℕ) × (own ≡ by c (what.Alloc (allocations h) block) ∷ []) × (answer ≡ Ok (reply.Page (allocations h)))
+DoesCall s h c (node.Page p k) own answer = DoesPageCall c p k own answer
+DoesCall s h c node.Close own answer = DoesOne c what.Close own answer
+DoesCall s h c node.Count own answer = (own ≡ []) × (answer ≡ Ok (reply.Count (length (queue s h))))
 
 -- nothing happens, and this is the answer
 abbrev pub Nothing : Option Open → List Event → Reaction → Option Open → Reaction → Type 0
@@ -95,7 +89,7 @@ Unless None own answer batch after P = P
 -- Of a step of caller c at h, with this open batch on the node: its own events, its answer, and the open batch after it.
 -- A caller has one open batch at most: the runner refuses a take beside it, and answers that there is none.
 unfoldable pub Does : Shape → History → ℕ → Option Open → Step → List Event → Reaction → Option Open → Type 0
-Does s h c batch (One o) own answer after = Unless (refusal_of_op s h o) own answer batch after (DoesOp s h c o own answer × (after ≡ batch))
+Does s h c batch (One k) own answer after = Unless (refusal_of_call s h k) own answer batch after (DoesCall s h c k own answer × (after ≡ batch))
 Does s h c (Some b) (Take n) own answer after = Nothing (Some b) own answer after (Err HasBatch)
 Does s h c None (Take n) own answer after =
     Unless (refusal s h (call.take c)) own answer None after
@@ -107,22 +101,13 @@ Does s h c None PutBack own answer after = Nothing None own answer after (Ok rep
 Does s h c (Some b) PutBack own answer after =
     (own ≡ put_back_events s h c b.pages) × (answer ≡ Ok (reply.Back (back_reply s h (still_flying h c b.pages)))) × (after ≡ None)
 
--- a command that is one call of the node, and needs no batch
-abbrev pub IsPlain : Op → Type 0
-IsPlain (op.Scan n) = ⊥
-IsPlain (op.Take n) = ⊥
-IsPlain op.SplitNext = ⊥
-IsPlain op.PutBack = ⊥
-IsPlain _ = ⊤
-
 -- a step that there is: a take is of as many pages as a batch holds
 abbrev pub IsStep : Step → Type 0
-IsStep (One o) = IsPlain o
-IsStep (Take n) = n ≤ 128
+IsStep (Take n) = n ≤ max_batch
 IsStep _ = ⊤
 
 -- a command that there is
 abbrev pub IsFit : Op → Type 0
-IsFit (op.Scan n) = n ≤ 128
-IsFit (op.Take n) = n ≤ 128
+IsFit (op.Scan n) = n ≤ max_batch
+IsFit (op.Take n) = n ≤ max_batch
 IsFit _ = ⊤

@@ -6,6 +6,7 @@ use Rattle.thp_model.specs.declared.shape.Shape.{Shape}
 use Rattle.thp_model.specs.History.{History, events_of}
 use Rattle.thp_text.specs.declared.script.Command.{Command}
 use Rattle.thp_text.specs.declared.script.Op.TheVariants as op
+use Rattle.thp_sections.specs.declared.answer_log.Answers.{Answers}
 use Rattle.thp_sections.specs.declared.reply.Answer.{Answer}
 use Rattle.thp_sections.specs.declared.reply.Rest.{Rest}
 use Rattle.thp_sections.specs.declared.reply.Worked.{Worked}
@@ -188,9 +189,9 @@ pub record Works (c : ℕ) (old new : Fronts) (commands : List Command) (w : Wor
   pub to : WorksTo c old new commands w.answers.items w.rest
   pub room : length commands ≤ w.answers.room
 
--- the section's answers are kept, or aren't
-abbrev pub IsKept : Bool → Worked → Type 0
-IsKept keeps w = w.answers.keeps ≡ keeps
+-- this becomes of the section's answers
+abbrev pub AnswersAre : Answers → Worked → Type 0
+AnswersAre are w = w.answers.are ≡ are
 
 -- nothing of the section is left
 abbrev pub IsDoneFor : Worked → Type 0

@@ -1,7 +1,9 @@
 -- The steps of a command, one after another, and its answer.
-use Rattle.std.specs.Prelude.{◌≡◌, ◌⊎◌, ℕ, ◌+◌, ◌≤◌, nat_eq, ⊤, Bool, true, false, List, [], ◌∷◌, ◌++◌, All, Option, Some, Result, Ok, Err, length, map, filter, if◌then◌else◌}
+use Rattle.std.specs.Prelude.{◌≡◌, ◌⊎◌, ℕ, ◌+◌, ◌≤◌, nat_eq, ⊤, Bool, true, false, List, [], ◌∷◌, ◌++◌, All, Option, Some, None, Result, Ok, Err, length, map, filter, if◌then◌else◌}
 use Rattle.thp_cell.specs.declared.fault.CellFault.{CellFault}
 use Rattle.thp_cell.specs.declared.fault.CellFault.TheVariants.{Busy, Refused}
+use Rattle.thp_model.specs.Limits.{max_batch}
+use Rattle.thp_model.specs.declared.page_call.PageCall.{PageCall}
 use Rattle.thp_model.specs.declared.refusal.Refusal.{Refusal}
 use Rattle.thp_model.specs.declared.refusal.Refusal.TheVariants.{OutOfMemory}
 use Rattle.thp_node.specs.declared.answers.Tried.{Tried}
@@ -10,6 +12,8 @@ use Rattle.thp_node.specs.declared.answers.BackReply.{BackReply}
 use Rattle.thp_node.specs.declared.answers.ScanReply.{ScanReply}
 use Rattle.thp_text.specs.declared.script.Op.{Op}
 use Rattle.thp_text.specs.declared.script.Op.TheVariants as op
+use Rattle.thp_text.specs.PageCommands.{page_call_of}
+use Rattle.thp_sections.specs.declared.steps.NodeCall.TheVariants as node
 use Rattle.thp_sections.specs.declared.steps.Step.{Step}
 use Rattle.thp_sections.specs.declared.steps.Step.TheVariants.{One, Take, SplitNext, PutBack}
 use Rattle.thp_sections.specs.declared.reply.Reply.{Reply}
@@ -23,13 +27,20 @@ pub record Told : Type 0 where
   pub step : Step
   pub answer : Reaction
 
--- the one step of a command, or the first of a scan
+-- the call about a page, where there is one, or else another step
+abbrev pub page_step : Option (ℕ × PageCall) → Step → Step
+page_step (Some call) other = One (node.Page call.0 call.1)
+page_step None other = other
+
+-- the one step of a command, or the first of a scan; of the commands that are about no page only a put-back is left last
 abbrev pub first_step : Op → Step
+first_step op.Alloc = One node.Alloc
+first_step op.Close = One node.Close
+first_step op.Count = One node.Count
 first_step (op.Scan n) = Take n
 first_step (op.Take n) = Take n
 first_step op.SplitNext = SplitNext
-first_step op.PutBack = PutBack
-first_step o = One o
+first_step o = page_step (page_call_of o) PutBack
 
 -- a take that was answered, a try, and a put-back
 abbrev pub took : ℕ → ℕ → Told
@@ -179,7 +190,7 @@ Turned o told (Ended answer) = TurnsOut o told answer
 pub record Holding (batch : Option Open) (begun : Begun) : Type 0 where
   pub open_batch : Open
   pub is : batch ≡ Some open_batch
-  pub few : tries_of begun.so_far + length open_batch.left ≤ 128
+  pub few : tries_of begun.so_far + length open_batch.left ≤ max_batch
   pub short : begun.steps ≤ 2 + tries_of begun.so_far
 
 -- a command that can go on

@@ -1,6 +1,7 @@
 //! The answers of a section, kept or only counted.
-ghost use Rattle.std.specs.Prelude.{◌≡◌, ◌<◌, ◌≤◌, ◌+◌, ◌++◌, ◌∷◌, [], true, false, length, slice_get, IfOk, None, if◌then◌else◌};
+ghost use Rattle.std.specs.Prelude.{◌≡◌, ◌<◌, ◌≤◌, ◌+◌, ◌++◌, ◌∷◌, [], length, slice_get, IfOk, None};
 ghost use Rattle.thp_sections.specs.Does.{answer_of};
+ghost use Rattle.thp_sections.specs.Logs.{if_kept};
 
 use crate::kept_answers::KeptAnswers;
 use crate::reply::{Answer, Reply};
@@ -9,6 +10,15 @@ use std::marker::Model;
 use std::snapshot::Snapshot;
 use thp_model::Refusal;
 
+/// What becomes of the answers to the commands of a section.
+#[derive(Clone, Copy, Debug, PartialEq, Eq)]
+pub enum Answers {
+    /// They are kept.
+    Kept,
+    /// They are only counted, which takes no memory.
+    Counted,
+}
+
 // The answers so far, which only contracts see: they take no bytes.
 #[derive(Drop)]
 enum Told {
@@ -16,12 +26,12 @@ enum Told {
     After(Snapshot<Answer>, Snapshot<Told>),
 }
 
-/// The answers to the commands of a section, in order. A log that doesn't keep them takes no memory for them: it counts them,
-/// and only contracts see which they are.
+/// The answers to the commands of a section, in order. Where they are only counted, only contracts see which they are.
 #[derive(Drop)]
 pub struct AnswerLog {
-    keeps: bool,
-    // all answers where the log keeps them, else none
+    // what becomes of them
+    are: Answers,
+    // all of them where they are kept, else none
     kept: KeptAnswers,
     count: usize,
     // for how many answers there is room
@@ -34,21 +44,25 @@ impl Model for AnswerLog {
 
     ghost Value = { LogState };
 
-    ghost view = { λ l. record { items = told_items l.told.value; keeps = l.keeps; room = l.room } };
+    ghost view = { λ l. record { items = told_items l.told.value; are = l.are; room = l.room } };
 
-    ghost invariant = { λ l. IsLog l.keeps l.kept l.count l.room l.told.value };
+    ghost invariant = { λ l. IsLog l.are l.kept l.count l.room l.told.value };
 }
 
 impl AnswerLog {
     /// A log without answers, with room for so many.
-    pub fn new(alloc: Global, room: usize, keeps: bool) -> Result<AnswerLog, AllocError>
+    pub fn new(alloc: Global, room: usize, are: Answers) -> Result<AnswerLog, AllocError>
         ensures items { IfOk result (λ log. log.items ≡ []) }
-        ensures keeps { IfOk result (λ log. log.keeps ≡ keeps) }
+        ensures are { IfOk result (λ log. log.are ≡ are) }
         ensures room { IfOk result (λ log. log.room ≡ room) }
     {
+        let kept = match are {
+            Answers::Kept => room,
+            Answers::Counted => 0,
+        };
         Ok(AnswerLog {
-            keeps,
-            kept: KeptAnswers::new(alloc, if keeps { room } else { 0 })?,
+            are,
+            kept: KeptAnswers::new(alloc, kept)?,
             count: 0,
             room,
             told: Snapshot::of(&Told::Nothing),
@@ -56,13 +70,13 @@ impl AnswerLog {
     }
 
     /// Adds the answer to a command, by its number and its node, for which there is room. Where the command wasn't refused, the
-    /// answer is the reply, which is copied only where the log keeps it.
+    /// answer is the reply, which is copied only where answers are kept.
     #[inline(always)]
     pub fn push(&mut self, command: u32, node: u32, called: Result<(), Refusal>, reply: &Reply)
         requires { length self.old.items < self.old.room }
         ensures items { self.new.items ≡ self.old.items ++ record { command = command; node = node; reply = answer_of called reply.now } ∷ [] }
         ensures count { length self.new.items ≡ length self.old.items + 1 }
-        ensures keeps { self.new.keeps ≡ self.old.keeps }
+        ensures are { self.new.are ≡ self.old.are }
         ensures room { self.new.room ≡ self.old.room }
     {
         // for contracts alone: the program has nothing of it
@@ -71,7 +85,7 @@ impl AnswerLog {
         let told = std::mem::replace(&mut self.told, nothing);
         self.told = Snapshot::of(&Told::After(last, told));
         self.count += 1;
-        if self.keeps {
+        if let Answers::Kept = self.are {
             self.kept.push(command, node, called, reply);
         }
     }
@@ -83,14 +97,13 @@ impl AnswerLog {
         self.count
     }
 
-    /// The answer at a place, counted from 0, where the log keeps them.
+    /// The answer at a place, counted from 0, where answers are kept.
     pub fn get(&self, place: usize) -> Option<Answer>
-        ensures { result ≡ (if self.now.keeps then slice_get self.now.items place else None) }
+        ensures { result ≡ if_kept self.now.are (slice_get self.now.items place) }
     {
-        if self.keeps {
-            self.kept.get(place)
-        } else {
-            None
+        match self.are {
+            Answers::Kept => self.kept.get(place),
+            Answers::Counted => None,
         }
     }
 }

@@ -3,9 +3,10 @@ ghost use Rattle.std.specs.Prelude.{◌≡◌, ◌<◌, All, IfOk, IsOkAnd, List
 ghost use Rattle.std.specs.Thread.{IsSync};
 ghost use Rattle.thp_sections.specs.Fronts.{Fronts};
 ghost use Rattle.thp_sections.specs.Halves.{CanJoin, CanRun, IsJoined, IsSplit, Ran};
-ghost use Rattle.thp_sections.specs.Sections.{IsKept};
+ghost use Rattle.thp_sections.specs.Sections.{AnswersAre};
 ghost use Rattle.thp_sections.specs.declared.reply.Worked.{Worked};
 
+use crate::answer_log::Answers;
 use crate::gate::Gate;
 use crate::reply::Worked;
 use crate::steps::Steps;
@@ -28,22 +29,22 @@ pub trait Passes: Steps + Sized {
         ensures { IfOk result (λ r. IsJoined (Self.fronts self) (Self.fronts other) (Self.fronts r)) };
 }
 
-/// Does the sections of the workers from `first` on, each on a thread of its own. Their answers are kept or aren't.
+/// Does the sections of the workers from `first` on, each on a thread of its own. `answers` says what becomes of theirs.
 pub fn run_range<R: Threads + Sync, P: Passes + Send + Drop, G: Gate + Sync>(
     rt: &R,
     alloc: Global,
     passes: P,
     first: u32,
     workers: &[Vec<Command>],
-    keeps: bool,
+    answers: Answers,
     gate: &G,
 ) -> Result<(P, Vec<Worked>), AllocError>
     requires { CanRun (P.fronts passes) first workers.now }
     ensures ran { IfOk result (λ r. Ran first (P.fronts passes) (P.fronts r.0) workers.now r.1.items) }
-    ensures keeps { IfOk result (λ r. All (IsKept keeps) r.1.items) }
+    ensures answers { IfOk result (λ r. All (AnswersAre answers) r.1.items) }
 {
     if workers.len() == 1 {
-        return run_one(alloc, passes, first, &workers[0], keeps, gate);
+        return run_one(alloc, passes, first, &workers[0], answers, gate);
     }
     let middle = workers.len() / 2;
     let (low, high) = workers.split_at(middle);
@@ -54,13 +55,13 @@ pub fn run_range<R: Threads + Sync, P: Passes + Send + Drop, G: Gate + Sync>(
         move || -> Result<(P, Vec<Worked>), AllocError>
             requires { IsSync R.row × IsSync G.row × CanRun (P.fronts left) first low.now }
             ensures ran { IfOk result (λ r. Ran first (P.fronts left) (P.fronts r.0) low.entry.now r.1.items) }
-            ensures keeps { IfOk result (λ r. All (IsKept keeps) r.1.items) }
-        { run_range(rt, alloc, left, first, low, keeps, gate) },
+            ensures answers { IfOk result (λ r. All (AnswersAre answers) r.1.items) }
+        { run_range(rt, alloc, left, first, low, answers, gate) },
         move || -> Result<(P, Vec<Worked>), AllocError>
             requires { IsSync R.row × IsSync G.row × CanRun (P.fronts right) at high.now }
             ensures ran { IfOk result (λ r. Ran at (P.fronts right) (P.fronts r.0) high.entry.now r.1.items) }
-            ensures keeps { IfOk result (λ r. All (IsKept keeps) r.1.items) }
-        { run_range(rt, alloc, right, at, high, keeps, gate) },
+            ensures answers { IfOk result (λ r. All (AnswersAre answers) r.1.items) }
+        { run_range(rt, alloc, right, at, high, answers, gate) },
     );
     let (left, done) = left?;
     let (right, more) = right?;
@@ -74,15 +75,15 @@ fn run_one<P: Passes + Drop, G: Gate>(
     passes: P,
     worker: u32,
     commands: &Vec<Command>,
-    keeps: bool,
+    answers: Answers,
     gate: &G,
 ) -> Result<(P, Vec<Worked>), AllocError>
     requires { CanRun (P.fronts passes) worker (commands.now ∷ []) }
     ensures ran { IfOk result (λ r. Ran worker (P.fronts passes) (P.fronts r.0) (commands.now ∷ []) r.1.items) }
-    ensures keeps { IfOk result (λ r. All (IsKept keeps) r.1.items) }
+    ensures answers { IfOk result (λ r. All (AnswersAre answers) r.1.items) }
 {
     let mut passes = passes;
-    let worked = work(alloc, commands, worker, keeps, &mut passes, gate)?;
+    let worked = work(alloc, commands, worker, answers, &mut passes, gate)?;
     let mut all = Vec::new(alloc);
     all.push(worked)?;
     Ok((passes, all))

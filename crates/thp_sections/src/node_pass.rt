@@ -3,18 +3,17 @@ ghost use Rattle.std.specs.Prelude.{◌≡◌, ◌<◌, ◌≤◌, ℕ, length, 
 ghost use Rattle.thp_model.specs.Legal.{IsLegal};
 ghost use Rattle.thp_cell.specs.Calls.{IsJoined, PartsStay};
 ghost use Rattle.thp_cell.specs.Views.{HasCaller};
-ghost use Rattle.thp_sections.specs.Does.{answer_of, IsPlain, IsStep};
+ghost use Rattle.thp_sections.specs.Does.{answer_of, IsStep};
 ghost use Rattle.thp_sections.specs.Sections.{is_open};
 ghost use Rattle.thp_sections.specs.Holdings.{batch_of, lower_part, loss_reply, unit_reply, upper_part, HeldDone, IsSomeBatch, OpenStay};
 
 use crate::reply::Reply;
-use crate::steps::Step;
+use crate::steps::{NodeCall, Step};
 use std::alloc::{AllocError, Global};
 use std::marker::Model;
 use thp_cell::{CellFault, NodeCell, Pass};
-use thp_model::{PageId, Refusal};
+use thp_model::{PageCall, PageId, Refusal};
 use thp_node::{Batch, Done};
-use thp_text::Op;
 
 /// A pass of one node, and for each of its callers at most one open batch.
 #[derive(Drop)]
@@ -88,7 +87,7 @@ impl<'a> NodePass<'a> {
         ensures { HeldDone caller step self.old self.new (answer_of result reply.new) }
     {
         match step {
-            Step::One(op) => self.one(caller, op, reply),
+            Step::One(call) => self.call(caller, call, reply),
             Step::Take(count) => self.take(caller, count, reply),
             Step::SplitNext => self.split_next(caller, reply),
             Step::PutBack => self.put_back(caller, reply),
@@ -157,138 +156,42 @@ impl<'a> NodePass<'a> {
         })
     }
 
-    fn one(&mut self, caller: u32, op: Op, reply: &mut Reply) -> Result<(), CellFault>
+    fn call(&mut self, caller: u32, call: NodeCall, reply: &mut Reply) -> Result<(), CellFault>
         requires caller { HasCaller self.old.pass caller }
-        requires plain { IsPlain op }
-        ensures { HeldDone caller (Step.One op) self.old self.new (answer_of result reply.new) }
+        ensures { HeldDone caller (Step.One call) self.old self.new (answer_of result reply.new) }
     {
-        match op {
-            Op::Alloc => match self.cell.alloc_page(&mut self.pass, caller) {
+        match call {
+            NodeCall::Alloc => match self.cell.alloc_page(&mut self.pass, caller) {
                 Ok(page) => {
                     *reply = Reply::Page(page);
                     Ok(())
                 }
                 Err(fault) => Err(fault),
             },
-            Op::MapWhole { page } => {
-                unit(
-                    self.cell.map_whole(&mut self.pass, caller, PageId(page)),
-                    reply,
-                )
-            }
-            Op::UnmapWhole { page } => {
-                loss(
-                    self.cell.unmap_whole(&mut self.pass, caller, PageId(page)),
-                    reply,
-                )
-            }
-            Op::Map { first, count, page } => self.map(caller, page, first, count, reply),
-            Op::Unmap { first, count, page } => self.unmap(caller, page, first, count, reply),
-            Op::Write { first, count, page } => self.write(caller, page, first, count, reply),
-            Op::Zero { first, count, page } => self.zero(caller, page, first, count, reply),
-            Op::SplitPmd { page } => {
-                unit(
-                    self.cell.split_pmd(&mut self.pass, caller, PageId(page)),
-                    reply,
-                )
-            }
-            Op::Pin { page } => unit(self.cell.pin(&mut self.pass, caller, PageId(page)), reply),
-            Op::Unpin { page } => loss(
-                self.cell.unpin(&mut self.pass, caller, PageId(page)),
-                reply,
-            ),
-            Op::Close => unit(self.cell.close(&mut self.pass, caller), reply),
-            Op::Count => {
+            NodeCall::Page { page, call } => self.page_call(caller, page, call, reply),
+            NodeCall::Close => unit(self.cell.close(&mut self.pass, caller), reply),
+            NodeCall::Count => {
                 *reply = Reply::Count(self.cell.count(&mut self.pass));
-                Ok(())
-            }
-            Op::Scan { .. } | Op::Take { .. } | Op::SplitNext | Op::PutBack => {
-                *reply = Reply::NoBatch;
                 Ok(())
             }
         }
     }
 
-    fn map(
+    fn page_call(
         &mut self,
         caller: u32,
         page: u64,
-        first: u16,
-        count: u16,
+        call: PageCall,
         reply: &mut Reply,
     ) -> Result<(), CellFault>
         requires caller { HasCaller self.old.pass caller }
-        ensures { HeldDone caller (Step.One (Op.Map first count page)) self.old self.new (answer_of result reply.new) }
+        ensures { HeldDone caller (Step.One (NodeCall.Page page call)) self.old self.new (answer_of result reply.new) }
     {
         let page = PageId(page);
-        let first = u32::from(first);
-        let count = u32::from(count);
-        unit(
-            self.cell
-                .map_sub(&mut self.pass, caller, page, first, count),
-            reply,
-        )
-    }
-
-    fn unmap(
-        &mut self,
-        caller: u32,
-        page: u64,
-        first: u16,
-        count: u16,
-        reply: &mut Reply,
-    ) -> Result<(), CellFault>
-        requires caller { HasCaller self.old.pass caller }
-        ensures { HeldDone caller (Step.One (Op.Unmap first count page)) self.old self.new (answer_of result reply.new) }
-    {
-        let page = PageId(page);
-        let first = u32::from(first);
-        let count = u32::from(count);
-        loss(
-            self.cell
-                .unmap_sub(&mut self.pass, caller, page, first, count),
-            reply,
-        )
-    }
-
-    fn write(
-        &mut self,
-        caller: u32,
-        page: u64,
-        first: u16,
-        count: u16,
-        reply: &mut Reply,
-    ) -> Result<(), CellFault>
-        requires caller { HasCaller self.old.pass caller }
-        ensures { HeldDone caller (Step.One (Op.Write first count page)) self.old self.new (answer_of result reply.new) }
-    {
-        let page = PageId(page);
-        let first = u32::from(first);
-        let count = u32::from(count);
-        unit(
-            self.cell.write(&mut self.pass, caller, page, first, count),
-            reply,
-        )
-    }
-
-    fn zero(
-        &mut self,
-        caller: u32,
-        page: u64,
-        first: u16,
-        count: u16,
-        reply: &mut Reply,
-    ) -> Result<(), CellFault>
-        requires caller { HasCaller self.old.pass caller }
-        ensures { HeldDone caller (Step.One (Op.Zero first count page)) self.old self.new (answer_of result reply.new) }
-    {
-        let page = PageId(page);
-        let first = u32::from(first);
-        let count = u32::from(count);
-        unit(
-            self.cell.zero(&mut self.pass, caller, page, first, count),
-            reply,
-        )
+        match call {
+            PageCall::Gain(gain) => unit(self.cell.gain(&mut self.pass, caller, page, gain), reply),
+            PageCall::Loss(kind) => loss(self.cell.lose(&mut self.pass, caller, page, kind), reply),
+        }
     }
 
     fn take(&mut self, caller: u32, count: u32, reply: &mut Reply) -> Result<(), CellFault>

@@ -1,9 +1,10 @@
 //! How far the steps of a command are.
 ghost use Rattle.std.specs.Prelude.{◌≡◌, ◌+◌, ◌≤◌, Ok, MatchOption};
+ghost use Rattle.thp_model.specs.Limits.{max_batch};
 ghost use Rattle.thp_sections.specs.Turns.{On, Ended, first_begun, is_scan, next_step, scan_goes_on, tries_of};
 
 use crate::reply::Reply;
-use crate::steps::Step;
+use crate::steps::{NodeCall, Step};
 use thp_node::{BackReply, ScanReply, Tried};
 use thp_text::Op;
 
@@ -32,11 +33,18 @@ pub(crate) fn first_begun() -> Begun
 }
 
 /// The next step of a command.
+#[inline(always)]
 pub(crate) fn next_step(op: Op, begun: Begun) -> Step
-    requires { tries_of begun.so_far ≤ 128 }
+    requires { tries_of begun.so_far ≤ max_batch }
     ensures { result ≡ next_step op begun }
 {
+    if let Some((page, call)) = op.page_call() {
+        return Step::One(NodeCall::Page { page, call });
+    }
     match op {
+        Op::Alloc => Step::One(NodeCall::Alloc),
+        Op::Close => Step::One(NodeCall::Close),
+        Op::Count => Step::One(NodeCall::Count),
         Op::Scan { count } => {
             if begun.steps == 0 {
                 Step::Take(u32::from(count))
@@ -48,14 +56,13 @@ pub(crate) fn next_step(op: Op, begun: Begun) -> Step
         }
         Op::Take { count } => Step::Take(u32::from(count)),
         Op::SplitNext => Step::SplitNext,
-        Op::PutBack => Step::PutBack,
-        one => Step::One(one),
+        _ => Step::PutBack,
     }
 }
 
 /// How many pages a scan has tried.
 fn tries(so_far: &ScanReply) -> u32
-    requires { tries_of so_far.now ≤ 128 }
+    requires { tries_of so_far.now ≤ max_batch }
     ensures { result ≡ tries_of so_far.now }
 {
     so_far.split + so_far.pinned + so_far.used
@@ -70,8 +77,8 @@ pub(crate) fn is_scan(op: Op) -> bool
 
 /// Counts what a step of a scan was replied. Answers the scan where that was its last step.
 pub(crate) fn count_reply(begun: &mut Begun, reply: &Reply) -> Option<Reply>
-    requires few { tries_of begun.old.so_far ≤ 128 }
-    requires short { begun.old.steps ≤ 130 }
+    requires few { tries_of begun.old.so_far ≤ max_batch }
+    requires short { begun.old.steps ≤ max_batch + 2 }
     ensures { MatchOption result (scan_goes_on begun.old (Ok reply.now) ≡ On begun.new) (λ answer. scan_goes_on begun.old (Ok reply.now) ≡ Ended (Ok answer)) }
 {
     match *reply {

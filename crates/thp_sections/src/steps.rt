@@ -6,17 +6,30 @@ ghost use Rattle.thp_sections.specs.Fronts.{Fronts, Goes, HasCaller, StepDone};
 ghost use Rattle.thp_sections.specs.Sections.{is_open};
 ghost use Rattle.thp_sections.specs.Turns.{by_cell};
 
+use crate::limits::MAX_TRIES;
 use crate::reply::Reply;
 use std::hint::spin_loop;
 use thp_cell::CellFault;
-use thp_model::Refusal;
-use thp_text::Op;
+use thp_model::{PageCall, Refusal};
 
-/// One call of a node: one of a command that is one call, or of the three of a batch.
+/// A call of a node that needs no batch.
+#[derive(Clone, Copy, Debug, PartialEq, Eq)]
+pub enum NodeCall {
+    /// Allocates a page.
+    Alloc,
+    /// A call about one page.
+    Page { page: u64, call: PageCall },
+    /// Closes the node.
+    Close,
+    /// Asks how many pages stand in the queue.
+    Count,
+}
+
+/// One call of a node: one that needs no batch, or one of the three about a batch.
 #[derive(Clone, Copy, Debug, PartialEq, Eq)]
 pub enum Step {
-    /// The one step of such a command.
-    One(Op),
+    /// A call that needs no batch.
+    One(NodeCall),
     /// A take of up to so many pages.
     Take(u32),
     /// A try of the next page of the open batch.
@@ -55,7 +68,7 @@ pub trait Steps {
         ensures done { StepDone caller node step (fronts self.old) (fronts self.new) (answer_of result reply.new) };
 }
 
-/// A step, tried again where the node is busy, 64 times in all, with a pause between two tries.
+/// A step, tried again where the node is busy, `MAX_TRIES` times in all, with a pause between two tries.
 pub(crate) fn try_step<S: Steps>(
     steps: &mut S,
     caller: u32,
@@ -69,7 +82,7 @@ pub(crate) fn try_step<S: Steps>(
     ensures goes { Goes caller (S.fronts steps.old) (S.fronts steps.new) }
     ensures done { StepDone caller node step (S.fronts steps.old) (S.fronts steps.new) (answer_of result reply.new) }
 {
-    for tries in 0..63u32 {
+    for tries in 0..MAX_TRIES - 1 {
         let called = steps.step(caller, node, step, reply);
         if !is_busy(called) {
             return called;

@@ -2,8 +2,9 @@
 ghost use Rattle.std.specs.Prelude.{All, IfOk};
 ghost use Rattle.thp_sections.specs.Halves.{CanRun, Ran};
 ghost use Rattle.thp_sections.specs.Passes.{fronts_in};
-ghost use Rattle.thp_sections.specs.Sections.{IsKept};
+ghost use Rattle.thp_sections.specs.Sections.{AnswersAre};
 
+use crate::answer_log::Answers;
 use crate::gate::Gate;
 use crate::halves::run_range;
 use crate::node_passes::NodePasses;
@@ -12,20 +13,20 @@ use std::alloc::{AllocError, Global};
 use std::thread::Threads;
 use thp_text::Command;
 
-/// Does the sections of the workers from `first` on, each on a thread of its own, on nodes that they share. Their
-/// answers are kept or aren't.
+/// Does the sections of the workers from `first` on, each on a thread of its own, on nodes that they share. `answers` says
+/// what becomes of theirs.
 pub fn run_workers<'a, R: Threads + Sync, G: Gate + Sync>(
     rt: &R,
     alloc: Global,
     passes: NodePasses<'a>,
     first: u32,
     workers: &[Vec<Command>],
-    keeps: bool,
+    answers: Answers,
     gate: &G,
 ) -> Result<(NodePasses<'a>, Vec<Worked>), AllocError>
     requires { CanRun (fronts_in passes) first workers.now }
     ensures ran { IfOk result (λ r. Ran first (fronts_in passes.entry) (fronts_in r.0) workers.now r.1.items) }
-    ensures keeps { IfOk result (λ r. All (IsKept keeps) r.1.items) }
+    ensures answers { IfOk result (λ r. All (AnswersAre answers) r.1.items) }
 {
-    run_range(rt, alloc, passes, first, workers, keeps, gate)
+    run_range(rt, alloc, passes, first, workers, answers, gate)
 }

@@ -3,9 +3,9 @@ ghost use Rattle.std.specs.Prelude.{◌≡◌, ◌^◌, ◌≤◌, ◌<◌, All,
 ghost use Rattle.thp_sections.specs.Does.{answer_of};
 ghost use Rattle.thp_sections.specs.Fronts.{Fronts, Goes, HasAll, HasCaller};
 ghost use Rattle.thp_sections.specs.Turns.{Comes, first_begun, IsShared};
-ghost use Rattle.thp_sections.specs.Sections.{Begins, Ends, IsCommandFor, IsDoneFor, IsKept, PutsBack, Works};
+ghost use Rattle.thp_sections.specs.Sections.{Begins, Ends, IsCommandFor, IsDoneFor, AnswersAre, PutsBack, Works};
 
-use crate::answer_log::AnswerLog;
+use crate::answer_log::{AnswerLog, Answers};
 use crate::command::do_command;
 use crate::gate::{Gate, NoGate};
 use crate::reply::{Reply, Rest, Worked};
@@ -18,12 +18,12 @@ use thp_text::{Command, Op};
 /// Does the commands of a section, in order, as steps of one caller, and puts back the batches that it left open.
 ///
 /// It stops at the first step that stays busy, and tells where. Without memory it stops too: the log of answers has room for
-/// all before the first command, so a step that was done never lacks room for its answer. The log keeps them or doesn't.
+/// all before the first command, so a step that was done never lacks room for its answer.
 pub fn work<S: Steps, G: Gate>(
     alloc: Global,
     commands: &[Command],
     worker: u32,
-    keeps: bool,
+    answers: Answers,
     steps: &mut S,
     gate: &G,
 ) -> Result<Worked, AllocError>
@@ -32,11 +32,11 @@ pub fn work<S: Steps, G: Gate>(
     requires commands { All (IsCommandFor (S.fronts steps.old).nodes) commands.now }
     ensures goes { Goes worker (S.fronts steps.old) (S.fronts steps.new) }
     ensures works { IfOk result (Works worker (S.fronts steps.old) (S.fronts steps.new) commands.now) }
-    ensures keeps { IfOk result (IsKept keeps) }
+    ensures answers { IfOk result (AnswersAre answers) }
     ensures done { HasAll (S.fronts steps.old) → IfOk result IsDoneFor }
 {
-    let answers = AnswerLog::new(alloc, commands.len(), keeps)?;
-    go_on(commands, worker, answers, first_begun(), steps, gate)
+    let log = AnswerLog::new(alloc, commands.len(), answers)?;
+    go_on(commands, worker, log, first_begun(), steps, gate)
 }
 
 /// Does what is left of a section that stopped, by the passes of all callers, which are never busy: the rest of the command
@@ -53,7 +53,7 @@ pub fn work_rest<S: Steps>(
     requires worked { (old : Fronts) × Works worker old (S.fronts steps.old) commands.now worked }
     ensures goes { Goes worker (S.fronts steps.old) (S.fronts steps.new) }
     ensures works { (old : Fronts) → Works worker old (S.fronts steps.old) commands.now worked → IfOk result (Works worker old (S.fronts steps.new) commands.now) }
-    ensures keeps { IfOk result (IsKept worked.answers.keeps) }
+    ensures answers { IfOk result (AnswersAre worked.answers.are) }
     ensures done { HasAll (S.fronts steps.old) → IfOk result IsDoneFor }
 {
     let Worked { answers, rest } = worked;
@@ -89,7 +89,7 @@ fn go_on<S: Steps, G: Gate>(
     requires begun { (old : Fronts) × Begins worker old (S.fronts steps.old) commands.now answers.items begun }
     ensures goes { Goes worker (S.fronts steps.old) (S.fronts steps.new) }
     ensures works { (old : Fronts) → Begins worker old (S.fronts steps.old) commands.now answers.items begun → IfOk result (Works worker old (S.fronts steps.new) commands.now) }
-    ensures keeps { IfOk result (IsKept answers.keeps) }
+    ensures answers { IfOk result (AnswersAre answers.are) }
     ensures done { HasAll (S.fronts steps.old) → IfOk result IsDoneFor }
 {
     let mut answers = answers;
@@ -136,7 +136,7 @@ fn close<S: Steps>(
     requires ends { (old : Fronts) × Ends worker old (S.fronts steps.old) commands.now answers.items closed }
     ensures goes { Goes worker (S.fronts steps.old) (S.fronts steps.new) }
     ensures works { (old : Fronts) → Ends worker old (S.fronts steps.old) commands.now answers.items closed → IfOk result (Works worker old (S.fronts steps.new) commands.now) }
-    ensures keeps { IfOk result (IsKept answers.keeps) }
+    ensures answers { IfOk result (AnswersAre answers.are) }
     ensures done { HasAll (S.fronts steps.old) → IfOk result IsDoneFor }
 {
     let mut closed = closed;

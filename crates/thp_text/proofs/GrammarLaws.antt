@@ -4,6 +4,7 @@ use Rattle.std.proofs.Common.{◌≡◌, ◌<◌, ◌≤◌, ◌-◌, ℕ, zero,
 use Rattle.std.specs.Prelude.{All}
 use Rattle.std.specs.List.{AllByRecursion, list_all, list_any}
 use Rattle.std.proofs.lemmas.List.Elements.{All-cons}
+use Rattle.thp_model.specs.Limits.{max_batch}
 use Rattle.thp_text.specs.declared.fault.TextKind.{TextKind}
 use Rattle.thp_text.specs.declared.fault.TextKind.TheVariants.{BadByte, BadOrder, BadWord}
 use Rattle.thp_text.specs.declared.script.Command.{Command}
@@ -50,15 +51,15 @@ module _ (s : Settings) where
       record { name_plain = plain; words_plain = one_plain a there.0; in_range = command_in_range node.0 op command there.1 fits node.2 }
   node_read op name (a ∷ b ∷ words) command plain fits e = absurd cc
 
-  batch_read : (op : ℕ → Op) (name : Text) (words : List Text) (command : Command) → IsPlain name → ((n : ℕ) → n ≤ 128 → FitsBatch (op n)) → batch_command op s words ≡ Ok command → IsReadCommand s name words command
+  batch_read : (op : ℕ → Op) (name : Text) (words : List Text) (command : Command) → IsPlain name → ((n : ℕ) → n ≤ max_batch → FitsBatch (op n)) → batch_command op s words ≡ Ok command → IsReadCommand s name words command
   unfolding batch_command
   batch_read op name [] command plain fits e = absurd cc
   batch_read op name (a ∷ []) command plain fits e = absurd cc
   batch_read op name (a ∷ b ∷ []) command plain fits e =
       let node = bind_ok (node_number s a) _ command e in
       let there = node_exists node.0 a node.1 in
-      let count = bind_ok (number_up_to 128 b) _ command node.2 in
-      let within = number_read 128 count.0 b count.1 in
+      let count = bind_ok (number_up_to max_batch b) _ command node.2 in
+      let within = number_read max_batch count.0 b count.1 in
       record {
         name_plain = plain;
         words_plain = All-cons IsPlain a (b ∷ []) there.0 (one_plain b within.0);
@@ -66,7 +67,7 @@ module _ (s : Settings) where
       }
   batch_read op name (a ∷ b ∷ d ∷ words) command plain fits e = absurd cc
 
-  page_read : (op : ℕ → Op) (name : Text) (words : List Text) (command : Command) → IsPlain name → ((n : ℕ) → FitsBatch (op n)) → page_command op s words ≡ Ok command → IsReadCommand s name words command
+  page_read : (op : ℕ → Op) (name : Text) (words : List Text) (command : Command) → IsPlain name → ((page : ℕ) → FitsBatch (op page)) → page_command op s words ≡ Ok command → IsReadCommand s name words command
   unfolding page_command
   page_read op name [] command plain fits e = absurd cc
   page_read op name (a ∷ []) command plain fits e = absurd cc
@@ -82,7 +83,7 @@ module _ (s : Settings) where
       }
   page_read op name (a ∷ b ∷ d ∷ words) command plain fits e = absurd cc
 
-  range_read : (op : ℕ → ℕ → ℕ → Op) (name : Text) (words : List Text) (command : Command) → IsPlain name → ((p f n : ℕ) → FitsBatch (op p f n)) → range_command op s words ≡ Ok command → IsReadCommand s name words command
+  range_read : (op : ℕ → ℕ → ℕ → Op) (name : Text) (words : List Text) (command : Command) → IsPlain name → ((page first count : ℕ) → FitsBatch (op page first count)) → range_command op s words ≡ Ok command → IsReadCommand s name words command
   unfolding range_command
   range_read op name [] command plain fits e = absurd cc
   range_read op name (a ∷ []) command plain fits e = absurd cc
@@ -120,36 +121,36 @@ module _ (s : Settings) (word : Text) (plain : IsPlain word) where
   of_node : (op : Op) → FitsBatch op → IsEntry s (word, node_command op)
   of_node op fits = record { plain = plain; reads = λ words command e. node_read s op word words command plain fits e }
 
-  of_page : (op : ℕ → Op) → ((p : ℕ) → FitsBatch (op p)) → IsEntry s (word, page_command op)
+  of_page : (op : ℕ → Op) → ((page : ℕ) → FitsBatch (op page)) → IsEntry s (word, page_command op)
   of_page op fits = record { plain = plain; reads = λ words command e. page_read s op word words command plain fits e }
 
-  of_range : (op : ℕ → ℕ → ℕ → Op) → ((p f n : ℕ) → FitsBatch (op p f n)) → IsEntry s (word, range_command op)
+  of_range : (op : ℕ → ℕ → ℕ → Op) → ((page first count : ℕ) → FitsBatch (op page first count)) → IsEntry s (word, range_command op)
   of_range op fits = record { plain = plain; reads = λ words command e. range_read s op word words command plain fits e }
 
-  of_batch : (op : ℕ → Op) → ((n : ℕ) → n ≤ 128 → FitsBatch (op n)) → IsEntry s (word, batch_command op)
+  of_batch : (op : ℕ → Op) → ((n : ℕ) → n ≤ max_batch → FitsBatch (op n)) → IsEntry s (word, batch_command op)
   of_batch op fits = record { plain = plain; reads = λ words command e. batch_read s op word words command plain fits e }
 
 entries : (s : Settings) → AllByRecursion (IsEntry s) commands
 entries s = (
   of_node s (codes "alloc") (record { printable = refl; some = refl }) Alloc tt,
   (
-    of_page s (codes "mapwhole") (record { printable = refl; some = refl }) MapWhole (λ p. tt),
+    of_page s (codes "mapwhole") (record { printable = refl; some = refl }) (λ page. MapWhole page) (λ page. tt),
     (
-      of_page s (codes "unmapwhole") (record { printable = refl; some = refl }) UnmapWhole (λ p. tt),
+      of_page s (codes "unmapwhole") (record { printable = refl; some = refl }) (λ page. UnmapWhole page) (λ page. tt),
       (
-        of_range s (codes "map") (record { printable = refl; some = refl }) (λ page first count. Map first count page) (λ p f n. tt),
+        of_range s (codes "map") (record { printable = refl; some = refl }) (λ page first count. Map first count page) (λ page first count. tt),
         (
-          of_range s (codes "unmap") (record { printable = refl; some = refl }) (λ page first count. Unmap first count page) (λ p f n. tt),
+          of_range s (codes "unmap") (record { printable = refl; some = refl }) (λ page first count. Unmap first count page) (λ page first count. tt),
           (
-            of_page s (codes "splitpmd") (record { printable = refl; some = refl }) SplitPmd (λ p. tt),
+            of_page s (codes "splitpmd") (record { printable = refl; some = refl }) (λ page. SplitPmd page) (λ page. tt),
             (
-              of_page s (codes "pin") (record { printable = refl; some = refl }) Pin (λ p. tt),
+              of_page s (codes "pin") (record { printable = refl; some = refl }) (λ page. Pin page) (λ page. tt),
               (
-                of_page s (codes "unpin") (record { printable = refl; some = refl }) Unpin (λ p. tt),
+                of_page s (codes "unpin") (record { printable = refl; some = refl }) (λ page. Unpin page) (λ page. tt),
                 (
-                  of_range s (codes "write") (record { printable = refl; some = refl }) (λ page first count. Write first count page) (λ p f n. tt),
+                  of_range s (codes "write") (record { printable = refl; some = refl }) (λ page first count. Write first count page) (λ page first count. tt),
                   (
-                    of_range s (codes "zero") (record { printable = refl; some = refl }) (λ page first count. Zero first count page) (λ p f n. tt),
+                    of_range s (codes "zero") (record { printable = refl; some = refl }) (λ page first count. Zero first count page) (λ page first count. tt),
                     (
                       of_node s (codes "close") (record { printable = refl; some = refl }) Close tt,
                       (

@@ -12,6 +12,7 @@ use Rattle.std.proofs.lemmas.List.Elements.{All-cons, All-head, All-nil, All-tai
 use Rattle.std.proofs.lemmas.List.Splits.{join_with_byte-slice_split, slice_split_at, slice_split_none}
 use Rattle.std.proofs.lemmas.Slice.Eq.{bytes_eq-Decides}
 use Rattle.arrayvec.specs.ArrayVec.{ArrayVec}
+use Rattle.thp_text.specs.Limits.{max_nodes}
 use Rattle.thp_text.specs.NumberLists.{all_read, in_front, items_of, list_in, order_of, threshold_of, threshold_text, IsListText, IsWritable}
 use Rattle.thp_text.specs.Words.{Text, number_of}
 use Rattle.thp_text.proofs.NumberLaws.{decimal_of_number, digits, number_of-decimal}
@@ -37,16 +38,16 @@ module _ {A : Type 0} (read : Text → Option A) (text : Text) where
   unfolding list_in
   list_fails e = rw e (both (length (items_of text)))
     where
-      both : (n : ℕ) → cond {A = Option (List A)} (leb n 8) None None ≡ None
-      both n = elim (leb n 8) as (λ b. cond {A = Option (List A)} b None None ≡ None) [ true ↦ refl | false ↦ refl ]
+      both : (n : ℕ) → cond {A = Option (List A)} (leb n max_nodes) None None ≡ None
+      both n = elim (leb n max_nodes) as (λ b. cond {A = Option (List A)} b None None ≡ None) [ true ↦ refl | false ↦ refl ]
 
-  pub list_too_long : 8 < length (items_of text) → list_in read text ≡ None
+  pub list_too_long : max_nodes < length (items_of text) → list_in read text ≡ None
   unfolding list_in
-  list_too_long lt = rw (lt-leb (length (items_of text)) 8 lt) refl
+  list_too_long lt = rw (lt-leb (length (items_of text)) max_nodes lt) refl
 
-  pub list_is : (xs : List A) → length (items_of text) ≤ 8 → all_read read (items_of text) ≡ Some xs → list_in read text ≡ Some xs
+  pub list_is : (xs : List A) → length (items_of text) ≤ max_nodes → all_read read (items_of text) ≡ Some xs → list_in read text ≡ Some xs
   unfolding list_in
-  list_is xs le e = rw (le-leb (length (items_of text)) 8 le) e
+  list_is xs le e = rw (le-leb (length (items_of text)) max_nodes le) e
 
 -- ---- written
 
@@ -70,14 +71,14 @@ module _ {A : Type 0} (read : Text → Option A) (write : A → Text) (writes : 
   -- a list that is read is the text of what it is read as
   pub list_written : (text : Text) (xs : List A) → list_in read text ≡ Some xs → IsListText (map write xs) text
   unfolding list_in
-  list_written text xs e = go (leb (length (items_of text)) 8) refl (has_first 44 text) e
+  list_written text xs e = go (leb (length (items_of text)) max_nodes) refl (has_first 44 text) e
     where
-      go : (b : Bool) → leb (length (items_of text)) 8 ≡ b → HasFirst (items_of text) → cond b (all_read read (items_of text)) None ≡ Some xs → IsListText (map write xs) text
+      go : (b : Bool) → leb (length (items_of text)) max_nodes ≡ b → HasFirst (items_of text) → cond b (all_read read (items_of text)) None ≡ Some xs → IsListText (map write xs) text
       go true few first e =
           let is : items_of text ≡ map write xs = all_written (items_of text) xs e in
           record {
             some = rw (← is, first.2) (omega arith);
-            few = rw (← is) (leb-true (length (items_of text)) 8 few);
+            few = rw (← is) (leb-true (length (items_of text)) max_nodes few);
             joined = rw (← is) (sym (join_with_byte-slice_split 44 text));
           }
       go false few first e = absurd cc

@@ -7,10 +7,11 @@ use Rattle.std.specs.List.{list_all}
 use Rattle.std.specs.Char.{digit_value, is_ascii_digit}
 use Rattle.std.specs.Str.Parse.{digits_value, digits_value_after}
 use Rattle.std.proofs.lemmas.Str.Parse.{IsNumeralModel, numerals_by_value}
-use Rattle.std.proofs.lemmas.Bool.{ltb-true, lt-ltb, le-leb, lt-leb, leb-true, eqb-true, eqb-false, eq-eqb, ne_eqb, and_parts, and_from, and_right, or_cases, or_left, or_right, not-true, not_from_false, cases_lt}
+use Rattle.std.proofs.lemmas.Bool.{false_from_ne_true, true_from_ne_false, ltb-true, lt-ltb, le-leb, lt-leb, leb-true, eqb-true, eqb-false, eq-eqb, ne_eqb, and_parts, and_from, and_right, or_cases, or_left, or_right, not-true, not_from_false, cases_lt}
+use Rattle.std.proofs.lemmas.List.Folds.{list_all_at}
 use Rattle.std.proofs.lemmas.Option.{cond_some}
 use Rattle.std.proofs.lemmas.Fmt.{digits_decimal, digits_value-decimal, decimal_nonempty, first_decimal, decimal_digit, decimal-digits_value}
-use Rattle.thp_text.specs.Words.{Text, is_numeral, number_of}
+use Rattle.thp_text.specs.Words.{Text, has_numeral_front, is_numeral, number_of}
 
 -- digits have a value, as std reads and writes them
 pub digits : IsNumeralModel (λ ds. list_all is_ascii_digit ds ≡ true) (digits_value 10)
@@ -28,6 +29,17 @@ pub none_above : (most : ℕ) (word : Text) → most < digits_value 10 word → 
 unfolding number_of
 none_above most word lt = rw (and_right (is_numeral word) (leb (digits_value 10 word) most) (lt-leb (digits_value 10 word) most lt)) refl
 
+-- a word isn't read where its front is no numeral's
+pub none_of_no_front : (most : ℕ) (word : Text) → has_numeral_front word ≡ false → number_of most word ≡ None
+none_of_no_front most word fails = none_of_no_numeral most word (and_right (list_all is_ascii_digit word) (has_numeral_front word) fails)
+
+-- nor where it isn't digits of a number that fits
+pub none_of_no_value : (most : ℕ) (word : Text) → most < 2 ^ 64 → ((list_all is_ascii_digit word ≡ true) × (digits_value 10 word < 2 ^ 64) → ⊥) → number_of most word ≡ None
+none_of_no_value most word fits no-value = elim (cases_lt (digits_value 10 word) (2 ^ 64)) [
+  | inl small ↦ none_of_no_numeral most word (rw (false_from_ne_true (list_all is_ascii_digit word) (λ all. no-value (all, small))) refl)
+  | inr large ↦ none_above most word (omega (arith, large, fits))
+]
+
 -- what the test `is_numeral` says of a word
 pub record IsNumeralWord (word : Text) : Type 0 where
   pub all_digits : list_all is_ascii_digit word ≡ true
@@ -37,11 +49,11 @@ pub record IsNumeralWord (word : Text) : Type 0 where
 pub numeral_parts : (word : Text) → is_numeral word ≡ true → IsNumeralWord word
 numeral_parts word numeral =
     let p = and_parts _ _ numeral in
-    let q = and_parts _ _ p.0 in
+    let q = and_parts _ _ p.1 in
     record {
-      all_digits = q.0;
-      nonempty = ltb-true 0 (length word) q.1;
-      no_leading_zero = λ zero-first. elim (or_cases _ _ p.1) [
+      all_digits = p.0;
+      nonempty = ltb-true 0 (length word) q.0;
+      no_leading_zero = λ zero-first. elim (or_cases _ _ q.1) [
         | inl other ↦ absurd (eqb-false (get_or word 0 0) 48 (not-true _ other) zero-first)
         | inr one ↦ eqb-true _ _ one
       ];
@@ -57,6 +69,13 @@ pub value_so_far : (word : Text) (i n d : ℕ) → i < length word → digits_va
 value_so_far word i n d lt whole =
     let split : digits_value_after 10 (n * 10 + digit_value (get_or word i d)) (drop (suc i) word) ≡ digits_value 10 word = rw (drop-cons word i d lt) at whole in
     omega (arith, value_grows (n * 10 + digit_value (get_or word i d)) (drop (suc i) word))
+
+-- a word isn't digits of a number that fits where one of its bytes is no digit, or the number up to it doesn't fit
+pub no_value : (word : Text) (i n d : ℕ) → i < length word → digits_value_after 10 n (drop i word) ≡ digits_value 10 word → ((is_ascii_digit (get_or word i d) ≡ true) × (n * 10 + digit_value (get_or word i d) < 2 ^ 64) → ⊥) → (list_all is_ascii_digit word ≡ true) × (digits_value 10 word < 2 ^ 64) → ⊥
+no_value word i n d lt whole none has =
+    let le = value_so_far word i n d lt whole in
+    let digit : is_ascii_digit (get_or word i d) ≡ true = true_from_ne_false _ (λ other. let bad : false ≡ true = sym (list_all_at is_ascii_digit word i d lt other) ∙ has.0 in absurd cc) in
+    none (digit, omega (arith, le, has.1))
 
 -- and without digits that are left it is the whole
 pub value_at_end : (word : Text) (i n : ℕ) → length word ≤ i → digits_value_after 10 n (drop i word) ≡ digits_value 10 word → n ≡ digits_value 10 word
@@ -74,7 +93,7 @@ number_of-decimal most n le lt =
       | inl positive ↦ or_left _ _ (not_from_false _ (ne_eqb _ _ (λ (e : get_or (decimal n) 0 0 ≡ 48). absurd (omega (arith, first_decimal n positive small)))))
       | inr small-n ↦ or_right _ _ (eq-eqb (length (decimal n)) 1 (rw (decimal_digit n (omega arith)) refl))
     ] in
-    some_of_numeral most (decimal n) n (and_from _ _ (and_from _ _ all-digits (lt-ltb _ _ some)) front) (sym value) le
+    some_of_numeral most (decimal n) n (and_from _ _ all-digits (and_from _ _ (lt-ltb _ _ some) front)) (sym value) le
 
 -- and what is read as a number is that number's decimal text
 pub decimal_of_number : (most n : ℕ) (word : Text) → most < 2 ^ 64 → number_of most word ≡ Some n → (n ≤ most) × (decimal n ≡ word)

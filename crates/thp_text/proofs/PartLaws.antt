@@ -17,6 +17,7 @@ use Rattle.thp_text.specs.Readings.{◌>>=◌}
 use Rattle.thp_text.specs.Scripts.{Fault, IsScriptFor, Placed, commands_from, placed, script_of, script_with}
 use Rattle.thp_text.specs.Statements.{IsInRange, section_after, statement_in}
 use Rattle.thp_text.specs.Words.{Text, lines_of}
+pub use Rattle.thp_model.proofs.Options.{not_there}
 use Rattle.thp_text.proofs.TextLaws.{whole_comes}
 use Rattle.thp_text.proofs.ScriptLaws.{behind, line_ends, line_fails, line_says}
 use Rattle.thp_text.proofs.SectionLaws.{sections_with, sections_with-none, sections_with-push, sections_with-push_beyond, sections_with-script}
@@ -113,8 +114,3 @@ script_in_range s (setup ∷ workers) count all = record {
   worker_commands = All-tail (λ (commands : List Command). All (IsCommandFor s.nodes) commands) setup workers all;
   sections = omega arith;
 }
-
--- what isn't there
-pub not_there : {A : Type 0} (o : Option A) → ((x : A) → o ≡ Some x → ⊥) → o ≡ None
-not_there None none = refl
-not_there (Some x) none = absurd (none x refl)

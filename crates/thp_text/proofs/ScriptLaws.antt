@@ -7,6 +7,7 @@ use Rattle.thp_text.specs.declared.fault.TextKind.TheVariants.{TooLong}
 use Rattle.thp_text.specs.declared.settings.Settings.{Settings}
 use Rattle.thp_text.specs.declared.statement.Statement.{Statement}
 use Rattle.thp_text.specs.declared.statement.Statement.TheVariants.{Nothing, Section, Call}
+use Rattle.thp_text.specs.Limits.{max_input}
 use Rattle.thp_text.specs.Readings.{◌>>=◌}
 use Rattle.thp_text.specs.Words.{Text, lines_of}
 use Rattle.thp_text.specs.Lines.{fault_behind}
@@ -36,9 +37,9 @@ pub line_ends : (s : Settings) (n : ℕ) (section : Option ℕ) (texts : List Te
 unfolding commands_from
 line_ends s n section texts line e = rw e refl
 
-pub too_long : (s : Settings) (text : Text) → 16777216 < length text → script_of s text ≡ Err (0, TooLong)
+pub too_long : (s : Settings) (text : Text) → max_input < length text → script_of s text ≡ Err (0, TooLong)
 unfolding script_of
-too_long s text lt = rw (lt-ltb 16777216 (length text) lt) refl
+too_long s text lt = rw (lt-ltb max_input (length text) lt) refl
 
 -- ---- what stays in range
 

@@ -3,6 +3,7 @@ use Rattle.std.proofs.Common.{◌≡◌, ◌+◌, ◌==◌, ℕ, Bool, true, fal
 use Rattle.std.specs.List.{onto_first}
 use Rattle.std.specs.Prelude.{nat_lt, if◌then◌else◌}
 use Rattle.thp_text.specs.declared.fault.TextKind.TheVariants.{TooLong}
+use Rattle.thp_text.specs.Limits.{max_input}
 use Rattle.thp_text.specs.Scripts.{Fault}
 use Rattle.thp_text.specs.TextInParts.{fault_with, first_fault, told_behind, unless, with_begun, with_fault, TextSoFar}
 use Rattle.thp_text.specs.Words.{Text, lines_of, pieces_at}
@@ -63,10 +64,10 @@ too_much true long read = refl
 too_much false long read = refl
 
 -- nothing has come: the text to come is the whole
-pub whole_comes : {A : Type 0} (text : Text) (read : Result A Fault) → told_behind (record { begun = []; line = 1; given = 0; fault = None }) text read ≡ (if nat_lt 16777216 (length text) then Err (0, TooLong) else read)
+pub whole_comes : {A : Type 0} (text : Text) (read : Result A Fault) → told_behind (record { begun = []; line = 1; given = 0; fault = None }) text read ≡ (if nat_lt max_input (length text) then Err (0, TooLong) else read)
 whole_comes text read =
     let all : 0 + length text ≡ length text = omega arith in
-    rw all (too_much (nat_lt 16777216 (length text)) (0, TooLong) read)
+    rw all (too_much (nat_lt max_input (length text)) (0, TooLong) read)
 
 -- what is left of a part has begun a line
 pub line_begins : {A : Type 0} (t new : TextSoFar) (rest more : Text) (reads : ℕ → Text → Result A Fault) → new ≡ with_begun t rest
@@ -80,7 +81,7 @@ either_way false long None fault read = refl
 
 -- a line is at fault, and nothing behind it is read
 pub fault_comes : {A : Type 0} (t new : TextSoFar) (fault : Fault) (more : Text) (read : Result A Fault) → new ≡ with_fault t fault → told_behind new more read ≡ told_behind t more (Err fault)
-fault_comes t new fault more read is = rw is (either_way (nat_lt 16777216 (t.given + length more)) (0, TooLong) t.fault fault read)
+fault_comes t new fault more read is = rw is (either_way (nat_lt max_input (t.given + length more)) (0, TooLong) t.fault fault read)
 
 -- where nothing is at fault so far, what is read counts
 pub told_end : {A : Type 0} (t : TextSoFar) (read : Result A Fault) → fault_with t [] ≡ None → told_behind t [] read ≡ read

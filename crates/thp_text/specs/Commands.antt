@@ -1,6 +1,7 @@
 -- The commands of scripts by their words (this project's script format).
 use Rattle.std.specs.Prelude.{◌≤◌, ◌<◌, ℕ, ◌-◌, ⊤, List, [], ◌∷◌, Result, Ok, Err, codes, ok_or, if◌then◌else◌}
 use Rattle.std.specs.Str.{bytes_eq}
+use Rattle.thp_model.specs.Limits.{max_batch}
 use Rattle.thp_text.specs.declared.fault.TextKind.{TextKind}
 use Rattle.thp_text.specs.declared.fault.TextKind.TheVariants.{BadWord, BadCount, BadNumber}
 use Rattle.thp_text.specs.declared.script.Command.{Command}
@@ -63,7 +64,7 @@ unfoldable pub batch_command : (ℕ → Op) → Settings → List Text → Resul
 batch_command op s words = do
   word ← two_words words
   node ← node_number s word.0
-  count ← number_up_to 128 word.1
+  count ← number_up_to max_batch word.1
   Ok (record { node = node; op = op count })
 
 -- how the operands read that stand behind a command's name
@@ -101,8 +102,8 @@ command_of s name words = command_in commands s name words
 
 -- a scan and a take are of as many pages as a batch holds
 abbrev pub FitsBatch : Op → Type 0
-FitsBatch (Scan count) = count ≤ 128
-FitsBatch (Take count) = count ≤ 128
+FitsBatch (Scan count) = count ≤ max_batch
+FitsBatch (Take count) = count ≤ max_batch
 FitsBatch _ = ⊤
 
 -- a command for a node that there is

@@ -3,6 +3,7 @@ use Rattle.std.specs.Prelude.{◌≡◌, ◌≤◌, ◌<◌, ◌^◌, ℕ, nat_l
 use Rattle.std.specs.Fmt.{decimal}
 use Rattle.std.specs.List.{join_with_byte}
 use Rattle.std.specs.Str.{bytes_eq}
+use Rattle.thp_text.specs.Limits.{max_nodes}
 use Rattle.thp_text.specs.Words.{Text, number_of, pieces_at}
 
 -- items stand between single commas (44)
@@ -20,9 +21,9 @@ abbrev pub all_read : {A : Type 0} → (Text → Option A) → List Text → Opt
 all_read read [] = Some []
 all_read read (item ∷ items) = in_front (read item) (all_read read items)
 
--- what a list of 1 to 8 items is read as
+-- what a list is read as, of one item at least and at most as many as there can be nodes
 unfoldable pub list_in : {A : Type 0} → (Text → Option A) → Text → Option (List A)
-list_in read text = if nat_le (length (items_of text)) 8 then all_read read (items_of text) else None
+list_in read text = if nat_le (length (items_of text)) max_nodes then all_read read (items_of text) else None
 
 -- an order as an item: a number
 abbrev pub order_of : Text → Option ℕ
@@ -50,8 +51,8 @@ abbrev pub IsWritable : Option ℕ → Type 0
 IsWritable None = Unit {0}
 IsWritable (Some n) = n < 2 ^ 32
 
--- the text is these 1 to 8 items, joined by commas
+-- the text is these items, joined by commas: one at least, and at most as many as there can be nodes
 pub record IsListText (items : List Text) (text : Text) : Type 0 where
   pub some : 0 < length items
-  pub few : length items ≤ 8
+  pub few : length items ≤ max_nodes
   pub joined : text ≡ join_with_byte 44 items

@@ -10,6 +10,7 @@ use Rattle.thp_text.specs.declared.script.Script.{Script}
 use Rattle.thp_text.specs.declared.settings.Settings.{Settings}
 use Rattle.thp_text.specs.declared.statement.Statement.{Statement}
 use Rattle.thp_text.specs.declared.statement.Statement.TheVariants.{Nothing, Section, Call}
+use Rattle.thp_text.specs.Limits.{max_input}
 use Rattle.thp_text.specs.Readings.{◌>>=◌}
 use Rattle.thp_text.specs.Words.{Text, lines_of}
 use Rattle.thp_text.specs.Commands.{IsCommandFor}
@@ -60,7 +61,7 @@ script_with workers ps = record { setup = commands_in 0 ps; workers = map (λ k.
 -- the script that a text spells, or its first fault
 unfoldable pub script_of : Settings → Text → Result Script Fault
 script_of s text =
-    if nat_lt 16777216 (length text) then Err (0, TooLong)
+    if nat_lt max_input (length text) then Err (0, TooLong)
     else (commands_from s 1 None (lines_of text) >>= λ ps. Ok (script_with s.workers ps))
 
 -- a fault of reading is the text's first, unless memory was refused

@@ -1,19 +1,21 @@
 -- The limits of a run (this project's profile).
 use Rattle.std.specs.Prelude.{◌≡◌, ◌≤◌, ◌<◌, ◌&&◌, ◌^◌, nat_le, nat_lt, ℕ, Bool, true, List, length, slice_index, slice_index_or, Option, Some, None}
 use Rattle.std.specs.List.{list_all}
+use Rattle.thp_model.specs.Limits.{max_blocks, max_order, min_order}
+use Rattle.thp_text.specs.Limits.{max_nodes, max_workers}
 
 -- one to 8 nodes of 1 to 4,096 blocks each, and 1 to 63 workers
 pub record IsWithinLimits (nodes blocks workers : ℕ) : Type 0 where
   pub least_nodes : 1 ≤ nodes
-  pub most_nodes : nodes ≤ 8
+  pub most_nodes : nodes ≤ max_nodes
   pub least_blocks : 1 ≤ blocks
-  pub most_blocks : blocks ≤ 4096
+  pub most_blocks : blocks ≤ max_blocks
   pub least_workers : 1 ≤ workers
-  pub most_workers : workers ≤ 63
+  pub most_workers : workers ≤ max_workers
 
 -- the order of a page: it has 4 to 512 subpages
 abbrev pub is_order : ℕ → Bool
-is_order order = nat_le 2 order && nat_le order 9
+is_order order = nat_le min_order order && nat_le order max_order
 
 -- a threshold, if there is one, is below the number of subpages of a page of this order
 abbrev pub is_low : ℕ → Option ℕ → Bool

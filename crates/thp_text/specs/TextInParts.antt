@@ -1,6 +1,7 @@
 -- Texts that come in parts.
 use Rattle.std.specs.Prelude.{◌≡◌, ◌≤◌, ◌+◌, ◌-◌, ◌^◌, nat_lt, min, ℕ, [], ◌∷◌, ◌++◌, length, Option, Some, None, Result, Err, if◌then◌else◌}
 use Rattle.thp_text.specs.declared.fault.TextKind.TheVariants.{TooLong}
+use Rattle.thp_text.specs.Limits.{max_input}
 use Rattle.thp_text.specs.Scripts.{Fault}
 use Rattle.thp_text.specs.Words.{Text, lines_of}
 
@@ -33,7 +34,7 @@ with_fault t fault = record { begun = t.begun; line = t.line; given = t.given; f
 
 -- the fault that is told, whatever further lines say, once this text has come too: too much has come, or a fault was found
 abbrev pub fault_with : TextSoFar → Text → Option Fault
-fault_with t more = if nat_lt 16777216 (t.given + length more) then Some (0, TooLong) else t.fault
+fault_with t more = if nat_lt max_input (t.given + length more) then Some (0, TooLong) else t.fault
 
 -- a fault that was found already comes first
 abbrev pub unless : {A : Type 0} → Option Fault → Result A Fault → Result A Fault
@@ -52,10 +53,10 @@ read_unless None part = part
 -- what is left of a part was counted: each further line ends with a byte of it
 pub record IsCounted (rest : Text) (t : TextSoFar) : Type 0 where
   pub lines : t.line + length rest ≤ t.given + 1
-  pub most : t.line + length rest ≤ 16777217
+  pub most : t.line + length rest ≤ max_input + 1
 
 -- what is true of a text in parts
 pub record HasCome (t : TextSoFar) : Type 0 where
   pub one_line : lines_of t.begun ≡ t.begun ∷ []
   pub lines : t.line ≤ t.given + 1
-  pub most : t.line ≤ 16777217
+  pub most : t.line ≤ max_input + 1

@@ -24,9 +24,13 @@ lines_of = pieces_at 10
 abbrev pub words_of : Text → List Text
 words_of = pieces_at 32
 
+-- something, and no zero before others
+abbrev pub has_numeral_front : Text → Bool
+has_numeral_front word = nat_lt 0 (length word) && (not (slice_index word 0 == 48) || (length word == 1))
+
 -- digits, and no zero before others
 abbrev pub is_numeral : Text → Bool
-is_numeral word = list_all is_ascii_digit word && nat_lt 0 (length word) && (not (slice_index word 0 == 48) || (length word == 1))
+is_numeral word = list_all is_ascii_digit word && has_numeral_front word
 
 -- the number that a word writes in decimal, where it is at most `most`
 unfoldable pub number_of : ℕ → Text → Option ℕ

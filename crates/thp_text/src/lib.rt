@@ -2,7 +2,7 @@
 #![tactic(auto)]
 
 mod fault;
-mod input;
+mod limits;
 mod lines;
 mod lists;
 mod operands;
@@ -15,12 +15,12 @@ mod text_in_parts;
 mod words;
 
 pub use fault::{ReadFault, TextKind};
-pub use input::MAX_INPUT;
+pub use limits::{MAX_INPUT, MAX_NODES, MAX_WORKERS, run_limits_are_defined};
 pub use lines::{fault_behind, fault_of_line, has_empty_word, is_printable};
 pub use lists::{read_orders, read_underused};
 pub use script::{Command, Op, Script};
 pub use script_reader::{ScriptReader, read_script};
 pub use sequence::Sequence;
-pub use settings::{MAX_NODES, Report, Settings};
+pub use settings::{Report, Settings};
 pub use text_in_parts::{TextInParts, WholeLine};
 pub use words::{Words, cut_at, number};

@@ -3,7 +3,7 @@ ghost use Rattle.std.specs.Prelude.{◌≡◌, ◌<◌, ◌^◌, ℕ, List, All,
 ghost use Rattle.std.specs.Fmt.{decimal};
 ghost use Rattle.thp_text.specs.NumberLists.{list_in, order_of, orders_in, threshold_of, threshold_text, thresholds_in, IsListText, IsWritable};
 
-use crate::settings::MAX_NODES;
+use crate::limits::MAX_NODES;
 use crate::words::{cut_at, number};
 use arrayvec::ArrayVec;
 

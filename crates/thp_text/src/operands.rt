@@ -1,37 +1,14 @@
 //! Commands from the words of a line.
 ghost use Rattle.std.specs.Prelude.{◌≡◌, ◌≤◌, ◌<◌, IfOk};
 ghost use Rattle.thp_text.specs.Commands.{batch_command, command_of, node_command, node_number, number_up_to, page_command, range_command};
-ghost use Rattle.thp_text.specs.Operands.{batch_op, page_op, range_op};
+ghost use Rattle.thp_text.specs.Operands.{batch_op, call_on};
+ghost use Rattle.thp_text.specs.PageCommands.{op_on};
 
 use crate::fault::TextKind;
 use crate::script::{Command, Op};
 use crate::settings::Settings;
 use crate::words::{Words, number};
-
-/// The calls on one page, behind whose name stand a node and the page.
-#[derive(Clone, Copy)]
-enum PageCall {
-    MapWhole,
-    UnmapWhole,
-    SplitPmd,
-    Pin,
-    Unpin,
-}
-
-impl PageCall {
-    #[inline(always)]
-    fn op(self, page: u64) -> Op
-        ensures { result ≡ page_op self page }
-    {
-        match self {
-            PageCall::MapWhole => Op::MapWhole { page },
-            PageCall::UnmapWhole => Op::UnmapWhole { page },
-            PageCall::SplitPmd => Op::SplitPmd { page },
-            PageCall::Pin => Op::Pin { page },
-            PageCall::Unpin => Op::Unpin { page },
-        }
-    }
-}
+use thp_model::{Gain, Loss, MAX_BATCH, PageCall};
 
 /// The calls on a range of a page's subpages, behind whose name stand a node, the page and the range.
 #[derive(Clone, Copy)]
@@ -44,14 +21,14 @@ enum RangeCall {
 
 impl RangeCall {
     #[inline(always)]
-    fn op(self, page: u64, first: u16, count: u16) -> Op
-        ensures { result ≡ range_op self page first count }
+    fn on(self, first: u16, count: u16) -> PageCall
+        ensures { result ≡ call_on self first count }
     {
         match self {
-            RangeCall::Map => Op::Map { first, count, page },
-            RangeCall::Unmap => Op::Unmap { first, count, page },
-            RangeCall::Write => Op::Write { first, count, page },
-            RangeCall::Zero => Op::Zero { first, count, page },
+            RangeCall::Map => PageCall::Gain(Gain::MapSub { first, count }),
+            RangeCall::Unmap => PageCall::Loss(Loss::UnmapSub { first, count }),
+            RangeCall::Write => PageCall::Gain(Gain::Write { first, count }),
+            RangeCall::Zero => PageCall::Gain(Gain::Zero { first, count }),
         }
     }
 }
@@ -119,7 +96,7 @@ fn node_command(settings: &Settings, op: Op, mut words: Words) -> Result<Command
 #[tactic(auto, unfolding(crate::specs::Commands::page_command))]
 #[inline(always)]
 fn page_command(settings: &Settings, call: PageCall, mut words: Words) -> Result<Command, TextKind>
-    ensures { result ≡ page_command (page_op call) settings.now words.entry }
+    ensures { result ≡ page_command (λ page. op_on page call) settings.now words.entry }
 {
     let (Some(node), Some(page), None) = (words.next(), words.next(), words.next()) else {
         return Err(TextKind::BadCount);
@@ -128,7 +105,7 @@ fn page_command(settings: &Settings, call: PageCall, mut words: Words) -> Result
     let page = number_up_to(u64::MAX, page)?;
     Ok(Command {
         node,
-        op: call.op(page),
+        op: Op::on_page(page, call),
     })
 }
 
@@ -140,7 +117,7 @@ fn range_command(
     call: RangeCall,
     mut words: Words,
 ) -> Result<Command, TextKind>
-    ensures { result ≡ range_command (range_op call) settings.now words.entry }
+    ensures { result ≡ range_command (λ page first count. op_on page (call_on call first count)) settings.now words.entry }
 {
     let (Some(node), Some(page), Some(first), Some(count), None) = (
         words.next(),
@@ -153,11 +130,11 @@ fn range_command(
     };
     let node = node_number(settings, node)?;
     let page = number_up_to(u64::MAX, page)?;
-    let first = small_number_up_to(65_535, first)?;
-    let count = small_number_up_to(65_535, count)?;
+    let first = small_number_up_to(u16::MAX, first)?;
+    let count = small_number_up_to(u16::MAX, count)?;
     Ok(Command {
         node,
-        op: call.op(page, first, count),
+        op: Op::on_page(page, call.on(first, count)),
     })
 }
 
@@ -175,7 +152,7 @@ fn batch_command(
         return Err(TextKind::BadCount);
     };
     let node = node_number(settings, node)?;
-    let count = small_number_up_to(128, count)?;
+    let count = small_number_up_to(MAX_BATCH as u16, count)?;
     Ok(Command {
         node,
         op: call.op(count),
@@ -193,13 +170,13 @@ pub(crate) fn command_of(
 {
     match name {
         b"alloc" => node_command(settings, Op::Alloc, words),
-        b"mapwhole" => page_command(settings, PageCall::MapWhole, words),
-        b"unmapwhole" => page_command(settings, PageCall::UnmapWhole, words),
+        b"mapwhole" => page_command(settings, PageCall::Gain(Gain::MapWhole), words),
+        b"unmapwhole" => page_command(settings, PageCall::Loss(Loss::UnmapWhole), words),
         b"map" => range_command(settings, RangeCall::Map, words),
         b"unmap" => range_command(settings, RangeCall::Unmap, words),
-        b"splitpmd" => page_command(settings, PageCall::SplitPmd, words),
-        b"pin" => page_command(settings, PageCall::Pin, words),
-        b"unpin" => page_command(settings, PageCall::Unpin, words),
+        b"splitpmd" => page_command(settings, PageCall::Gain(Gain::SplitPmd), words),
+        b"pin" => page_command(settings, PageCall::Gain(Gain::Pin), words),
+        b"unpin" => page_command(settings, PageCall::Loss(Loss::Unpin), words),
         b"write" => range_command(settings, RangeCall::Write, words),
         b"zero" => range_command(settings, RangeCall::Zero, words),
         b"close" => node_command(settings, Op::Close, words),

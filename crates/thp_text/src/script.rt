@@ -1,5 +1,9 @@
 //! Scripts as values.
+ghost use Rattle.std.specs.Prelude.{◌≡◌, Some};
+ghost use Rattle.thp_text.specs.PageCommands.{op_on, page_call_of};
+
 use crate::sequence::Sequence;
+use thp_model::{Gain, Loss, PageCall};
 
 /// A call on a node, with its operands.
 #[derive(Clone, Copy, Debug, PartialEq, Eq)]
@@ -36,6 +40,55 @@ pub enum Op {
     SplitNext,
     /// Puts back the pages that are left of the open batch.
     PutBack,
+}
+
+impl Op {
+    /// The page and the call, of a command about one page.
+    #[inline(always)]
+    pub fn page_call(self) -> Option<(u64, PageCall)>
+        ensures { result ≡ page_call_of self }
+    {
+        let (page, call) = match self {
+            Op::MapWhole { page } => (page, PageCall::Gain(Gain::MapWhole)),
+            Op::UnmapWhole { page } => (page, PageCall::Loss(Loss::UnmapWhole)),
+            Op::Map { first, count, page } => {
+                (page, PageCall::Gain(Gain::MapSub { first, count }))
+            }
+            Op::Unmap { first, count, page } => {
+                (page, PageCall::Loss(Loss::UnmapSub { first, count }))
+            }
+            Op::Write { first, count, page } => {
+                (page, PageCall::Gain(Gain::Write { first, count }))
+            }
+            Op::Zero { first, count, page } => {
+                (page, PageCall::Gain(Gain::Zero { first, count }))
+            }
+            Op::SplitPmd { page } => (page, PageCall::Gain(Gain::SplitPmd)),
+            Op::Pin { page } => (page, PageCall::Gain(Gain::Pin)),
+            Op::Unpin { page } => (page, PageCall::Loss(Loss::Unpin)),
+            _ => return None,
+        };
+        Some((page, call))
+    }
+
+    /// The command of a call about a page.
+    #[inline(always)]
+    pub fn on_page(page: u64, call: PageCall) -> Op
+        ensures call { page_call_of result ≡ Some (page, call) }
+        ensures made { result ≡ op_on page call }
+    {
+        match call {
+            PageCall::Gain(Gain::MapWhole) => Op::MapWhole { page },
+            PageCall::Gain(Gain::MapSub { first, count }) => Op::Map { first, count, page },
+            PageCall::Gain(Gain::SplitPmd) => Op::SplitPmd { page },
+            PageCall::Gain(Gain::Pin) => Op::Pin { page },
+            PageCall::Gain(Gain::Write { first, count }) => Op::Write { first, count, page },
+            PageCall::Gain(Gain::Zero { first, count }) => Op::Zero { first, count, page },
+            PageCall::Loss(Loss::UnmapWhole) => Op::UnmapWhole { page },
+            PageCall::Loss(Loss::UnmapSub { first, count }) => Op::Unmap { first, count, page },
+            PageCall::Loss(Loss::Unpin) => Op::Unpin { page },
+        }
+    }
 }
 
 /// A call, and the node that it is made on.

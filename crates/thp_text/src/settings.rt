@@ -1,10 +1,12 @@
 //! What a run is made of: its nodes, their blocks, its workers and its report.
 ghost use Rattle.std.specs.Prelude.{◌≡◌, ◌↔◌, ◌++◌, IsSome, IfSome, IsTrue, None, drop, replicate, true};
 ghost use Rattle.std.specs.List.{list_all};
+ghost use Rattle.thp_model.specs.Limits.{max_order};
+ghost use Rattle.thp_text.specs.Limits.{max_nodes};
 ghost use Rattle.thp_text.specs.Settings.{is_low, is_order, AreLow, AreOrdersFor, AreThresholdsFor, IsWithinLimits};
 
-/// The most nodes of a run.
-pub const MAX_NODES: usize = 8;
+use crate::limits::{MAX_NODES, MAX_WORKERS};
+use thp_model::Shape;
 
 /// What a run writes when it is done.
 #[derive(Clone, Copy, Debug, PartialEq, Eq)]
@@ -47,16 +49,19 @@ impl Settings {
         ensures blocks { IfSome result (λ settings. settings.blocks ≡ blocks) }
         ensures workers { IfSome result (λ settings. settings.workers ≡ workers) }
         ensures report { IfSome result (λ settings. settings.report ≡ report) }
-        ensures orders { IfSome result (λ settings. settings.orders ≡ replicate 8 9) }
-        ensures underused { IfSome result (λ settings. settings.underused ≡ replicate 8 None) }
+        ensures orders { IfSome result (λ settings. settings.orders ≡ replicate max_nodes max_order) }
+        ensures underused { IfSome result (λ settings. settings.underused ≡ replicate max_nodes None) }
     {
-        if (1..=8).contains(&nodes) && (1..=4096).contains(&blocks) && (1..=63).contains(&workers) {
+        if (1..=MAX_NODES as u32).contains(&nodes)
+            && (1..=Shape::MAX_BLOCKS).contains(&blocks)
+            && (1..=MAX_WORKERS).contains(&workers)
+        {
             Some(Settings {
                 nodes,
                 blocks,
                 workers,
                 report,
-                orders: [9; MAX_NODES],
+                orders: [Shape::MAX_ORDER; MAX_NODES],
                 underused: [None; MAX_NODES],
             })
         } else {
@@ -123,7 +128,7 @@ impl Settings {
 fn are_orders(orders: &[u32]) -> bool
     ensures { result ≡ list_all is_order orders.now }
 {
-    orders.iter().all(|order| (2..=9).contains(order))
+    orders.iter().all(|order| (Shape::MIN_ORDER..=Shape::MAX_ORDER).contains(order))
 }
 
 /// Whether a threshold, if there is one, is below the number of subpages of a page of this order.

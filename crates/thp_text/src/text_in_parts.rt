@@ -1,11 +1,12 @@
 //! Texts that come in parts.
-ghost use Rattle.std.specs.Prelude.{◌≡◌, ◌≤◌, ◌<◌, ◌++◌, ◌∷◌, [], None, IfOk, IfSome, IfNone, OnOk, OnErr, length};
+ghost use Rattle.std.specs.Prelude.{◌≡◌, ◌≤◌, ◌<◌, ◌+◌, ◌++◌, ◌∷◌, [], None, IfOk, IfSome, IfNone, OnOk, OnErr, length};
 ghost use Rattle.std.specs.Cow.{cow_slice_items};
+ghost use Rattle.thp_text.specs.Limits.{max_input};
 ghost use Rattle.thp_text.specs.TextInParts.{after_line, fault_with, read_unless, with_begun, with_fault, with_part, IsCounted};
 ghost use Rattle.thp_text.specs.Words.{Text, lines_of};
 
 use crate::fault::TextKind;
-use crate::input::MAX_INPUT;
+use crate::limits::MAX_INPUT;
 use crate::words::cut_at;
 use std::alloc::{AllocError, Global};
 use std::borrow::CowSlice;
@@ -128,7 +129,7 @@ impl TextInParts {
     /// What stands behind the last line feed, and the number of that line.
     pub fn last_line(&self) -> (u32, &[u8])
         ensures number { result.0 ≡ self.now.line }
-        ensures most { result.0 ≤ 16777217 }
+        ensures most { result.0 ≤ max_input + 1 }
         ensures line { result.1.now ≡ self.now.begun }
         ensures one_line { lines_of result.1.now ≡ result.1.now ∷ [] }
     {

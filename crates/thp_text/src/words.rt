@@ -5,7 +5,7 @@ ghost use Rattle.std.specs.List.{list_all};
 ghost use Rattle.std.specs.Option.{option_copied};
 ghost use Rattle.std.specs.Char.{digit_value, is_ascii_digit};
 ghost use Rattle.std.specs.Str.Parse.{digits_value};
-ghost use Rattle.thp_text.specs.Words.{is_numeral, number_of, pieces_at, pieces_left, words_of};
+ghost use Rattle.thp_text.specs.Words.{has_numeral_front, number_of, pieces_at, pieces_left, words_of};
 
 use memchr::memchr;
 use std::marker::Model;
@@ -70,38 +70,33 @@ impl<'a> Words<'a> {
     }
 }
 
+// What makes digits a numeral: there is one, and no zero stands before others.
 #[inline(always)]
-fn is_all_digits(word: &[u8]) -> bool
-    ensures { result ≡ list_all is_ascii_digit word.now }
+fn has_numeral_front(word: &[u8]) -> bool
+    ensures { result ≡ has_numeral_front word.now }
 {
-    word.iter().all(|b| b.is_ascii_digit())
+    !word.is_empty() && (word[0] != b'0' || word.len() == 1)
 }
 
+/// The number of the digits before this byte and this one, where it is a digit and the number fits.
 #[inline(always)]
-fn is_numeral(word: &[u8]) -> bool
-    ensures { result ≡ is_numeral word.now }
+fn with_digit(before: u64, byte: u8) -> Option<u64>
+    ensures { SomeIff result ((is_ascii_digit byte ≡ true) × (before * 10 + digit_value byte < 2 ^ 64)) (before * 10 + digit_value byte) }
 {
-    is_all_digits(word) && !word.is_empty() && (word[0] != b'0' || word.len() == 1)
+    if !byte.is_ascii_digit() {
+        return None;
+    }
+    before.checked_mul(10)?.checked_add(u64::from(byte - b'0'))
 }
 
-/// The number of the digits before this one and this one, where it fits.
-#[inline(always)]
-fn with_digit(before: u64, digit: u8) -> Option<u64>
-    requires { is_ascii_digit digit ≡ true }
-    ensures { SomeIff result (before * 10 + digit_value digit < 2 ^ 64) (before * 10 + digit_value digit) }
-{
-    before.checked_mul(10)?.checked_add(u64::from(digit - b'0'))
-}
-
-/// The value of a numeral, where it fits.
+/// The value of a word of digits alone, where it fits.
 #[inline(always)]
 fn value_of(word: &[u8]) -> Option<u64>
-    requires { is_numeral word.now ≡ true }
-    ensures { SomeIff result (digits_value 10 word.now < 2 ^ 64) (digits_value 10 word.now) }
+    ensures { SomeIff result ((list_all is_ascii_digit word.now ≡ true) × (digits_value 10 word.now < 2 ^ 64)) (digits_value 10 word.now) }
 {
     let mut value = 0;
-    for digit in word {
-        value = with_digit(value, *digit)?;
+    for byte in word {
+        value = with_digit(value, *byte)?;
     }
     Some(value)
 }
@@ -114,7 +109,7 @@ pub fn number(most: u64, word: &[u8]) -> Option<u64>
     ensures written { IfSome result (λ n. word.now ≡ decimal n) }
     ensures refused { IfNone result ((n : ℕ) → n ≤ most → word.now ≢ decimal n) }
 {
-    if !is_numeral(word) {
+    if !has_numeral_front(word) {
         return None;
     }
     match value_of(word) {

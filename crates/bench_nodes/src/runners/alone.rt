@@ -1,7 +1,6 @@
 //! Rounds of one thread, which has all callers.
 ghost use Rattle.std.specs.Prelude.{◌≡◌, ◌≤◌, IfOk};
 ghost use Rattle.thp_cell.specs.Views.{HasAll};
-ghost use Rattle.thp_sections.specs.Does.{IsPlain};
 ghost use Rattle.thp_sections.specs.Passes.{fronts_in};
 ghost use Rattle.bench_nodes.specs.Ready.{OfTwo};
 
@@ -12,8 +11,8 @@ use anyhow::{Context, Result};
 use std::alloc::{AllocError, Global};
 use std::time::{Clock, CpuClock};
 use thp_cell::{NodeCell, Pass};
-use thp_model::PageId;
-use thp_sections::{NoGate, NodePasses, Op, Reply, Step, Steps, work};
+use thp_model::{Gain, Loss, PageCall, PageId};
+use thp_sections::{Answers, NoGate, NodeCall, NodePasses, Reply, Step, Steps, work};
 
 /// Rounds on a bare node.
 pub(crate) fn on_node<R: Clock + CpuClock + AllocGlobal>(rt: &R, rounds: u32) -> Result<Times> {
@@ -36,8 +35,8 @@ pub(crate) fn by_steps<R: Clock + CpuClock + AllocGlobal>(rt: &R, rounds: u32) -
     let watch = Watch::start(rt)?;
     let mut done = 0u64;
     for _round in 0..rounds {
-        done = done.saturating_add(step(&mut passes, Op::Pin { page: 0 }));
-        done = done.saturating_add(step(&mut passes, Op::Unpin { page: 0 }));
+        done = done.saturating_add(step(&mut passes, PageCall::Gain(Gain::Pin)));
+        done = done.saturating_add(step(&mut passes, PageCall::Loss(Loss::Unpin)));
     }
     watch.stop(rt, done, 0)
 }
@@ -51,7 +50,7 @@ pub(crate) fn by_section<R: Clock + CpuClock + AllocGlobal>(rt: &R, rounds: u32)
     let mut passes = passes_of(alloc, &cell, pass)?;
     let commands = section(alloc, 1, 0, 0, rounds)?;
     let watch = Watch::start(rt)?;
-    let worked = work(alloc, &commands, 1, false, &mut passes, &NoGate)?;
+    let worked = work(alloc, &commands, 1, Answers::Counted, &mut passes, &NoGate)?;
     let done = worked.answers.len();
     watch.stop(rt, done as u64, commands.len().saturating_sub(done) as u64)
 }
@@ -71,12 +70,12 @@ fn passes_of<'a>(
     Ok(NodePasses::new(nodes, 2, 0, 2))
 }
 
-// One step of caller 1: 1 where it is answered.
-fn step(passes: &mut NodePasses<'_>, op: Op) -> u64
+// One call of caller 1 about page 0: 1 where it is answered.
+fn step(passes: &mut NodePasses<'_>, call: PageCall) -> u64
     requires two { OfTwo (fronts_in passes.old) }
-    requires plain { IsPlain op }
     ensures two { OfTwo (fronts_in passes.new) }
 {
     let mut reply = Reply::Unit;
-    u64::from(passes.step(1, 0, Step::One(op), &mut reply).is_ok())
+    let step = Step::One(NodeCall::Page { page: 0, call });
+    u64::from(passes.step(1, 0, step, &mut reply).is_ok())
 }

@@ -8,7 +8,7 @@ use crate::runners::times::{Times, Watch};
 use anyhow::{Context, Result};
 use std::thread::Threads;
 use std::time::{Clock, CpuClock};
-use thp_sections::{NoGate, NodePass, NodePasses, run_workers};
+use thp_sections::{Answers, NoGate, NodePass, NodePasses, run_workers};
 
 /// Workers on one node.
 pub(crate) fn on_one_node<R: Clock + CpuClock + AllocGlobal + Threads + Sync>(
@@ -78,7 +78,15 @@ fn time<R: Clock + CpuClock + AllocGlobal + Threads + Sync>(
     let callers = workers + 1;
     let passes = NodePasses::new(nodes, callers, 0, callers);
     let watch = Watch::start(rt)?;
-    let (_passes, worked) = run_workers(rt, alloc, passes, 1, &sections, false, &NoGate)?;
+    let (_passes, worked) = run_workers(
+        rt,
+        alloc,
+        passes,
+        1,
+        &sections,
+        Answers::Counted,
+        &NoGate,
+    )?;
     let done = answered(&worked);
     let commands = u64::from(workers) * u64::from(rounds) * 2;
     watch.stop(rt, done, commands.saturating_sub(done))

@@ -97,6 +97,28 @@ fn bad_ranges(rt: HostRuntime) {
     expect_row(&rt, node_of(&rt, rt.alloc(), 16), &steps);
 }
 
+// Numbers on both sides of 65,535 are refused alike: in 16 bits 65,536 would be 0, and 65,537 would be 1.
+#[test]
+fn ranges_of_large_numbers(rt: HostRuntime) {
+    let page = PageId(0);
+    let steps = [
+        Step::Call(Call::Alloc, Answer::Page(page)),
+        Step::Call(Call::SplitPmd(page), Answer::Done),
+        Step::Call(Call::MapSub(page, 0, 65_535), BAD_RANGE),
+        Step::Call(Call::MapSub(page, 0, 65_537), BAD_RANGE),
+        Step::Call(Call::MapSub(page, 65_535, 1), BAD_RANGE),
+        Step::Call(Call::MapSub(page, 65_536, 1), BAD_RANGE),
+        Step::Call(Call::MapSub(page, u32::MAX, u32::MAX), BAD_RANGE),
+        Step::Call(Call::UnmapSub(page, 65_536, 1), BAD_RANGE),
+        Step::Call(Call::UnmapSub(page, 0, 65_537), BAD_RANGE),
+        Step::Call(Call::Write(page, 65_536, 1), BAD_RANGE),
+        Step::Call(Call::Write(page, 0, u32::MAX), BAD_RANGE),
+        Step::Call(Call::Zero(page, 65_536, 1), BAD_RANGE),
+        Step::Call(Call::Zero(page, u32::MAX, 1), BAD_RANGE),
+    ];
+    expect_row(&rt, node_of(&rt, rt.alloc(), 16), &steps);
+}
+
 #[test]
 fn counts_at_their_limit(rt: HostRuntime) {
     let (mapped, pinned) = (PageId(0), PageId(1));

@@ -13,6 +13,11 @@ fn misfits_of_pages(rt: HostRuntime) {
         first: 511,
         count: 2,
     };
+    let above_16_bits = What::MapSub {
+        page: ZERO,
+        first: 65_536,
+        count: 1,
+    };
     for (name, event) in [
         ("a block in use", alloc_in(ONE, 0)),
         ("no such block", alloc_in(ONE, 16)),
@@ -20,6 +25,7 @@ fn misfits_of_pages(rt: HostRuntime) {
         ("a number too high", alloc_in(PageId(2), 1)),
         ("no such page", by(0, What::MapWhole { page: ONE })),
         ("a range past the end", by(0, past_the_end)),
+        ("a range of a large number", by(0, above_16_bits)),
         ("no PMD mapping", split_pmd(ZERO)),
         ("no such page to pin", by(0, What::Pin { page: ONE })),
         ("no whole mapping", unmap_whole(ZERO, Outcome::Stays, none)),

@@ -2,10 +2,10 @@
 use crate::busy_nodes::sections::{BusyCalls, Told, section_on_new, section_on_queued};
 use thp_model::{PageId, Refusal};
 use thp_node::{ScanReply, Tried};
-use thp_sections::{Answer, AnswerLog, Command, Op, Reply, Step};
+use thp_sections::{Answer, AnswerLog, Command, NodeCall, Op, Reply, Step};
 
 // How many pages are queued, asked by caller 0.
-const COUNT: (u32, Step) = (0, Step::One(Op::Count));
+const COUNT: (u32, Step) = (0, Step::One(NodeCall::Count));
 
 const ALLOC_AND_CLOSE: [Command; 2] = [
     Command {

@@ -9,11 +9,11 @@ use crate::busy_nodes::stutter::Stutter;
 use std::alloc::Global;
 use std::process::Abort;
 use thp_cell::{CellFault, NodeCell, Pass};
-use thp_model::Shape;
+use thp_model::{Gain, Loss, PageCall, Shape};
 use thp_node::Node;
 use thp_sections::{
-    Answer, AnswerLog, Command, NoGate, NodePass, NodePasses, Op, Reply, Step, Steps, Worked, work,
-    work_rest,
+    Answer, AnswerLog, Answers, Command, NoGate, NodeCall, NodePass, NodePasses, Reply, Step,
+    Steps, Worked, work, work_rest,
 };
 
 // A node of 16 blocks of order 9, for two callers.
@@ -91,7 +91,7 @@ pub fn begin<'a>(
         to: busy.to,
         period: busy.period,
     };
-    let worked = work(alloc, commands, 1, true, &mut nodes, &NoGate).expect(rt, "memory");
+    let worked = work(alloc, commands, 1, Answers::Kept, &mut nodes, &NoGate).expect(rt, "memory");
     let Stutter {
         inner,
         calls: _,
@@ -123,13 +123,16 @@ fn queue(rt: &impl Abort, passes: &mut NodePasses<'_>, page: u64)
     requires two { OfTwo (fronts_in passes.old) }
     ensures two { OfTwo (fronts_in passes.new) }
 {
-    assert!(rt; matches!(step(passes, 0, Step::One(Op::Alloc)), Ok(Reply::Page(_))));
-    let split = Step::One(Op::SplitPmd { page });
-    assert!(rt; matches!(step(passes, 0, split), Ok(Reply::Unit)));
-    let unmap = Step::One(Op::Unmap {
-        first: 0,
-        count: 1,
+    let alloc = Step::One(NodeCall::Alloc);
+    assert!(rt; matches!(step(passes, 0, alloc), Ok(Reply::Page(_))));
+    let split = Step::One(NodeCall::Page {
         page,
+        call: PageCall::Gain(Gain::SplitPmd),
+    });
+    assert!(rt; matches!(step(passes, 0, split), Ok(Reply::Unit)));
+    let unmap = Step::One(NodeCall::Page {
+        page,
+        call: PageCall::Loss(Loss::UnmapSub { first: 0, count: 1 }),
     });
     assert!(rt; matches!(step(passes, 0, unmap), Ok(Reply::Done(_))));
 }
@@ -141,7 +144,10 @@ fn queue_two(rt: &impl Abort, passes: &mut NodePasses<'_>)
 {
     queue(rt, passes, 0);
     queue(rt, passes, 1);
-    let pin = Step::One(Op::Pin { page: 1 });
+    let pin = Step::One(NodeCall::Page {
+        page: 1,
+        call: PageCall::Gain(Gain::Pin),
+    });
     assert!(rt; matches!(step(passes, 0, pin), Ok(Reply::Unit)));
 }
 

@@ -4,7 +4,7 @@ use std::alloc::Global;
 use std::process::Abort;
 use thp_model::{Outcome, PageId, Refusal, SubSet};
 use thp_node::{BackReply, Done, ScanReply, Tried};
-use thp_sections::{AnswerLog, Reply, Section};
+use thp_sections::{AnswerLog, Answers, Reply, Section};
 use thp_text::Report;
 
 // The answers to the commands of a section, all on one node.
@@ -15,7 +15,7 @@ fn section(
     node: u32,
     replies: &[Result<Reply, Refusal>],
 ) -> Section {
-    let mut answers = AnswerLog::new(alloc, replies.len(), true).expect(rt, "room");
+    let mut answers = AnswerLog::new(alloc, replies.len(), Answers::Kept).expect(rt, "room");
     for (command, reply) in replies.iter().enumerate() {
         let command = u32::try_from(command).expect(rt, "a few commands");
         match reply {

@@ -1,5 +1,6 @@
 //! The shrinker's calls: a take, tries, a put-back, and the scan that is made of them.
 ghost use Rattle.std.specs.Prelude.{◌≡◌, ℕ, ◌+◌, ◌*◌, ◌<◌, ◌≤◌, Bool, true, false, ◌||◌, [], ◌∷◌, length, drop, take, slice_get, min, Option, None, Some, IsSome, IfOk, IfErr, IfSome, IfNone, OnOk, OnErr};
+ghost use Rattle.thp_model.specs.Limits.{max_batch, max_callers};
 ghost use Rattle.thp_model.specs.History.{by};
 ghost use Rattle.thp_model.specs.Counts.{is_closed};
 ghost use Rattle.thp_model.specs.Legal.{IsLegal};
@@ -26,8 +27,8 @@ impl Node {
 
     /// Takes up to `n` pages, the oldest of the queue in order, into a batch of the caller. Refused as `HasBatch`.
     pub fn take(&mut self, caller: u32, n: u32) -> Result<Batch, Refusal>
-        requires caller { caller < 64 }
-        requires count { n ≤ 128 }
+        requires caller { caller < max_callers }
+        requires count { n ≤ max_batch }
         ensures allowed { OnOk result (refusal self.old.shape self.old.journal (call.take caller) ≡ None) }
         ensures batch { IfOk result (λ b. b ≡ record { caller = caller; pages = take n (queue self.old.shape self.old.journal); place = 0 }) }
         ensures recorded { OnOk result (Did self.old self.new caller (take_events self.old.shape self.old.journal caller n)) }
@@ -44,8 +45,8 @@ impl Node {
     // How many pages a take of up to `n` gets, with room in the journal for `each` events of each of them; or why it is
     // refused.
     pub(super) fn admit_take(&mut self, caller: u32, n: u32, each: u32) -> Result<u32, Refusal>
-        requires caller { caller < 64 }
-        requires count { n ≤ 128 }
+        requires caller { caller < max_callers }
+        requires count { n ≤ max_batch }
         requires each { each ≤ 3 }
         ensures count { IfOk result (λ k. k ≡ min n (length (queue self.old.shape self.old.journal))) }
         ensures room { IfOk result (λ k. each * k ≤ self.new.room) }
@@ -68,8 +69,8 @@ impl Node {
 
     // Takes the `count` oldest pages, for which there is room.
     pub(super) fn take_oldest(&mut self, caller: u32, count: u32) -> Batch
-        requires caller { caller < 64 }
-        requires few { count ≤ 128 }
+        requires caller { caller < max_callers }
+        requires few { count ≤ max_batch }
         requires queued { count ≤ length (queue self.old.shape self.old.journal) }
         requires room { count ≤ self.old.room }
         requires may_take { no_pages (flight self.old.journal caller) ≡ true }
@@ -87,7 +88,7 @@ impl Node {
 
     // Takes the oldest page of the queue.
     fn take_one(&mut self, caller: u32) -> PageId
-        requires caller { caller < 64 }
+        requires caller { caller < max_callers }
         requires queued { 0 < length (queue self.old.shape self.old.journal) }
         requires room { 0 < self.old.room }
         requires may_take { (no_pages (flight self.old.journal caller) || is_taking self.old.journal caller) ≡ true }
@@ -134,7 +135,7 @@ impl Node {
 
     // The first of some pages that is in a caller's flight: how many stand before it, its block and its number.
     fn next_flying(&self, caller: u32, pages: &[PageId]) -> Option<(usize, u32, PageId)>
-        requires { caller < 64 }
+        requires { caller < max_callers }
         ensures none { IfNone result (next_page self.now.journal caller pages.now ≡ None) }
         ensures page { IfSome result (λ f. next_page self.now.journal caller pages.now ≡ Some f.2) }
         ensures rest { IfSome result (λ f. rest_after self.now.journal caller pages.now ≡ drop (f.0 + 1) pages.now) }
@@ -179,7 +180,7 @@ impl Node {
 
     // Tries the page of a block, which is in the caller's flight: lets it go, splits it, or finds it pinned.
     fn try_page(&mut self, caller: u32, block: u32, page: PageId) -> Tried
-        requires caller { caller < 64 }
+        requires caller { caller < max_callers }
         requires room { 0 < self.old.room }
         requires flies { IsFlyingAt self.old.table caller page block }
         ensures tried { result ≡ tried self.old.shape self.old.journal (Some page) }
@@ -200,7 +201,7 @@ impl Node {
 
     // Lets the page of a block go, which is in the caller's flight and isn't worth a split.
     fn let_go(&mut self, caller: u32, block: u32, page: PageId)
-        requires caller { caller < 64 }
+        requires caller { caller < max_callers }
         requires room { 0 < self.old.room }
         requires flies { IsFlyingAt self.old.table caller page block }
         requires used { AtSlot self.old.table block (λ x. is_worth self.old.shape.underused x.page ≡ false) }
@@ -213,7 +214,7 @@ impl Node {
 
     // Splits the page of a block, which is in the caller's flight, is worth it and has no pins.
     fn split_page(&mut self, caller: u32, block: u32, page: PageId)
-        requires caller { caller < 64 }
+        requires caller { caller < max_callers }
         requires room { 0 < self.old.room }
         requires flies { IsFlyingAt self.old.table caller page block }
         requires worth { AtSlot self.old.table block (λ x. is_worth self.old.shape.underused x.page ≡ true) }

@@ -1,5 +1,6 @@
 //! The calls about the node: a new page, and the close.
 ghost use Rattle.std.specs.Prelude.{◌≡◌, ℕ, ◌<◌, [], ◌∷◌, None, IfOk, IfErr, OnOk};
+ghost use Rattle.thp_model.specs.Limits.{max_callers};
 ghost use Rattle.thp_model.specs.Counts.{allocations};
 ghost use Rattle.thp_model.specs.History.{by};
 ghost use Rattle.thp_model.specs.Refusals.{refusal};
@@ -15,7 +16,7 @@ impl Node {
     /// A new page, mapped whole once, in a block of no live page. Its number is the count of allocations before it. It is
     /// queued where the shrinker looks for underused pages. Refused as `Closed` and `NoBlock`.
     pub fn alloc_page(&mut self, caller: u32) -> Result<PageId, Refusal>
-        requires { caller < 64 }
+        requires { caller < max_callers }
         ensures allowed { OnOk result (refusal self.old.shape self.old.journal call.alloc_page ≡ None) }
         ensures number { IfOk result (λ p. p ≡ allocations self.old.journal) }
         ensures recorded { IfOk result (DidAlloc self.old self.new caller) }
@@ -41,7 +42,7 @@ impl Node {
 
     /// Closes the node: from here on nothing enters the queue and no page is allocated. Refused as `Closed`.
     pub fn close(&mut self, caller: u32) -> Result<(), Refusal>
-        requires { caller < 64 }
+        requires { caller < max_callers }
         ensures allowed { OnOk result (refusal self.old.shape self.old.journal call.close ≡ None) }
         ensures recorded { OnOk result (Did self.old self.new caller (by caller What.Close ∷ [])) }
         ensures refused { IfErr result (Refused self.old self.new (refusal self.old.shape self.old.journal call.close) 1) }

@@ -1,22 +1,24 @@
 //! The calls about one page: its mappings and its pins.
-ghost use Rattle.std.specs.Prelude.{◌≡◌, ℕ, ◌<◌, ◌≤◌, [], ◌∷◌, None, Some, IfOk, IfErr, OnOk};
+ghost use Rattle.std.specs.Prelude.{◌≡◌, ℕ, ◌<◌, ◌≤◌, [], ◌∷◌, None, Some, IfOk, IfErr, OnOk, min};
+ghost use Rattle.thp_model.specs.Limits.{max_callers, max_order};
 ghost use Rattle.thp_model.specs.History.{by};
 ghost use Rattle.thp_model.specs.Frames.{outcome, released};
 ghost use Rattle.thp_model.specs.Refusals.{refusal};
 ghost use Rattle.thp_model.specs.Refusals as call;
 ghost use Rattle.thp_node.specs.Batches.{FrontsStay};
 ghost use Rattle.thp_node.specs.Calls.{Did, Refused};
+ghost use Rattle.thp_page.specs.Slots.{slot_at, HoldsPage};
 ghost use Rattle.thp_live_pages.specs.Homes.{block_of};
 ghost use Rattle.thp_model.specs.PageCalls.{gain_call, loss_call, page_call, gain_what, loss_what};
 
 use crate::journal::Unsaid;
 use crate::node::Node;
-use thp_model::{Done, Gain, Loss, PageCall, PageId, Refusal, What};
+use thp_model::{Done, Gain, Loss, Outcome, PageCall, PageId, Refusal, SubSet, What, narrowed};
 
 impl Node {
     /// One more mapping of the whole page, by a PMD entry. Refused as `NoPage`, `IsSplit` and `TooMany`.
     pub fn map_whole(&mut self, caller: u32, page: PageId) -> Result<(), Refusal>
-        requires { caller < 64 }
+        requires { caller < max_callers }
         ensures allowed { OnOk result (refusal self.old.shape self.old.journal (call.map_whole page) ≡ None) }
         ensures recorded { OnOk result (Did self.old self.new caller (by caller (What.MapWhole page) ∷ [])) }
         ensures refused { IfErr result (Refused self.old self.new (refusal self.old.shape self.old.journal (call.map_whole page)) 1) }
@@ -27,7 +29,7 @@ impl Node {
 
     /// One mapping of the whole page less. Refused as `NoPage`, `IsSplit` and `NotMapped`.
     pub fn unmap_whole(&mut self, caller: u32, page: PageId) -> Result<Done, Refusal>
-        requires { caller < 64 }
+        requires { caller < max_callers }
         ensures allowed { OnOk result (refusal self.old.shape self.old.journal (call.unmap_whole page) ≡ None) }
         ensures recorded { IfOk result (λ d. Did self.old self.new caller (by caller (What.UnmapWhole d.outcome page d.released) ∷ [])) }
         ensures outcome { IfOk result (λ d. d.outcome ≡ outcome self.old.shape self.old.journal self.new.journal page) }
@@ -47,12 +49,13 @@ impl Node {
         first: u32,
         count: u32,
     ) -> Result<(), Refusal>
-        requires { caller < 64 }
+        requires { caller < max_callers }
         ensures allowed { OnOk result (refusal self.old.shape self.old.journal (call.map_sub page first count) ≡ None) }
         ensures recorded { OnOk result (Did self.old self.new caller (by caller (What.MapSub page first count) ∷ [])) }
         ensures refused { IfErr result (Refused self.old self.new (refusal self.old.shape self.old.journal (call.map_sub page first count)) 1) }
         ensures fronts { FrontsStay self.old.journal self.new.journal }
     {
+        let (first, count) = self.operands(first, count);
         self.gain(caller, page, Gain::MapSub { first, count })
     }
 
@@ -67,7 +70,7 @@ impl Node {
         first: u32,
         count: u32,
     ) -> Result<Done, Refusal>
-        requires { caller < 64 }
+        requires { caller < max_callers }
         ensures allowed { OnOk result (refusal self.old.shape self.old.journal (call.unmap_sub page first count) ≡ None) }
         ensures recorded { IfOk result (λ d. Did self.old self.new caller (by caller (What.UnmapSub d.outcome page first count d.released) ∷ [])) }
         ensures outcome { IfOk result (λ d. d.outcome ≡ outcome self.old.shape self.old.journal self.new.journal page) }
@@ -75,13 +78,14 @@ impl Node {
         ensures refused { IfErr result (Refused self.old self.new (refusal self.old.shape self.old.journal (call.unmap_sub page first count)) 1) }
         ensures fronts { FrontsStay self.old.journal self.new.journal }
     {
+        let (first, count) = self.operands(first, count);
         self.lose(caller, page, Loss::UnmapSub { first, count })
     }
 
     /// Makes one mapping of the whole page into one of each subpage, whatever references there are. Refused as `NoPage`,
     /// `IsSplit` and `NotMapped`.
     pub fn split_pmd(&mut self, caller: u32, page: PageId) -> Result<(), Refusal>
-        requires { caller < 64 }
+        requires { caller < max_callers }
         ensures allowed { OnOk result (refusal self.old.shape self.old.journal (call.split_pmd page) ≡ None) }
         ensures recorded { OnOk result (Did self.old self.new caller (by caller (What.SplitPmd page) ∷ [])) }
         ensures refused { IfErr result (Refused self.old self.new (refusal self.old.shape self.old.journal (call.split_pmd page)) 1) }
@@ -92,7 +96,7 @@ impl Node {
 
     /// One more pin, which keeps the page from being split. Refused as `NoPage`, `IsSplit` and `TooMany`.
     pub fn pin(&mut self, caller: u32, page: PageId) -> Result<(), Refusal>
-        requires { caller < 64 }
+        requires { caller < max_callers }
         ensures allowed { OnOk result (refusal self.old.shape self.old.journal (call.pin page) ≡ None) }
         ensures recorded { OnOk result (Did self.old self.new caller (by caller (What.Pin page) ∷ [])) }
         ensures refused { IfErr result (Refused self.old self.new (refusal self.old.shape self.old.journal (call.pin page)) 1) }
@@ -103,7 +107,7 @@ impl Node {
 
     /// One pin less. Refused as `NoPage`, `IsSplit` and `NotPinned`.
     pub fn unpin(&mut self, caller: u32, page: PageId) -> Result<Done, Refusal>
-        requires { caller < 64 }
+        requires { caller < max_callers }
         ensures allowed { OnOk result (refusal self.old.shape self.old.journal (call.unpin page) ≡ None) }
         ensures recorded { IfOk result (λ d. Did self.old self.new caller (by caller (What.Unpin d.outcome page d.released) ∷ [])) }
         ensures outcome { IfOk result (λ d. d.outcome ≡ outcome self.old.shape self.old.journal self.new.journal page) }
@@ -123,23 +127,25 @@ impl Node {
         first: u32,
         count: u32,
     ) -> Result<(), Refusal>
-        requires { caller < 64 }
+        requires { caller < max_callers }
         ensures allowed { OnOk result (refusal self.old.shape self.old.journal (call.write page first count) ≡ None) }
         ensures recorded { OnOk result (Did self.old self.new caller (by caller (What.Write page first count) ∷ [])) }
         ensures refused { IfErr result (Refused self.old self.new (refusal self.old.shape self.old.journal (call.write page first count)) 1) }
         ensures fronts { FrontsStay self.old.journal self.new.journal }
     {
+        let (first, count) = self.operands(first, count);
         self.gain(caller, page, Gain::Write { first, count })
     }
 
     /// Zeros are written to each of the `count` subpages from `first` on, which are zero-filled then. Refused as `write` is.
     pub fn zero(&mut self, caller: u32, page: PageId, first: u32, count: u32) -> Result<(), Refusal>
-        requires { caller < 64 }
+        requires { caller < max_callers }
         ensures allowed { OnOk result (refusal self.old.shape self.old.journal (call.zero_fill page first count) ≡ None) }
         ensures recorded { OnOk result (Did self.old self.new caller (by caller (What.Zero page first count) ∷ [])) }
         ensures refused { IfErr result (Refused self.old self.new (refusal self.old.shape self.old.journal (call.zero_fill page first count)) 1) }
         ensures fronts { FrontsStay self.old.journal self.new.journal }
     {
+        let (first, count) = self.operands(first, count);
         self.gain(caller, page, Gain::Zero { first, count })
     }
 
@@ -147,14 +153,17 @@ impl Node {
     /// that a call of a known kind does that kind alone.
     #[inline(always)]
     pub fn gain(&mut self, caller: u32, page: PageId, gain: Gain) -> Result<(), Refusal>
-        requires { caller < 64 }
+        requires { caller < max_callers }
         ensures allowed { OnOk result (refusal self.old.shape self.old.journal (gain_call gain page) ≡ None) }
         ensures recorded { OnOk result (Did self.old self.new caller (by caller (gain_what gain page) ∷ [])) }
         ensures refused { IfErr result (Refused self.old self.new (refusal self.old.shape self.old.journal (gain_call gain page)) 1) }
         ensures fronts { FrontsStay self.old.journal self.new.journal }
     {
         let block = self.admit(page, PageCall::Gain(gain))?;
-        self.blocks.gain(block, gain);
+        match self.blocks.gain(block, gain) {
+            Ok(()) => {}
+            Err(refusal) => return Err(refusal),
+        }
         self.journal
             .record(caller, gain.what(page), Unsaid::Nothing);
         Ok(())
@@ -163,7 +172,7 @@ impl Node {
     /// Takes mappings or a pin from a page, which can queue or free it. Refused as the page refuses it.
     #[inline(always)]
     pub fn lose(&mut self, caller: u32, page: PageId, loss: Loss) -> Result<Done, Refusal>
-        requires { caller < 64 }
+        requires { caller < max_callers }
         ensures allowed { OnOk result (refusal self.old.shape self.old.journal (loss_call loss page) ≡ None) }
         ensures recorded { IfOk result (λ d. Did self.old self.new caller (by caller (loss_what loss page d.outcome d.released) ∷ [])) }
         ensures outcome { IfOk result (λ d. d.outcome ≡ outcome self.old.shape self.old.journal self.new.journal page) }
@@ -173,18 +182,39 @@ impl Node {
     {
         let block = self.admit(page, PageCall::Loss(loss))?;
         let closed = self.journal.is_closed();
-        let (done, left) = self.blocks.lose(block, loss, closed);
+        let mut done = Done {
+            outcome: Outcome::Stays,
+            released: SubSet::empty(),
+        };
+        let left = match self.blocks.lose(block, loss, closed, &mut done) {
+            Ok(left) => left,
+            Err(refusal) => return Err(refusal),
+        };
         self.journal
             .record(caller, loss.what(page, &done), Unsaid::FreedFrom(left));
         Ok(done)
     }
 
-    // The block of a page of which a call may be made, with room in the journal for its event; or why it is refused.
+    // The operands of a range as a page call keeps them.
+    #[inline(always)]
+    fn operands(&self, first: u32, count: u32) -> (u16, u16)
+        ensures first { result.0 ≡ min first 65535 }
+        ensures count { result.1 ≡ min count 65535 }
+        ensures low { self.now.shape.order ≤ max_order }
+    {
+        // Tells the proof of what order the pages are at most.
+        let _ = self.shape();
+        (narrowed(first), narrowed(count))
+    }
+
+    // The block of a page, with room in the journal for an event. Where there is no room, a call that the page refuses is
+    // refused first, so that it leaves the journal as it was.
     #[inline(always)]
     fn admit(&mut self, page: PageId, call: PageCall) -> Result<u32, Refusal>
         ensures block { IfOk result (λ b. block_of self.old.journal page ≡ Some b) }
-        ensures allowed { OnOk result (refusal self.old.shape self.old.journal (page_call call page) ≡ None) }
+        ensures allowed { OnOk result (self.old.room ≡ 0 → refusal self.old.shape self.old.journal (page_call call page) ≡ None) }
         ensures room { OnOk result (0 < self.new.room) }
+        ensures kept { OnOk result (0 < self.old.room → self.new ≡ self.old) }
         ensures more { self.old.room ≤ self.new.room }
         ensures same { self.new ≡ record self.old { room = self.new.room } }
         ensures refused { IfErr result (Refused self.old self.new (refusal self.old.shape self.old.journal (page_call call page)) 1) }
@@ -193,11 +223,28 @@ impl Node {
             Some(block) => block,
             None => return Err(Refusal::NoPage),
         };
+        if !self.journal.has_room() {
+            self.make_room(page, block, call)?;
+        }
+        Ok(block)
+    }
+
+    // Room in the journal for the event of a call of the page of a block, unless the page refuses the call.
+    #[cold]
+    #[inline(never)]
+    fn make_room(&mut self, page: PageId, block: u32, call: PageCall) -> Result<(), Refusal>
+        requires { HoldsPage (slot_at self.old.table block) page }
+        ensures allowed { OnOk result (refusal self.old.shape self.old.journal (page_call call page) ≡ None) }
+        ensures room { OnOk result (0 < self.new.room) }
+        ensures more { self.old.room ≤ self.new.room }
+        ensures same { self.new ≡ record self.old { room = self.new.room } }
+        ensures refused { IfErr result (Refused self.old self.new (refusal self.old.shape self.old.journal (page_call call page)) 1) }
+    {
         if let Some(refusal) = self.blocks.refusal(block, call) {
             return Err(refusal);
         }
         match self.journal.reserve(1) {
-            Ok(()) => Ok(block),
+            Ok(()) => Ok(()),
             Err(_) => Err(Refusal::OutOfMemory),
         }
     }

@@ -1,5 +1,6 @@
 //! The calls by which pages leave a batch together: a put-back, and the scan that is a take, tries and a put-back.
 ghost use Rattle.std.specs.Prelude.{◌≡◌, not, ◌&&◌, ℕ, ◌*◌, ◌<◌, ◌≤◌, [], ◌∷◌, length, map, take, count_by, slice_get, None, Some, IfOk, IfErr, OnOk};
+ghost use Rattle.thp_model.specs.Limits.{max_batch, max_callers};
 ghost use Rattle.thp_model.specs.Legal.{IsLegal};
 ghost use Rattle.thp_model.specs.Places.{flight};
 ghost use Rattle.thp_model.specs.Refusals.{refusal};
@@ -15,7 +16,7 @@ use crate::batch::Batch;
 use crate::journal::Unsaid;
 use crate::node::Node;
 use arrayvec::ArrayVec;
-use thp_model::{PageId, Refusal, What};
+use thp_model::{MAX_BATCH, PageId, Refusal, What};
 
 impl Node {
     ghost use Rattle.thp_live_pages.specs.Flying.{IsFlyingAt};
@@ -49,11 +50,11 @@ impl Node {
     }
 
     // The blocks of those pages of a batch that are in a caller's flight, in the batch's order.
-    fn flying_blocks(&self, caller: u32, pages: &[PageId]) -> ArrayVec<u32, 128>
-        requires { length pages.now ≤ 128 }
+    fn flying_blocks(&self, caller: u32, pages: &[PageId]) -> ArrayVec<u32, MAX_BATCH>
+        requires { length pages.now ≤ max_batch }
         ensures blocks { map (block_of self.now.journal) (still_flying self.now.journal caller pages.now) ≡ map (λ b. Some b) result.items }
         ensures count { length result.items ≡ length (still_flying self.now.journal caller pages.now) }
-        ensures few { length result.items ≤ 128 }
+        ensures few { length result.items ≤ max_batch }
     {
         let mut blocks = ArrayVec::new();
         for &page in pages {
@@ -67,11 +68,11 @@ impl Node {
     // Returns the first pages of a caller's flight, which lie in these blocks and for which there is room. Answers how many
     // went back to the queue.
     fn return_all(&mut self, caller: u32, blocks: &[u32]) -> u32
-        requires caller { caller < 64 }
+        requires caller { caller < max_callers }
         requires legal { IsLegal self.old.shape self.old.journal }
         requires front { BeginsIn self.old.journal caller blocks.now }
         requires room { length blocks.now ≤ self.old.room }
-        requires few { length blocks.now ≤ 128 }
+        requires few { length blocks.now ≤ max_batch }
         ensures back { result ≡ count_by (goes_back self.old.shape self.old.journal) (take (length blocks.now) (flight self.old.journal caller)) }
         ensures did { Did self.old self.new caller (return_first self.old.shape self.old.journal caller (length blocks.now)) }
     {
@@ -84,7 +85,7 @@ impl Node {
 
     // Returns the first page of a caller's flight, which lies in this block. Answers whether it went back to the queue.
     fn return_first(&mut self, caller: u32, block: u32) -> bool
-        requires caller { caller < 64 }
+        requires caller { caller < max_callers }
         requires room { 0 < self.old.room }
         requires front { BeginsIn self.old.journal caller (block ∷ []) }
         ensures back { OneBack self.old.shape self.old.journal caller result }
@@ -96,7 +97,7 @@ impl Node {
 
     // Returns the page of a block, which is the first of the caller's flight. Answers whether it went back to the queue.
     fn return_page(&mut self, caller: u32, block: u32, page: PageId) -> bool
-        requires caller { caller < 64 }
+        requires caller { caller < max_callers }
         requires room { 0 < self.old.room }
         requires flies { IsFlyingAt self.old.table caller page block }
         requires first { slice_get (flight self.old.journal caller) 0 ≡ Some page }
@@ -123,8 +124,8 @@ impl Node {
     ///
     /// It makes room for three events for each page at first, and changes nothing where the memory for that isn't there.
     pub fn scan(&mut self, caller: u32, n: u32) -> Result<ScanReply, Refusal>
-        requires caller { caller < 64 }
-        requires count { n ≤ 128 }
+        requires caller { caller < max_callers }
+        requires count { n ≤ max_batch }
         ensures allowed { OnOk result (refusal self.old.shape self.old.journal (call.scan caller) ≡ None) }
         ensures recorded { OnOk result (Did self.old self.new caller (scan_events self.old.shape self.old.journal caller n)) }
         ensures reply { IfOk result (λ r. r ≡ scan_reply (scan_events self.old.shape self.old.journal caller n)) }

@@ -1,4 +1,6 @@
 use Rattle.std.proofs.Common.{arith}
+use Rattle.thp_model.specs.Limits.{max_blocks}
+use Rattle.thp_text.specs.Limits.{max_nodes, max_workers}
 use Rattle.thp_options.proofs.CommandLineLaws.{memory_fails, parse_fails, parse_done, line_held}
 use Rattle.thp_options.proofs.line.read_line.Goals as goal
 
@@ -11,13 +13,13 @@ returns-in_err-matches-clause-refused c =
     c.from_residual-in_err-matches.result c.from_residual-in_err-matches.ensures.1
 
 pub number_of-nodes-requires : goal.number_of-nodes-requires
-number_of-nodes-requires c = (8, omega arith, c.in_ok-command.ensures.nodes c.in_ok-matches.matches c.in_ok-matches.ensures.parsed)
+number_of-nodes-requires c = (max_nodes, omega arith, c.in_ok-command.ensures.nodes c.in_ok-matches.matches c.in_ok-matches.ensures.parsed)
 
 pub number_of-blocks-requires : goal.number_of-blocks-requires
-number_of-blocks-requires c = (4096, omega arith, c.in_ok-command.ensures.blocks c.in_ok-matches.matches c.in_ok-matches.ensures.parsed)
+number_of-blocks-requires c = (max_blocks, omega arith, c.in_ok-command.ensures.blocks c.in_ok-matches.matches c.in_ok-matches.ensures.parsed)
 
 pub number_of-workers-requires : goal.number_of-workers-requires
-number_of-workers-requires c = (63, omega arith, c.in_ok-command.ensures.workers c.in_ok-matches.matches c.in_ok-matches.ensures.parsed)
+number_of-workers-requires c = (max_workers, omega arith, c.in_ok-command.ensures.workers c.in_ok-matches.matches c.in_ok-matches.ensures.parsed)
 
 pub returns-clause-within : goal.returns-clause-within
 returns-clause-within c =
@@ -25,11 +27,11 @@ returns-clause-within c =
     let parsed = c.in_ok-matches.ensures.parsed in
     record {
       least_nodes = c.number_of-nodes.ensures.least;
-      most_nodes = c.number_of-nodes.ensures.most 8 (omega arith) (own.nodes c.in_ok-matches.matches parsed);
+      most_nodes = c.number_of-nodes.ensures.most max_nodes (omega arith) (own.nodes c.in_ok-matches.matches parsed);
       least_blocks = c.number_of-blocks.ensures.least;
-      most_blocks = c.number_of-blocks.ensures.most 4096 (omega arith) (own.blocks c.in_ok-matches.matches parsed);
+      most_blocks = c.number_of-blocks.ensures.most max_blocks (omega arith) (own.blocks c.in_ok-matches.matches parsed);
       least_workers = c.number_of-workers.ensures.least;
-      most_workers = c.number_of-workers.ensures.most 63 (omega arith) (own.workers c.in_ok-matches.matches parsed);
+      most_workers = c.number_of-workers.ensures.most max_workers (omega arith) (own.workers c.in_ok-matches.matches parsed);
     }
 
 pub returns-clause-held : goal.returns-clause-held

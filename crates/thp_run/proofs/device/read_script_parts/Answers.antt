@@ -1,34 +1,12 @@
-use Rattle.std.proofs.Common.{◌∙◌, ◌++◌, [], ap, arith, refl, rules, take}
-use Rattle.std.proofs.lemmas.List.{append-nil, length-append, length-take-le}
-use Rattle.thp_text.specs.Parts.{spelled_with}
+use Rattle.std.proofs.Common.{◌∙◌, ◌++◌, [], ap}
+use Rattle.std.proofs.lemmas.List.{append-nil}
+use Rattle.std.proofs.lemmas.Result.{IfOk-weaker}
 use Rattle.thp_text.specs.Scripts.{script_of}
-use Rattle.thp_run.proofs.DeviceLaws.{goes_on, read_all, read_beyond, read_more}
 use Rattle.thp_run.proofs.device.read_script_parts.Goals as goal
-
-pub returns-then-count-eq0-clause-parts : goal.returns-then-count-eq0-clause-parts
-returns-then-count-eq0-clause-parts g c =
-    let remaining = g.R.Read.remaining in
-    let t = c.loop-given.invariant.taken in
-    let read = rw c.in-Some.is at c.read.ensures.bytes in
-    (t.0, read_all (remaining c.args.reader.now.device) (remaining c.loop-given.reader.device) (remaining c.read.new.self.device) t.0 _ t.1 read.1 (rw c.if-count-eq0.true refl) (search rules), t.3 [] ∙ ap (script_of c.args.settings.now) (append-nil t.0))
-
-pub loop-given-preserved : goal.loop-given-preserved
-loop-given-preserved g c =
-    let remaining = g.R.Read.remaining in
-    let t = c.loop-given.invariant.taken in
-    let read = rw c.in-Some.is at c.read.ensures.bytes in
-    record {
-      taken = (
-        t.0 ++ take c.in-Some.count c.read.new.buf,
-        read_more (remaining c.args.reader.now.device) (remaining c.loop-given.reader.device) (remaining c.read.new.self.device) t.0 (take c.in-Some.count c.read.new.buf) t.1 read.1,
-        omega (arith, length-append t.0 (take c.in-Some.count c.read.new.buf), length-take-le c.in-Some.count c.read.new.buf read.0, t.2),
-        goes_on (spelled_with c.loop-given.script) (spelled_with c.in_ok-script-2.script) (script_of c.args.settings.now) t.0 (take c.in-Some.count c.read.new.buf) c.in_ok-script-2.ensures.text t.3,
-      );
-      settings = c.in_ok-script-2.ensures.settings ∙ c.loop-given.invariant.settings;
-      flag = (rw c.in-Some.is at c.read.ensures.flag_stays) ∙ c.loop-given.invariant.flag;
-    }
 
 pub returns-clause-parts : goal.returns-clause-parts
 returns-clause-parts g c =
-    let t = c.loop-given.invariant.taken in
-    (t.0, read_beyond (g.R.Read.remaining c.args.reader.now.device) (g.R.Read.remaining c.loop-given.reader.device) t.0 t.1 (omega (arith, t.2)), t.3 [] ∙ ap (script_of c.args.settings.now) (append-nil t.0))
+    IfOk-weaker c.read_parts.result _ _ (λ script p. (p.0, p.1, p.2.0 [] ∙ c.in_ok-script.ensures.text (p.0 ++ []) ∙ ap (script_of c.args.settings.now) (append-nil p.0))) c.read_parts.ensures.parts
+
+pub returns-clause-settings : goal.returns-clause-settings
+returns-clause-settings g c = IfOk-weaker c.read_parts.result _ _ (λ script p. p.2.1 ∙ c.in_ok-script.ensures.settings) c.read_parts.ensures.parts

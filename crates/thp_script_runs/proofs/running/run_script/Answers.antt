@@ -1,6 +1,6 @@
 use Rattle.std.proofs.Common.{◌∙◌, ◌+◌, arith, length, rules, subst, sym}
 use Rattle.std.specs.Prelude.{All}
-use Rattle.thp_script_runs.specs.Sections.{KeepsAnswers}
+use Rattle.thp_script_runs.specs.Sections.{SectionAnswersAre}
 use Rattle.thp_script_runs.specs.Sharing.{AreFew, IsRoot}
 use Rattle.thp_script_runs.proofs.NodeLaws.{pairs_length}
 use Rattle.thp_script_runs.proofs.SharingLaws.{is_run, nodes_asked, roots_fresh, script_fits}
@@ -34,4 +34,4 @@ returns-clause-run g c =
     c.in_ok-nodes.ensures.shapes c.in_ok-cells.ensures.roots c.in_ok-passes.ensures.runs c.in_ok-nodes-2.ensures
 
 pub returns-clause-answers : goal.returns-clause-answers
-returns-clause-answers g c = λ is. subst (λ b. All (KeepsAnswers b) c.in_ok-passes.sections.items) (c.tells_answers-keeps.ensures is) c.in_ok-passes.ensures.keeps
+returns-clause-answers g c = λ is. subst (λ a. All (SectionAnswersAre a) c.in_ok-passes.sections.items) (c.answers_for-answers.ensures.1 is) c.in_ok-passes.ensures.answers

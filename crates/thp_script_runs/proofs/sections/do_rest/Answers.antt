@@ -3,7 +3,7 @@ use Rattle.std.specs.Prelude.{All, slice_get}
 use Rattle.std.specs.Vec.Iter.{into_iter_items}
 use Rattle.std.proofs.lemmas.List.Elements.{All-head, All-nil, All-push, All-rest}
 use Rattle.thp_sections.specs.Fronts.{Fronts, Goes}
-use Rattle.thp_sections.specs.Sections.{IsKept, Works}
+use Rattle.thp_sections.specs.Sections.{AnswersAre, Works}
 use Rattle.thp_script_runs.proofs.RestLaws.{at_index, below, has_all_later, rest_first, rest_more, rest_works}
 use Rattle.thp_script_runs.proofs.sections.do_rest.Goals as goal
 
@@ -13,7 +13,7 @@ loop-worked-init g c =
     let same = ap length gives.0 in
     record {
       rest = rest_first c.requires.worked.0 (g.P.Steps.fronts c.args.passes.now) c.args.workers.now c.args.worked.items c.new-done.result.items (into_iter_items c.into_iter-worked-iterator.result) c.requires.worked.1 c.new-done.ensures.items gives.0;
-      keeps = λ keeps all. (rw c.new-done.ensures.items (All-nil (IsKept keeps)), rw gives.0 all);
+      answers = λ are all. (rw c.new-done.ensures.items (All-nil (AnswersAre are)), rw gives.0 all);
       left = omega (arith, same, gives.1);
     }
 
@@ -62,13 +62,13 @@ loop-worked-preserved g c =
     let shorter = ap length is in
     record {
       rest = rw c.in_ok-push.ensures.items (rest_more first f h vs v c.args.worked.items done items w rest inv is w' c.requires.holds c.requires.callers at goes works (c.in_ok-rest.ensures.done (has_all_later first f inv.goes c.requires.holds)));
-      keeps = λ keeps all.
-          let was = c.loop-worked.invariant.keeps keeps all in (
-            rw c.in_ok-push.ensures.items (All-push (IsKept keeps) done w' was.0 (c.in_ok-rest.ensures.keeps ∙ All-head (IsKept keeps) w rest (subst (All (IsKept keeps)) is was.1))),
-            All-rest (IsKept keeps) w rest items is was.1,
+      answers = λ are all.
+          let was = c.loop-worked.invariant.answers are all in (
+            rw c.in_ok-push.ensures.items (All-push (AnswersAre are) done w' was.0 (c.in_ok-rest.ensures.answers ∙ All-head (AnswersAre are) w rest (subst (All (AnswersAre are)) is was.1))),
+            All-rest (AnswersAre are) w rest items is was.1,
           );
       left = omega (arith, shorter, steps.1, c.loop-worked.invariant.left);
     }
 
-pub returns-clause-keeps : goal.returns-clause-keeps
-returns-clause-keeps g c = λ keeps all. (c.loop-worked.invariant.keeps keeps all).0
+pub returns-clause-answers : goal.returns-clause-answers
+returns-clause-answers g c = λ are all. (c.loop-worked.invariant.answers are all).0

@@ -1,8 +1,8 @@
 use Rattle.std.proofs.Common.{◌∙◌, ◌∷◌, subst, sym}
 use Rattle.std.proofs.lemmas.List.Elements.{All-cons}
 use Rattle.thp_sections.specs.Halves.{AllWork, Ran}
-use Rattle.thp_sections.specs.Sections.{IsKept, Works}
-use Rattle.thp_script_runs.proofs.RestLaws.{can_run, few_done, kept_numbered, ran_fit, runs_to}
+use Rattle.thp_sections.specs.Sections.{AnswersAre, Works}
+use Rattle.thp_script_runs.proofs.RestLaws.{can_run, few_done, answers_numbered, ran_fit, runs_to}
 use Rattle.thp_script_runs.proofs.sections.run_sections.Goals as goal
 
 pub run_range-requires-after_bounds : goal.run_range-requires-after_bounds
@@ -48,9 +48,9 @@ returns-clause-runs g c =
     runs_to f mid c.args.script vs new c.requires.fits c.in_ok-setup.ensures.goes c.in_ok-workers.ensures ran ws r end xs c.in_ok-done.ensures.goes all c.in_ok-setup.setup c.in_ok-sections.sections.items setup
     (c.in_ok-setup.ensures.done (record { low = new.first; high = new.end ∙ sym new.callers })) c.in_ok-done.ensures.done c.in_ok-sections.ensures
 
-pub returns-clause-keeps : goal.returns-clause-keeps
-returns-clause-keeps g c =
-    let keeps = c.args.keeps in
+pub returns-clause-answers : goal.returns-clause-answers
+returns-clause-answers g c =
+    let are = c.args.answers in
     let setup = c.in_ok-setup.setup in
     let xs = c.in_ok-done.done.items in
-    rw c.in_ok-sections.ensures (kept_numbered keeps 0 (setup ∷ xs) (All-cons (IsKept keeps) setup xs c.in_ok-setup.ensures.keeps (c.in_ok-done.ensures.keeps keeps c.in_ok-passes.ensures.keeps)))
+    rw c.in_ok-sections.ensures (answers_numbered are 0 (setup ∷ xs) (All-cons (AnswersAre are) setup xs c.in_ok-setup.ensures.answers (c.in_ok-done.ensures.answers are c.in_ok-passes.ensures.answers)))

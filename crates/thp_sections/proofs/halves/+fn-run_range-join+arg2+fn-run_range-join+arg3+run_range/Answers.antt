@@ -2,7 +2,7 @@ use Rattle.std.proofs.Common.{◌≡◌, ℕ, ◌+◌, ◌/◌, ◌++◌, length
 use Rattle.std.proofs.lemmas.List.{take-append-drop}
 use Rattle.std.proofs.lemmas.List.Elements.{All-append}
 use Rattle.thp_sections.specs.Halves.{CanRun}
-use Rattle.thp_sections.specs.Sections.{IsKept}
+use Rattle.thp_sections.specs.Sections.{AnswersAre}
 use Rattle.thp_sections.proofs.HalvesLaws.{ran_both}
 use Rattle.thp_sections.proofs.halves.+fn-run_range-join+arg2+fn-run_range-join+arg3+run_range.Goals as goal
 
@@ -22,7 +22,7 @@ returns-clause-ran g t c =
     rw (← whole, c.in_ok-append.ensures)
     (ran_both f (fronts c.in_ok-left.left) (fronts c.in_ok-left.right) at first low high can c.in_ok-left.ensures is (fronts c.in_ok-left-2.left) (fronts c.in_ok-right.right) c.in_ok-left-2.done.items c.in_ok-right.more.items l r (fronts c.in_ok-both.both) c.in_ok-both.ensures)
 
-pub returns-clause-keeps : goal.returns-clause-keeps
-returns-clause-keeps g t c =
+pub returns-clause-answers : goal.returns-clause-answers
+returns-clause-answers g t c =
     rw c.in_ok-append.ensures
-    (All-append (IsKept c.args.keeps) c.in_ok-left-2.done.items c.in_ok-right.more.items (rw c.in_ok-left-2.was at c.join-left.ensures.first.1) (rw c.in_ok-right.was at c.join-left.ensures.second.1))
+    (All-append (AnswersAre c.args.answers) c.in_ok-left-2.done.items c.in_ok-right.more.items (rw c.in_ok-left-2.was at c.join-left.ensures.first.1) (rw c.in_ok-right.was at c.join-left.ensures.second.1))

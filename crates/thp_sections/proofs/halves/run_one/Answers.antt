@@ -1,6 +1,6 @@
 use Rattle.std.proofs.Common.{[]}
 use Rattle.std.proofs.lemmas.List.Elements.{All-nil, All-push}
-use Rattle.thp_sections.specs.Sections.{IsKept}
+use Rattle.thp_sections.specs.Sections.{AnswersAre}
 use Rattle.thp_sections.proofs.HalvesLaws.{ran_one}
 use Rattle.thp_sections.proofs.halves.run_one.Goals as goal
 
@@ -9,6 +9,6 @@ returns-clause-ran g c =
     let fronts = g.P.Steps.fronts in
     ran_one c.args.worker (fronts c.args.passes) (fronts c.work.new.steps) c.args.commands.now c.push.new.self.items c.in_ok-worked.worked c.requires c.work.ensures.goes (rw c.deref.ensures.value at c.in_ok-worked.ensures.works) (rw c.new-all.ensures.items at c.in_ok-push.ensures.items)
 
-pub returns-clause-keeps : goal.returns-clause-keeps
-returns-clause-keeps g c =
-    rw (c.in_ok-push.ensures.items, c.new-all.ensures.items) (All-push (IsKept c.args.keeps) [] c.in_ok-worked.worked (All-nil (IsKept c.args.keeps)) c.in_ok-worked.ensures.keeps)
+pub returns-clause-answers : goal.returns-clause-answers
+returns-clause-answers g c =
+    rw (c.in_ok-push.ensures.items, c.new-all.ensures.items) (All-push (AnswersAre c.args.answers) [] c.in_ok-worked.worked (All-nil (AnswersAre c.args.answers)) c.in_ok-worked.ensures.answers)

@@ -67,7 +67,7 @@ loop-index-preserved g c =
           (subst (λ (k : ℕ). Begins c.args.worker old new commands (answers ++ record { command = k; node = command.node; reply = answer } ∷ []) first_begun) len
           (begins_more c.args.worker old mid new commands answers c.loop-index.begun command at (inv.begins old b) c.do_command-called.ensures.goes answer p));
       count = omega (arith, c.push.ensures.count, inv.count);
-      keeps = c.push.ensures.keeps ∙ inv.keeps;
+      are = c.push.ensures.are ∙ inv.are;
       room = omega (arith, c.push.ensures.room, inv.room);
     }
 

@@ -10,6 +10,6 @@ invariant-loop-index g l =
       goes : Goes l.worker (fronts l.fn.steps) (fronts l.steps);
       begins : (old : Fronts) → Begins l.worker old (fronts l.fn.steps) l.commands l.fn.answers.items l.fn.begun → Begins l.worker old (fronts l.steps) l.commands l.answers.items l.begun;
       count : length l.answers.items ≡ l.index;
-      keeps : l.answers.keeps ≡ l.fn.answers.keeps;
+      are : l.answers.are ≡ l.fn.answers.are;
       room : length l.commands ≤ l.answers.room;
     }

@@ -4,9 +4,9 @@ use Rattle.thp_sections.proofs.working.work.Goals as goal
 pub go_on-requires-clause-begun : goal.go_on-requires-clause-begun
 go_on-requires-clause-begun g c =
     let fronts = g.S.Steps.fronts in
-    (fronts c.args.steps.now, rw c.first_begun.ensures (begins_first c.args.worker (fronts c.args.steps.now) c.args.commands.now c.in_ok-answers.answers.items c.in_ok-answers.ensures.items))
+    (fronts c.args.steps.now, rw c.first_begun.ensures (begins_first c.args.worker (fronts c.args.steps.now) c.args.commands.now c.in_ok-log.log.items c.in_ok-log.ensures.items))
 
 pub returns-clause-works : goal.returns-clause-works
 returns-clause-works g c =
     let fronts = g.S.Steps.fronts in
-    c.go_on.ensures.works (fronts c.args.steps.now) (rw c.first_begun.ensures (begins_first c.args.worker (fronts c.args.steps.now) c.args.commands.now c.in_ok-answers.answers.items c.in_ok-answers.ensures.items))
+    c.go_on.ensures.works (fronts c.args.steps.now) (rw c.first_begun.ensures (begins_first c.args.worker (fronts c.args.steps.now) c.args.commands.now c.in_ok-log.log.items c.in_ok-log.ensures.items))

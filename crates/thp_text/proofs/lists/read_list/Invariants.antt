@@ -1,5 +1,6 @@
 use Rattle.std.proofs.Common.{◌≡◌, ◌+◌, ◌≤◌, length}
 use Rattle.std.specs.Option.{option_copied}
+use Rattle.thp_text.specs.Limits.{max_nodes}
 use Rattle.thp_text.specs.NumberLists.{all_read, items_of}
 use Rattle.thp_text.specs.Words.{pieces_left}
 use Rattle.thp_text.proofs.ListLaws.{behind}
@@ -12,7 +13,7 @@ invariant-loop-rest g l =
     record {
       read : all_read g.T.Item.item_of (items_of l.text) ≡ behind l.items.items (all_read g.T.Item.item_of rest);
       count : length (items_of l.text) ≡ length l.items.items + length rest;
-      room : length l.items.items ≤ 8;
+      room : length l.items.items ≤ max_nodes;
     }
 
 abbrev pub decreases-loop-rest : goal.decreases-loop-rest

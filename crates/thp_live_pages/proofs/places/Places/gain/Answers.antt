@@ -12,5 +12,5 @@ invariant_of-self c =
     let t = c.self.inside.table in
     let w = taken _ c.requires.occupied in
     let at : slot_at t c.args.block ≡ Some w.0 = ap (λ (n : PlacesState). slot_at n.table c.args.block) c.self.view_is ∙ w.1 in
-    linked_paged t _ c.self.inside.queue c.args.block w.0 (record w.0 { page = c.gain_by.new.page }) c.self.invariant at
-    (slot_at-inside t c.args.block w.0 at) refl (ap (λ (o : Option Slot). slice_set t.slots c.args.block (paged o c.gain_by.new.page)) at) refl
+    linked_paged t _ c.self.inside.queue c.args.block w.0 (record w.0 { page = c.gain.new.self }) c.self.invariant at
+    (slot_at-inside t c.args.block w.0 at) refl (ap (λ (o : Option Slot). slice_set t.slots c.args.block (paged o c.gain.new.self)) at) refl

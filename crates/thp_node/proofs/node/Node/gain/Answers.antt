@@ -1,26 +1,37 @@
-use Rattle.std.proofs.Common.{◌≡◌, [], ◌∷◌, ◌++◌, None, sym, ◌∙◌, subst, ap, ap₂, arith}
+use Rattle.std.proofs.Common.{◌≡◌, ℕ, [], ◌∷◌, ◌++◌, None, Some, sym, ◌∙◌, subst, ap, ap₂, arith}
 use Rattle.thp_model.specs.declared.shape.Shape.{Shape}
 use Rattle.thp_model.specs.History.{History, by}
+use Rattle.thp_model.specs.Legal.{Fits}
+use Rattle.thp_model.specs.declared.events.What.{What}
 use Rattle.thp_model.specs.Refusals.{refusal}
 use Rattle.thp_model.specs.declared.page_call.PageCall.TheVariants as either
 use Rattle.thp_live_pages.specs.Holding.{IsNode}
 use Rattle.thp_live_pages.specs.Homes.{block_of}
 use Rattle.thp_node.specs.NodeState.{NodeState}
+use Rattle.thp_node.specs.contracts.node.Node.{the_view}
+use Rattle.thp_live_pages.specs.PlacesState.{PlacesState}
 use Rattle.thp_model.specs.PageCalls.{gain_call, gain_what}
-use Rattle.thp_live_pages.proofs.Admitting.{Found, at_home, ready}
-use Rattle.thp_node.proofs.CallLemmas.{did_one}
+use Rattle.thp_live_pages.proofs.Admitting.{Found, at_home, refused_by_page}
+use Rattle.thp_node.proofs.CallLemmas.{did_one, refused_by}
 use Rattle.thp_live_pages.proofs.PageEvents.{gained}
 use Rattle.thp_node.proofs.Fronts.{fronts_same, fronts_grown, gain_takes_none}
 use Rattle.thp_node.proofs.node.Node.gain.Goals as goal
+use Rattle.thp_node.proofs.node.Node.gain.Goals.{In-Err}
 
-pub gain-requires-clause-allowed : goal.gain-requires-clause-allowed
-gain-requires-clause-allowed c =
+pub record-requires-clause-fits : goal.record-requires-clause-fits
+record-requires-clause-fits c =
     let j = c.self.inside.journal in
     let b = c.self.inside.blocks in
     let is = c.self.view_is ∙ c.in_ok-block.ensures.same in
-    ready j.shape j.events b.table b.queue c.args.page c.in_ok-block.block (either.Gain c.args.gain) c.self.invariant
-    (ap (λ (n : NodeState). block_of n.journal c.args.page) is ∙ c.in_ok-block.ensures.block)
-    (ap (λ (n : NodeState). refusal n.shape n.journal (gain_call c.args.gain c.args.page)) is ∙ c.in_ok-block.ensures.allowed)
+    let w : Found j.shape j.events b.table c.args.page c.in_ok-block.block =
+    at_home j.shape j.events b.table b.queue c.args.page c.in_ok-block.block c.self.invariant (ap (λ (n : NodeState). block_of n.journal c.args.page) is ∙ c.in_ok-block.ensures.block) in
+    let did = c.in-Ok.ensures.gained w.slot w.at in
+    let allowed : refusal j.shape j.events (gain_call c.args.gain w.slot.id) ≡ None =
+    ap (λ p. refusal j.shape j.events (gain_call c.args.gain p)) w.id_is
+    ∙ refused_by_page j.shape j.events b.table c.args.page c.in_ok-block.block (either.Gain c.args.gain) w ∙ sym (c.in-Ok.ensures.refusal w.slot w.at c.args.page) in
+    let P : What → Type 0 = λ v. Fits j.shape j.events (by c.args.caller v) in
+    let Q : ℕ → Type 0 = λ p. Fits j.shape j.events (by c.args.caller (gain_what c.args.gain p)) in
+    subst P (sym c.what.ensures) (subst Q w.id_is (gained j.shape j.events c.args.caller c.in_ok-block.block w.slot did.0 c.args.gain b c.gain.new.self c.self.invariant w.at allowed did.1 did.2).0)
 
 -- the node that the page's gain leaves, with its event
 changed : (c : goal.After-record) → IsNode c.record.new.self.shape c.record.new.self.events c.gain.new.self.table c.gain.new.self.queue
@@ -30,18 +41,18 @@ changed c =
     let is = c.self.view_is ∙ c.in_ok-block.ensures.same in
     let w : Found j.shape j.events b.table c.args.page c.in_ok-block.block =
     at_home j.shape j.events b.table b.queue c.args.page c.in_ok-block.block c.self.invariant (ap (λ (n : NodeState). block_of n.journal c.args.page) is ∙ c.in_ok-block.ensures.block) in
-    let did = c.gain.ensures w.slot w.at in
+    let did = c.in-Ok.ensures.gained w.slot w.at in
     let allowed : refusal j.shape j.events (gain_call c.args.gain w.slot.id) ≡ None =
     ap (λ p. refusal j.shape j.events (gain_call c.args.gain p)) w.id_is
-    ∙ ap (λ (n : NodeState). refusal n.shape n.journal (gain_call c.args.gain c.args.page)) is ∙ c.in_ok-block.ensures.allowed in
+    ∙ refused_by_page j.shape j.events b.table c.args.page c.in_ok-block.block (either.Gain c.args.gain) w ∙ sym (c.in-Ok.ensures.refusal w.slot w.at c.args.page) in
     let node = (gained j.shape j.events c.args.caller c.in_ok-block.block w.slot did.0 c.args.gain b c.gain.new.self c.self.invariant w.at allowed did.1 did.2).1 in
     let P : Shape → History → Type 0 = λ s h. IsNode s h c.gain.new.self.table c.gain.new.self.queue in
     let events : c.record.new.self.events ≡ j.events ++ by c.args.caller (gain_what c.args.gain w.slot.id) ∷ [] =
     c.record.ensures.events ∙ ap (λ v. j.events ++ by c.args.caller v ∷ []) (c.what.ensures ∙ ap (gain_what c.args.gain) (sym w.id_is)) in
     subst (λ h. P c.record.new.self.shape h) (sym events) (subst (λ s. P s (j.events ++ by c.args.caller (gain_what c.args.gain w.slot.id) ∷ [])) (sym c.record.ensures.shape) node)
 
-pub invariant_of-self : goal.invariant_of-self
-invariant_of-self c = changed c
+pub invariant_of-self-2 : goal.invariant_of-self-2
+invariant_of-self-2 c = changed c
 
 pub returns-clause-recorded : goal.returns-clause-recorded
 returns-clause-recorded c =
@@ -56,7 +67,7 @@ returns-clause-recorded c =
     c.record.ensures.legal
     (omega (arith, c.in_ok-block.ensures.more, ap (λ (n : NodeState). n.room) c.self.view_is))
     c.record.ensures.room
-    (omega (arith, (c.gain.ensures w.slot w.at).2.work, ap (λ (n : NodeState). n.table.accesses) is))
+    (omega (arith, (c.in-Ok.ensures.gained w.slot w.at).2.work, ap (λ (n : NodeState). n.table.accesses) is))
     (omega arith)
 
 pub returns-in_err-block-clause-fronts : goal.returns-in_err-block-clause-fronts
@@ -67,3 +78,29 @@ pub returns-clause-fronts : goal.returns-clause-fronts
 returns-clause-fronts c =
     fronts_grown c.args.self.now.journal _ (by c.args.caller (gain_what c.args.gain c.args.page) ∷ []) (returns-clause-recorded c).journal
     (λ d. gain_takes_none d c.args.caller c.args.page c.args.gain)
+
+-- what the page refuses is refused
+refused : (c : In-Err) → refusal c.args.self.now.shape c.args.self.now.journal (gain_call c.args.gain c.args.page) ≡ Some c.in-Err.refusal
+refused c =
+    let j = c.self.inside.journal in
+    let b = c.self.inside.blocks in
+    let is = c.self.view_is ∙ c.in_ok-block.ensures.same in
+    let w : Found j.shape j.events b.table c.args.page c.in_ok-block.block =
+    at_home j.shape j.events b.table b.queue c.args.page c.in_ok-block.block c.self.invariant (ap (λ (n : NodeState). block_of n.journal c.args.page) is ∙ c.in_ok-block.ensures.block) in
+    ap (λ (n : NodeState). refusal n.shape n.journal (gain_call c.args.gain c.args.page)) (sym is)
+    ∙ refused_by_page j.shape j.events b.table c.args.page c.in_ok-block.block (either.Gain c.args.gain) w ∙ sym (c.in-Err.ensures.refusal w.slot w.at c.args.page)
+
+pub returns-in-Err-clause-refused : goal.returns-in-Err-clause-refused
+returns-in-Err-clause-refused c =
+    refused_by c.args.self.now _ _ _ _ (ap (λ (b : PlacesState). let n : NodeState = record (the_view c.self.inside) { table = b.table; queue = b.queue } in n) c.in-Err.ensures.kept ∙ c.self.view_is) (refused c)
+    c.in_ok-block.ensures.kept c.in_ok-block.ensures.allowed
+
+pub returns-clause-allowed : goal.returns-clause-allowed
+returns-clause-allowed c =
+    let j = c.self.inside.journal in
+    let b = c.self.inside.blocks in
+    let is = c.self.view_is ∙ c.in_ok-block.ensures.same in
+    let w : Found j.shape j.events b.table c.args.page c.in_ok-block.block =
+    at_home j.shape j.events b.table b.queue c.args.page c.in_ok-block.block c.self.invariant (ap (λ (n : NodeState). block_of n.journal c.args.page) is ∙ c.in_ok-block.ensures.block) in
+    ap (λ (n : NodeState). refusal n.shape n.journal (gain_call c.args.gain c.args.page)) (sym is)
+    ∙ refused_by_page j.shape j.events b.table c.args.page c.in_ok-block.block (either.Gain c.args.gain) w ∙ sym (c.in-Ok.ensures.refusal w.slot w.at c.args.page)

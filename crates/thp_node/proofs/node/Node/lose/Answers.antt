@@ -1,4 +1,4 @@
-use Rattle.std.proofs.Common.{◌≡◌, [], ◌∷◌, ◌++◌, sym, ◌∙◌, subst, ap, ap₂, arith}
+use Rattle.std.proofs.Common.{◌≡◌, ℕ, None, Some, [], ◌∷◌, ◌++◌, sym, ◌∙◌, subst, ap, ap₂, arith}
 use Rattle.thp_model.specs.declared.shape.Shape.{Shape}
 use Rattle.thp_model.specs.declared.events.What.{What}
 use Rattle.thp_model.specs.History.{History, by}
@@ -8,46 +8,47 @@ use Rattle.thp_model.specs.Refusals.{refusal}
 use Rattle.thp_model.specs.declared.page_call.PageCall.TheVariants as either
 use Rattle.thp_live_pages.specs.Holding.{IsNode}
 use Rattle.thp_live_pages.specs.Homes.{block_of}
+use Rattle.thp_live_pages.specs.PlacesState.{PlacesState, AtSlot}
+use Rattle.thp_model.specs.Pages.{page_refusal}
+use Rattle.thp_model.specs.declared.page_call.Loss.{Loss}
 use Rattle.thp_node.specs.Journals.{unsaid_of}
 use Rattle.thp_node.specs.NodeState.{NodeState}
+use Rattle.thp_node.specs.contracts.node.Node.{the_view}
 use Rattle.thp_model.specs.PageCalls.{loss_call, loss_what}
-use Rattle.thp_live_pages.proofs.Admitting.{ready}
-use Rattle.thp_node.proofs.CallLemmas.{did_one}
+use Rattle.thp_live_pages.proofs.Admitting.{Found, at_home, refused_by_page}
+use Rattle.thp_node.proofs.CallLemmas.{did_one, refused_by}
 use Rattle.thp_node.proofs.Losing.{Losing, losing}
 use Rattle.thp_node.proofs.Fronts.{fronts_same, fronts_grown, loss_takes_none}
 use Rattle.thp_node.proofs.node.Node.lose.Goals as goal
 
-pub lose-done-requires-clause-allowed : goal.lose-done-requires-clause-allowed
-lose-done-requires-clause-allowed c =
-    let j = c.self.inside.journal in
-    let b = c.self.inside.blocks in
-    let is = c.self.view_is ∙ c.in_ok-block.ensures.same in
-    ready j.shape j.events b.table b.queue c.args.page c.in_ok-block.block (either.Loss c.args.loss) c.self.invariant
-    (ap (λ (n : NodeState). block_of n.journal c.args.page) is ∙ c.in_ok-block.ensures.block)
-    (ap (λ (n : NodeState). refusal n.shape n.journal (loss_call c.args.loss c.args.page)) is ∙ c.in_ok-block.ensures.allowed)
+-- what the page doesn't refuse isn't refused
+allowed : (s : Shape) (h : History) (n : PlacesState) (p b : ℕ) (l : Loss) → IsNode s h n.table n.queue → block_of h p ≡ Some b → AtSlot n.table b (λ x. (q : ℕ) → None ≡ page_refusal x.page (loss_call l q)) → refusal s h (loss_call l p) ≡ None
+allowed s h n p b l m home told =
+    let w : Found s h n.table p b = at_home s h n.table n.queue p b m home in
+    refused_by_page s h n.table p b (either.Loss l) w ∙ sym (told w.slot w.at p)
 
 -- what the page lost, before and after it is recorded
-before : (c : goal.After-what) → Losing c.self.inside.journal.shape c.self.inside.journal.events c.args.caller c.args.page c.args.loss c.self.inside.blocks c.lose-done.new.self c.lose-done.result.0 c.lose-done.result.1
+before : (c : goal.After-what) → Losing c.self.inside.journal.shape c.self.inside.journal.events c.args.caller c.args.page c.args.loss c.self.inside.blocks c.lose.new.self c.lose.new.done c.in-Ok.left
 before c =
     let j = c.self.inside.journal in
     let b = c.self.inside.blocks in
     let is = c.self.view_is ∙ c.in_ok-block.ensures.same in
-    losing j.shape j.events c.args.caller c.args.page c.in_ok-block.block c.args.loss c.is_closed-closed.result b c.lose-done.new.self c.lose-done.result.0 c.lose-done.result.1 c.self.invariant
+    losing j.shape j.events c.args.caller c.args.page c.in_ok-block.block c.args.loss c.is_closed-closed.result b c.lose.new.self c.lose.new.done c.in-Ok.left c.self.invariant
     (ap (λ (n : NodeState). block_of n.journal c.args.page) is ∙ c.in_ok-block.ensures.block)
     c.is_closed-closed.ensures
-    (ap (λ (n : NodeState). refusal n.shape n.journal (loss_call c.args.loss c.args.page)) is ∙ c.in_ok-block.ensures.allowed)
-    c.lose-done.ensures
+    (allowed j.shape j.events b c.args.page c.in_ok-block.block c.args.loss c.self.invariant (ap (λ (n : NodeState). block_of n.journal c.args.page) is ∙ c.in_ok-block.ensures.block) c.in-Ok.ensures.refusal)
+    c.in-Ok.ensures.lost
 
-after : (c : goal.After-record) → Losing c.self.inside.journal.shape c.self.inside.journal.events c.args.caller c.args.page c.args.loss c.self.inside.blocks c.lose-done.new.self c.lose-done.result.0 c.lose-done.result.1
+after : (c : goal.After-record) → Losing c.self.inside.journal.shape c.self.inside.journal.events c.args.caller c.args.page c.args.loss c.self.inside.blocks c.lose.new.self c.lose.new.done c.in-Ok.left
 after c =
     let j = c.self.inside.journal in
     let b = c.self.inside.blocks in
     let is = c.self.view_is ∙ c.in_ok-block.ensures.same in
-    losing j.shape j.events c.args.caller c.args.page c.in_ok-block.block c.args.loss c.is_closed-closed.result b c.lose-done.new.self c.lose-done.result.0 c.lose-done.result.1 c.self.invariant
+    losing j.shape j.events c.args.caller c.args.page c.in_ok-block.block c.args.loss c.is_closed-closed.result b c.lose.new.self c.lose.new.done c.in-Ok.left c.self.invariant
     (ap (λ (n : NodeState). block_of n.journal c.args.page) is ∙ c.in_ok-block.ensures.block)
     c.is_closed-closed.ensures
-    (ap (λ (n : NodeState). refusal n.shape n.journal (loss_call c.args.loss c.args.page)) is ∙ c.in_ok-block.ensures.allowed)
-    c.lose-done.ensures
+    (allowed j.shape j.events b c.args.page c.in_ok-block.block c.args.loss c.self.invariant (ap (λ (n : NodeState). block_of n.journal c.args.page) is ∙ c.in_ok-block.ensures.block) c.in-Ok.ensures.refusal)
+    c.in-Ok.ensures.lost
 
 pub record-requires-clause-fits : goal.record-requires-clause-fits
 record-requires-clause-fits c =
@@ -58,21 +59,21 @@ record-requires-clause-fits c =
 pub record-requires-clause-unsaid : goal.record-requires-clause-unsaid
 record-requires-clause-unsaid c = (before c).unsaid_is ∙ ap (unsaid_of c.self.inside.journal.shape c.self.inside.journal.events) (sym c.what.ensures)
 
-events : (c : goal.After-record) → c.record.new.self.events ≡ c.self.inside.journal.events ++ by c.args.caller (loss_what c.args.loss c.args.page c.lose-done.result.0.outcome c.lose-done.result.0.released) ∷ []
+events : (c : goal.After-record) → c.record.new.self.events ≡ c.self.inside.journal.events ++ by c.args.caller (loss_what c.args.loss c.args.page c.lose.new.done.outcome c.lose.new.done.released) ∷ []
 events c = c.record.ensures.events ∙ ap (λ v. c.self.inside.journal.events ++ by c.args.caller v ∷ []) c.what.ensures
 
-pub invariant_of-self : goal.invariant_of-self
-invariant_of-self c =
+pub invariant_of-self-2 : goal.invariant_of-self-2
+invariant_of-self-2 c =
     let j = c.self.inside.journal in
-    let w : What = loss_what c.args.loss c.args.page c.lose-done.result.0.outcome c.lose-done.result.0.released in
-    let P : Shape → History → Type 0 = λ s h. IsNode s h c.lose-done.new.self.table c.lose-done.new.self.queue in
+    let w : What = loss_what c.args.loss c.args.page c.lose.new.done.outcome c.lose.new.done.released in
+    let P : Shape → History → Type 0 = λ s h. IsNode s h c.lose.new.self.table c.lose.new.self.queue in
     subst (λ h. P c.record.new.self.shape h) (sym (events c)) (subst (λ s. P s (j.events ++ by c.args.caller w ∷ [])) (sym c.record.ensures.shape) (after c).node)
 
 pub returns-clause-recorded : goal.returns-clause-recorded
 returns-clause-recorded c =
     let j = c.self.inside.journal in
     let is = c.self.view_is ∙ c.in_ok-block.ensures.same in
-    let w : What = loss_what c.args.loss c.args.page c.lose-done.result.0.outcome c.lose-done.result.0.released in
+    let w : What = loss_what c.args.loss c.args.page c.lose.new.done.outcome c.lose.new.done.released in
     did_one c.args.self.now _ c.args.caller w j.room 8
     (c.record.ensures.shape ∙ ap (λ (n : NodeState). n.shape) is)
     (events c ∙ ap (λ h. h ++ by c.args.caller w ∷ []) (ap (λ (n : NodeState). n.journal) is))
@@ -100,6 +101,25 @@ returns-in_err-block-clause-fronts c =
 
 pub returns-clause-fronts : goal.returns-clause-fronts
 returns-clause-fronts c =
-    let done = c.lose-done.result.0 in
+    let done = c.lose.new.done in
     fronts_grown c.args.self.now.journal _ (by c.args.caller (loss_what c.args.loss c.args.page done.outcome done.released) ∷ []) (returns-clause-recorded c).journal
     (λ d. loss_takes_none d c.args.caller c.args.page c.args.loss done.outcome done.released)
+
+pub returns-clause-allowed : goal.returns-clause-allowed
+returns-clause-allowed c =
+    let j = c.self.inside.journal in
+    let is = c.self.view_is ∙ c.in_ok-block.ensures.same in
+    ap (λ (n : NodeState). refusal n.shape n.journal (loss_call c.args.loss c.args.page)) (sym is)
+    ∙ allowed j.shape j.events c.self.inside.blocks c.args.page c.in_ok-block.block c.args.loss c.self.invariant (ap (λ (n : NodeState). block_of n.journal c.args.page) is ∙ c.in_ok-block.ensures.block) c.in-Ok.ensures.refusal
+
+pub returns-in-Err-clause-refused : goal.returns-in-Err-clause-refused
+returns-in-Err-clause-refused c =
+    let j = c.self.inside.journal in
+    let b = c.self.inside.blocks in
+    let is = c.self.view_is ∙ c.in_ok-block.ensures.same in
+    let w : Found j.shape j.events b.table c.args.page c.in_ok-block.block =
+    at_home j.shape j.events b.table b.queue c.args.page c.in_ok-block.block c.self.invariant (ap (λ (n : NodeState). block_of n.journal c.args.page) is ∙ c.in_ok-block.ensures.block) in
+    refused_by c.args.self.now _ _ _ _ (ap (λ (b : PlacesState). let n : NodeState = record (the_view c.self.inside) { table = b.table; queue = b.queue } in n) c.in-Err.ensures.kept ∙ c.self.view_is)
+    (ap (λ (n : NodeState). refusal n.shape n.journal (loss_call c.args.loss c.args.page)) (sym is)
+    ∙ refused_by_page j.shape j.events b.table c.args.page c.in_ok-block.block (either.Loss c.args.loss) w ∙ sym (c.in-Err.ensures.refusal w.slot w.at c.args.page))
+    c.in_ok-block.ensures.kept c.in_ok-block.ensures.allowed

@@ -2,7 +2,8 @@ use Rattle.std.proofs.Common.{◌≡◌, ◌∙◌, ◌++◌, [], ap, sym, Ok, N
 use Rattle.thp_text.specs.declared.script.Script.{Script}
 use Rattle.thp_text.specs.Parts.{lines_spell}
 use Rattle.thp_text.specs.TextInParts.{fault_with}
-use Rattle.thp_text.proofs.PartLaws.{end_is_wrong, end_spells, not_there, script_in_range}
+use Rattle.thp_model.proofs.Options.{not_there}
+use Rattle.thp_text.proofs.PartLaws.{end_is_wrong, end_spells, script_in_range}
 use Rattle.thp_text.proofs.TextLaws.{told_end}
 use Rattle.thp_text.proofs.script_reader.ScriptReader.finish.Goals as goal
 

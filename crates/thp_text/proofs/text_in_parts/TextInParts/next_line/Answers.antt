@@ -3,7 +3,7 @@ use Rattle.std.specs.Cow.{cow_slice_items}
 use Rattle.std.specs.Prelude.{vec_len}
 use Rattle.std.proofs.lemmas.Bool.{eqb-true}
 use Rattle.thp_text.specs.Words.{lines_of}
-use Rattle.thp_text.proofs.PartLaws.{not_there}
+use Rattle.thp_model.proofs.Options.{not_there}
 use Rattle.thp_text.proofs.TextLaws.{nothing_begun, still_one_line, whole_line}
 use Rattle.thp_text.proofs.text_in_parts.TextInParts.next_line.Goals as goal
 use Rattle.thp_text.proofs.text_in_parts.TextInParts.next_line.Goals.{then-is_empty, else-is_empty+in_ok-extend_from_slice-2}

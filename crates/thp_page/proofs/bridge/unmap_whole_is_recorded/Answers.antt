@@ -1,5 +1,0 @@
-use Rattle.thp_page.proofs.Recording.{unmap_whole_is_recorded}
-use Rattle.thp_page.proofs.bridge.unmap_whole_is_recorded.Goals as goal
-
-pub returns : goal.returns
-returns c = unmap_whole_is_recorded

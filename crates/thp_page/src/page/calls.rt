@@ -1,0 +1,561 @@
+//! The calls of a page: as a value, by name, and each by itself with its test, its change, and the two in turn.
+ghost use Rattle.std.specs.Prelude.{◌≡◌, ℕ, ◌≤◌, min, OnOk, OnErr, IfOk, None};
+ghost use Rattle.std.specs.Result.{result_err};
+ghost use Rattle.thp_model.specs.Limits.{max_subpages};
+ghost use Rattle.thp_model.specs.Pages.{size, page_refusal, WholeMapped, WholeUnmapped, RangeMapped, RangeUnmapped, PmdSplit, Pinned, RangeWritten, RangeZeroed};
+ghost use Rattle.thp_model.specs.PageCalls.{gain_call, Gains, loss_call, Loses, page_call};
+ghost use Rattle.thp_model.specs.Refusals as call;
+
+use super::{Change, Page};
+use crate::counts::{map_range, subpages_with_count, unmap_range};
+use thp_model::{Gain, Loss, PageCall, Refusal, SubSet, narrowed};
+
+impl Page {
+    ghost use Rattle.thp_page.specs.Changes.{IsChange};
+
+    /// Why a call would be refused, if it would.
+    #[inline(always)]
+    pub fn refusal(&self, call: PageCall) -> Option<Refusal>
+        ensures { (p : ℕ) → result ≡ page_refusal self.now (page_call call p) }
+    {
+        match call {
+            PageCall::Gain(Gain::MapWhole) => self.refusal_map_whole(),
+            PageCall::Gain(Gain::MapSub { first, count }) => self.refusal_map_sub(first, count),
+            PageCall::Gain(Gain::SplitPmd) => self.refusal_split_pmd(),
+            PageCall::Gain(Gain::Pin) => self.refusal_pin(),
+            PageCall::Gain(Gain::Write { first, count }) => self.refusal_write(first, count),
+            PageCall::Gain(Gain::Zero { first, count }) => self.refusal_zero(first, count),
+            PageCall::Loss(Loss::UnmapWhole) => self.refusal_unmap_whole(),
+            PageCall::Loss(Loss::UnmapSub { first, count }) => self.refusal_unmap_sub(first, count),
+            PageCall::Loss(Loss::Unpin) => self.refusal_unpin(),
+        }
+    }
+
+    /// Gives the page mappings or a pin, or fills subpages of it, unless that is refused.
+    #[inline(always)]
+    pub fn gain(&mut self, gain: Gain) -> Result<(), Refusal>
+        ensures refusal { (p : ℕ) → result_err result ≡ page_refusal self.old (gain_call gain p) }
+        ensures counts { OnOk result (Gains gain self.old self.new) }
+        ensures kept { OnErr result (self.new ≡ self.old) }
+    {
+        match gain {
+            Gain::MapWhole => self.try_map_whole(),
+            Gain::MapSub { first, count } => self.try_map_sub(first, count),
+            Gain::SplitPmd => self.try_split_pmd(),
+            Gain::Pin => self.try_pin(),
+            Gain::Write { first, count } => self.try_write(first, count),
+            Gain::Zero { first, count } => self.try_zero(first, count),
+        }
+    }
+
+    /// Takes mappings or a pin from the page, unless that is refused. What that did to its use then stands in `change`.
+    #[inline(always)]
+    pub fn lose(&mut self, loss: Loss, change: &mut Change) -> Result<(), Refusal>
+        ensures refusal { (p : ℕ) → result_err result ≡ page_refusal self.old (loss_call loss p) }
+        ensures counts { OnOk result (Loses loss self.old self.new) }
+        ensures change { OnOk result (IsChange self.old self.new change.new) }
+        ensures kept { OnErr result (self.new ≡ self.old) }
+    {
+        match loss {
+            Loss::UnmapWhole => self.try_unmap_whole(change),
+            Loss::UnmapSub { first, count } => self.try_unmap_sub(first, count, change),
+            Loss::Unpin => self.try_unpin(change),
+        }
+    }
+
+    /// One more mapping of the whole page. Refused as `IsSplit` and `TooMany`.
+    pub fn map_whole(&mut self) -> Result<(), Refusal>
+        ensures refusal { (p : ℕ) → result_err result ≡ page_refusal self.old (call.map_whole p) }
+        ensures counts { OnOk result (WholeMapped self.old self.new) }
+        ensures kept { OnErr result (self.new ≡ self.old) }
+    {
+        self.gain(Gain::MapWhole)
+    }
+
+    /// One mapping of the whole page less. Refused as `IsSplit` and `NotMapped`.
+    pub fn unmap_whole(&mut self) -> Result<Change, Refusal>
+        ensures refusal { (p : ℕ) → result_err result ≡ page_refusal self.old (call.unmap_whole p) }
+        ensures counts { OnOk result (WholeUnmapped self.old self.new) }
+        ensures change { IfOk result (IsChange self.old self.new) }
+        ensures kept { OnErr result (self.new ≡ self.old) }
+    {
+        let mut change = Change::none();
+        self.lose(Loss::UnmapWhole, &mut change)?;
+        Ok(change)
+    }
+
+    /// One more mapping of each of the `count` subpages from `first` on. Refused as `BadRange`, `Gone` and `TooMany`.
+    pub fn map_sub(&mut self, first: u32, count: u32) -> Result<(), Refusal>
+        ensures refusal { (p : ℕ) → result_err result ≡ page_refusal self.old (call.map_sub p first count) }
+        ensures counts { OnOk result (RangeMapped first count self.old self.new) }
+        ensures kept { OnErr result (self.new ≡ self.old) }
+    {
+        let (first, count) = self.operands(first, count);
+        self.gain(Gain::MapSub { first, count })
+    }
+
+    /// One mapping of each of the `count` subpages from `first` on less. Refused as `BadRange` and `NotMapped`.
+    pub fn unmap_sub(&mut self, first: u32, count: u32) -> Result<Change, Refusal>
+        ensures refusal { (p : ℕ) → result_err result ≡ page_refusal self.old (call.unmap_sub p first count) }
+        ensures counts { OnOk result (RangeUnmapped first count self.old self.new) }
+        ensures change { IfOk result (IsChange self.old self.new) }
+        ensures kept { OnErr result (self.new ≡ self.old) }
+    {
+        let (first, count) = self.operands(first, count);
+        let mut change = Change::none();
+        match self.lose(Loss::UnmapSub { first, count }, &mut change) {
+            Ok(()) => Ok(change),
+            Err(refusal) => Err(refusal),
+        }
+    }
+
+    /// Makes a mapping of the whole page into one of each subpage. Refused as `IsSplit` and `NotMapped`.
+    pub fn split_pmd(&mut self) -> Result<(), Refusal>
+        ensures refusal { (p : ℕ) → result_err result ≡ page_refusal self.old (call.split_pmd p) }
+        ensures counts { OnOk result (PmdSplit self.old self.new) }
+        ensures kept { OnErr result (self.new ≡ self.old) }
+    {
+        self.gain(Gain::SplitPmd)
+    }
+
+    /// One more pin, which keeps the page from being split. Refused as `IsSplit` and `TooMany`.
+    pub fn pin(&mut self) -> Result<(), Refusal>
+        ensures refusal { (p : ℕ) → result_err result ≡ page_refusal self.old (call.pin p) }
+        ensures counts { OnOk result (Pinned self.old self.new) }
+        ensures kept { OnErr result (self.new ≡ self.old) }
+    {
+        self.gain(Gain::Pin)
+    }
+
+    /// One pin less. Refused as `IsSplit` and `NotPinned`.
+    pub fn unpin(&mut self) -> Result<(), Refusal>
+        ensures refusal { (p : ℕ) → result_err result ≡ page_refusal self.old (call.unpin p) }
+        ensures counts { OnOk result (Pinned self.new self.old) }
+        ensures kept { OnErr result (self.new ≡ self.old) }
+    {
+        let mut change = Change::none();
+        self.lose(Loss::Unpin, &mut change)
+    }
+
+    /// Data is written to each of the `count` subpages from `first` on, so that none of them is zero-filled any more. Refused
+    /// as `BadRange`, `IsSplit` and `NotMapped`.
+    pub fn write(&mut self, first: u32, count: u32) -> Result<(), Refusal>
+        ensures refusal { (p : ℕ) → result_err result ≡ page_refusal self.old (call.write p first count) }
+        ensures written { OnOk result (RangeWritten first count self.old self.new) }
+        ensures kept { OnErr result (self.new ≡ self.old) }
+    {
+        let (first, count) = self.operands(first, count);
+        self.gain(Gain::Write { first, count })
+    }
+
+    /// Zeros are written to each of the `count` subpages from `first` on, so that all of them are zero-filled. Refused as
+    /// `BadRange`, `IsSplit` and `NotMapped`.
+    pub fn zero(&mut self, first: u32, count: u32) -> Result<(), Refusal>
+        ensures refusal { (p : ℕ) → result_err result ≡ page_refusal self.old (call.zero_fill p first count) }
+        ensures zeroed { OnOk result (RangeZeroed first count self.old self.new) }
+        ensures kept { OnErr result (self.new ≡ self.old) }
+    {
+        let (first, count) = self.operands(first, count);
+        self.gain(Gain::Zero { first, count })
+    }
+
+    // The operands of a range as a page call keeps them.
+    #[inline(always)]
+    fn operands(&self, first: u32, count: u32) -> (u16, u16)
+        ensures first { result.0 ≡ min first 65535 }
+        ensures count { result.1 ≡ min count 65535 }
+        ensures few { size self.now ≤ max_subpages }
+    {
+        // Tells the proof how many subpages the page has at most.
+        let _ = self.subpages();
+        (narrowed(first), narrowed(count))
+    }
+
+    // `map_whole`, or why it is refused.
+    #[inline(always)]
+    fn try_map_whole(&mut self) -> Result<(), Refusal>
+        ensures refusal { (p : ℕ) → result_err result ≡ page_refusal self.old (call.map_whole p) }
+        ensures counts { OnOk result (WholeMapped self.old self.new) }
+        ensures kept { OnErr result (self.new ≡ self.old) }
+    {
+        match self.refusal_map_whole() {
+            Some(refusal) => Err(refusal),
+            None => {
+                self.do_map_whole();
+                Ok(())
+            }
+        }
+    }
+
+    // Why `map_whole` would be refused, if it would.
+    #[tactic(auto, unfolding(thp_model::specs::Pages::page_refusal))]
+    fn refusal_map_whole(&self) -> Option<Refusal>
+        ensures { (p : ℕ) → result ≡ page_refusal self.now (call.map_whole p) }
+    {
+        if self.split {
+            Some(Refusal::IsSplit)
+        } else if self.has_total_at_limit(0, self.subpages()) {
+            Some(Refusal::TooMany)
+        } else {
+            None
+        }
+    }
+
+    // `map_whole`, where it isn't refused.
+    fn do_map_whole(&mut self)
+        requires { page_refusal self.old (call.map_whole 0) ≡ None }
+        ensures { WholeMapped self.old self.new }
+    {
+        self.whole += 1;
+    }
+
+    // `unmap_whole`, or why it is refused.
+    #[inline(always)]
+    fn try_unmap_whole(&mut self, change: &mut Change) -> Result<(), Refusal>
+        ensures refusal { (p : ℕ) → result_err result ≡ page_refusal self.old (call.unmap_whole p) }
+        ensures counts { OnOk result (WholeUnmapped self.old self.new) }
+        ensures change { OnOk result (IsChange self.old self.new change.new) }
+        ensures kept { OnErr result (self.new ≡ self.old) }
+    {
+        match self.refusal_unmap_whole() {
+            Some(refusal) => Err(refusal),
+            None => {
+                *change = self.do_unmap_whole();
+                Ok(())
+            }
+        }
+    }
+
+    // Why `unmap_whole` would be refused, if it would.
+    #[tactic(auto, unfolding(thp_model::specs::Pages::page_refusal))]
+    fn refusal_unmap_whole(&self) -> Option<Refusal>
+        ensures { (p : ℕ) → result ≡ page_refusal self.now (call.unmap_whole p) }
+    {
+        if self.split {
+            Some(Refusal::IsSplit)
+        } else if self.whole == 0 {
+            Some(Refusal::NotMapped)
+        } else {
+            None
+        }
+    }
+
+    // `unmap_whole`, where it isn't refused.
+    fn do_unmap_whole(&mut self) -> Change
+        requires { page_refusal self.old (call.unmap_whole 0) ≡ None }
+        ensures counts { WholeUnmapped self.old self.new }
+        ensures change { IsChange self.old self.new result }
+    {
+        let unused = self.whole == 1 && (self.mapped as usize) < self.subpages();
+        self.whole -= 1;
+        let used_left = self.has_use();
+        self.partly |= unused && used_left;
+        Change {
+            unused,
+            used_left,
+            released: SubSet::empty(),
+        }
+    }
+
+    // `map_sub`, or why it is refused.
+    #[inline(always)]
+    fn try_map_sub(&mut self, first: u16, count: u16) -> Result<(), Refusal>
+        ensures refusal { (p : ℕ) → result_err result ≡ page_refusal self.old (call.map_sub p first count) }
+        ensures counts { OnOk result (RangeMapped first count self.old self.new) }
+        ensures kept { OnErr result (self.new ≡ self.old) }
+    {
+        match self.refusal_map_sub(first, count) {
+            Some(refusal) => Err(refusal),
+            None => {
+                self.do_map_sub(first, count);
+                Ok(())
+            }
+        }
+    }
+
+    // Why `map_sub` would be refused, if it would.
+    #[tactic(auto, unfolding(thp_model::specs::Pages::page_refusal))]
+    #[inline(always)]
+    fn refusal_map_sub(&self, first: u16, count: u16) -> Option<Refusal>
+        ensures { (p : ℕ) → result ≡ page_refusal self.now (call.map_sub p first count) }
+    {
+        if self.is_bad_range(first, count) {
+            return Some(Refusal::BadRange);
+        }
+        let (first, count) = (first as usize, count as usize);
+        if self.split && self.has_gone_frame(first, count) {
+            Some(Refusal::Gone)
+        } else if self.has_total_at_limit(first, count) {
+            Some(Refusal::TooMany)
+        } else {
+            None
+        }
+    }
+
+    // `map_sub`, where it isn't refused.
+    #[inline(always)]
+    fn do_map_sub(&mut self, first: u16, count: u16)
+        requires { page_refusal self.old (call.map_sub 0 first count) ≡ None }
+        ensures { RangeMapped first count self.old self.new }
+    {
+        self.mapped += map_range(&mut self.own, first as usize, count as usize);
+    }
+
+    // `unmap_sub`, or why it is refused.
+    #[inline(always)]
+    fn try_unmap_sub(
+        &mut self,
+        first: u16,
+        count: u16,
+        change: &mut Change,
+    ) -> Result<(), Refusal>
+        ensures refusal { (p : ℕ) → result_err result ≡ page_refusal self.old (call.unmap_sub p first count) }
+        ensures counts { OnOk result (RangeUnmapped first count self.old self.new) }
+        ensures change { OnOk result (IsChange self.old self.new change.new) }
+        ensures kept { OnErr result (self.new ≡ self.old) }
+    {
+        match self.refusal_unmap_sub(first, count) {
+            Some(refusal) => Err(refusal),
+            None => {
+                *change = self.do_unmap_sub(first, count);
+                Ok(())
+            }
+        }
+    }
+
+    // Why `unmap_sub` would be refused, if it would.
+    #[tactic(auto, unfolding(thp_model::specs::Pages::page_refusal))]
+    #[inline(always)]
+    fn refusal_unmap_sub(&self, first: u16, count: u16) -> Option<Refusal>
+        ensures { (p : ℕ) → result ≡ page_refusal self.now (call.unmap_sub p first count) }
+    {
+        if self.is_bad_range(first, count) {
+            Some(Refusal::BadRange)
+        } else if self.has_unmapped(first as usize, count as usize) {
+            Some(Refusal::NotMapped)
+        } else {
+            None
+        }
+    }
+
+    // `unmap_sub`, where it isn't refused.
+    #[inline(always)]
+    fn do_unmap_sub(&mut self, first: u16, count: u16) -> Change
+        requires { page_refusal self.old (call.unmap_sub 0 first count) ≡ None }
+        ensures counts { RangeUnmapped first count self.old self.new }
+        ensures change { IsChange self.old self.new result }
+    {
+        let (first, count) = (first as usize, count as usize);
+        let gone = unmap_range(&mut self.own, first, count);
+        self.mapped -= gone;
+        let unused = self.whole == 0 && gone > 0;
+        let used_left = self.has_use();
+        let released = if self.split {
+            self.without_given(subpages_with_count(&self.own, first, count, 0))
+        } else {
+            SubSet::empty()
+        };
+        self.partly |= unused && used_left;
+        Change {
+            unused,
+            used_left,
+            released,
+        }
+    }
+
+    // `split_pmd`, or why it is refused.
+    #[inline(always)]
+    fn try_split_pmd(&mut self) -> Result<(), Refusal>
+        ensures refusal { (p : ℕ) → result_err result ≡ page_refusal self.old (call.split_pmd p) }
+        ensures counts { OnOk result (PmdSplit self.old self.new) }
+        ensures kept { OnErr result (self.new ≡ self.old) }
+    {
+        match self.refusal_split_pmd() {
+            Some(refusal) => Err(refusal),
+            None => {
+                self.do_split_pmd();
+                Ok(())
+            }
+        }
+    }
+
+    // Why `split_pmd` would be refused, if it would.
+    #[tactic(auto, unfolding(thp_model::specs::Pages::page_refusal))]
+    fn refusal_split_pmd(&self) -> Option<Refusal>
+        ensures { (p : ℕ) → result ≡ page_refusal self.now (call.split_pmd p) }
+    {
+        // Like an unmap it needs a whole mapping.
+        self.refusal_unmap_whole()
+    }
+
+    // `split_pmd`, where it isn't refused.
+    fn do_split_pmd(&mut self)
+        requires { page_refusal self.old (call.split_pmd 0) ≡ None }
+        ensures { PmdSplit self.old self.new }
+    {
+        let subpages = self.subpages();
+        self.whole -= 1;
+        self.mapped += map_range(&mut self.own, 0, subpages);
+    }
+
+    // `pin`, or why it is refused.
+    #[inline(always)]
+    fn try_pin(&mut self) -> Result<(), Refusal>
+        ensures refusal { (p : ℕ) → result_err result ≡ page_refusal self.old (call.pin p) }
+        ensures counts { OnOk result (Pinned self.old self.new) }
+        ensures kept { OnErr result (self.new ≡ self.old) }
+    {
+        match self.refusal_pin() {
+            Some(refusal) => Err(refusal),
+            None => {
+                self.do_pin();
+                Ok(())
+            }
+        }
+    }
+
+    // Why `pin` would be refused, if it would.
+    #[tactic(auto, unfolding(thp_model::specs::Pages::page_refusal))]
+    #[inline(always)]
+    fn refusal_pin(&self) -> Option<Refusal>
+        ensures { (p : ℕ) → result ≡ page_refusal self.now (call.pin p) }
+    {
+        if self.split {
+            Some(Refusal::IsSplit)
+        } else if self.pins == u16::MAX {
+            Some(Refusal::TooMany)
+        } else {
+            None
+        }
+    }
+
+    // `pin`, where it isn't refused.
+    #[inline(always)]
+    fn do_pin(&mut self)
+        requires { page_refusal self.old (call.pin 0) ≡ None }
+        ensures { Pinned self.old self.new }
+    {
+        self.pins += 1;
+    }
+
+    // `unpin`, or why it is refused.
+    #[inline(always)]
+    fn try_unpin(&mut self, change: &mut Change) -> Result<(), Refusal>
+        ensures refusal { (p : ℕ) → result_err result ≡ page_refusal self.old (call.unpin p) }
+        ensures counts { OnOk result (Pinned self.new self.old) }
+        ensures change { OnOk result (IsChange self.old self.new change.new) }
+        ensures kept { OnErr result (self.new ≡ self.old) }
+    {
+        match self.refusal_unpin() {
+            Some(refusal) => Err(refusal),
+            None => {
+                self.do_unpin();
+                *change = Change {
+                    unused: false,
+                    used_left: self.has_use(),
+                    released: SubSet::empty(),
+                };
+                Ok(())
+            }
+        }
+    }
+
+    // Why `unpin` would be refused, if it would.
+    #[tactic(auto, unfolding(thp_model::specs::Pages::page_refusal))]
+    #[inline(always)]
+    fn refusal_unpin(&self) -> Option<Refusal>
+        ensures { (p : ℕ) → result ≡ page_refusal self.now (call.unpin p) }
+    {
+        if self.split {
+            Some(Refusal::IsSplit)
+        } else if self.pins == 0 {
+            Some(Refusal::NotPinned)
+        } else {
+            None
+        }
+    }
+
+    // `unpin`, where it isn't refused.
+    #[inline(always)]
+    fn do_unpin(&mut self)
+        requires { page_refusal self.old (call.unpin 0) ≡ None }
+        ensures { Pinned self.new self.old }
+    {
+        self.pins -= 1;
+    }
+
+    // `write`, or why it is refused.
+    #[inline(always)]
+    fn try_write(&mut self, first: u16, count: u16) -> Result<(), Refusal>
+        ensures refusal { (p : ℕ) → result_err result ≡ page_refusal self.old (call.write p first count) }
+        ensures written { OnOk result (RangeWritten first count self.old self.new) }
+        ensures kept { OnErr result (self.new ≡ self.old) }
+    {
+        match self.refusal_write(first, count) {
+            Some(refusal) => Err(refusal),
+            None => {
+                self.do_write(first, count);
+                Ok(())
+            }
+        }
+    }
+
+    // Why `write` would be refused, if it would.
+    #[tactic(auto, unfolding(thp_model::specs::Pages::page_refusal))]
+    fn refusal_write(&self, first: u16, count: u16) -> Option<Refusal>
+        ensures { (p : ℕ) → result ≡ page_refusal self.now (call.write p first count) }
+    {
+        if self.is_bad_range(first, count) {
+            Some(Refusal::BadRange)
+        } else if self.split {
+            Some(Refusal::IsSplit)
+        } else if self.has_unused(first as usize, count as usize) {
+            Some(Refusal::NotMapped)
+        } else {
+            None
+        }
+    }
+
+    // `write`, where it isn't refused.
+    fn do_write(&mut self, first: u16, count: u16)
+        requires { page_refusal self.old (call.write 0 first count) ≡ None }
+        ensures { RangeWritten first count self.old self.new }
+    {
+        self.zero = self
+            .zero
+            .difference(SubSet::range(first as u32, count as u32));
+    }
+
+    // `zero`, or why it is refused.
+    #[inline(always)]
+    fn try_zero(&mut self, first: u16, count: u16) -> Result<(), Refusal>
+        ensures refusal { (p : ℕ) → result_err result ≡ page_refusal self.old (call.zero_fill p first count) }
+        ensures zeroed { OnOk result (RangeZeroed first count self.old self.new) }
+        ensures kept { OnErr result (self.new ≡ self.old) }
+    {
+        match self.refusal_zero(first, count) {
+            Some(refusal) => Err(refusal),
+            None => {
+                self.do_zero(first, count);
+                Ok(())
+            }
+        }
+    }
+
+    // Why `zero` would be refused, if it would.
+    #[tactic(auto, unfolding(thp_model::specs::Pages::page_refusal))]
+    fn refusal_zero(&self, first: u16, count: u16) -> Option<Refusal>
+        ensures { (p : ℕ) → result ≡ page_refusal self.now (call.zero_fill p first count) }
+    {
+        // Zeros are written as data is.
+        self.refusal_write(first, count)
+    }
+
+    // `zero`, where it isn't refused.
+    fn do_zero(&mut self, first: u16, count: u16)
+        requires { page_refusal self.old (call.zero_fill 0 first count) ≡ None }
+        ensures { RangeZeroed first count self.old self.new }
+    {
+        self.zero = self.zero.union(SubSet::range(first as u32, count as u32));
+    }
+}

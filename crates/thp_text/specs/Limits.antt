@@ -1,0 +1,15 @@
+-- The limits of a run and of its texts (this project's profile), each once.
+use Rattle.std.specs.Prelude.{ℕ, ◌-◌}
+use Rattle.thp_model.specs.Limits.{max_callers}
+
+-- the most nodes of a run
+abbrev pub max_nodes : ℕ
+max_nodes = 8
+
+-- the most workers of a run: each is a caller, and `setup` is one too
+abbrev pub max_workers : ℕ
+max_workers = max_callers - 1
+
+-- the most bytes of an input, 16 MiB
+abbrev pub max_input : ℕ
+max_input = 16777216

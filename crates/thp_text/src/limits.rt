@@ -1,0 +1,21 @@
+//! The limits of a run and of its texts (this project's profile).
+ghost use Rattle.std.specs.Prelude.{◌≡◌};
+ghost use Rattle.thp_text.specs.Limits.{max_input, max_nodes, max_workers};
+
+use thp_model::MAX_CALLERS;
+
+/// The most nodes of a run.
+pub const MAX_NODES: usize = 8;
+
+/// The most workers of a run: each is a caller, and `setup` is one too.
+pub const MAX_WORKERS: u32 = MAX_CALLERS - 1;
+
+/// The most bytes of an input, 16 MiB.
+pub const MAX_INPUT: usize = 16_777_216;
+
+/// The definitions have the limits that the code has.
+pub fn run_limits_are_defined()
+    ensures nodes { MAX_NODES ≡ max_nodes }
+    ensures workers { MAX_WORKERS ≡ max_workers }
+    ensures input { MAX_INPUT ≡ max_input }
+{}
