@@ -31,11 +31,8 @@ pub(crate) fn lose_by(
         Ok(()) => {}
         Err(refusal) => return Err(refusal),
     }
-    let outcome = outcome_of(page, &change, standing, closed);
-    *done = Done {
-        outcome,
-        released: released_by(page, &change, outcome),
-    };
+    done.outcome = outcome_of(page, &change, standing, closed);
+    release(page, &change, done.outcome, &mut done.released);
     Ok(())
 }
 
@@ -55,12 +52,12 @@ fn outcome_of(page: &Page, change: &Change, standing: Standing, closed: bool) ->
 }
 
 // The frames that a change gives back: all, where it frees a page that isn't split.
-fn released_by(page: &Page, change: &Change, outcome: Outcome) -> SubSet
-    ensures { result ≡ released_after page.now change.now outcome }
+fn release(page: &Page, change: &Change, outcome: Outcome, released: &mut SubSet)
+    ensures { released.new ≡ released_after page.now change.now outcome }
 {
     if outcome == Outcome::Freed && !page.is_split() {
-        SubSet::full(page.order())
+        *released = SubSet::full(page.order());
     } else {
-        change.released
+        *released = change.released;
     }
 }

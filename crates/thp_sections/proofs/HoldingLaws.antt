@@ -36,7 +36,7 @@ use Rattle.thp_sections.specs.declared.steps.Step.TheVariants.{Take, SplitNext, 
 use Rattle.thp_sections.specs.declared.reply.Reply.{Reply}
 use Rattle.thp_sections.specs.declared.reply.Reply.TheVariants as reply
 use Rattle.thp_sections.specs.Does.{Open, Reaction, Does, DoesCall, open_of, refusal_of, refusal_of_call}
-use Rattle.thp_sections.specs.Holdings.{IsHeld, Acts, HeldAnswered, HeldDone, batch_of, open_in, unit_reply, loss_reply}
+use Rattle.thp_sections.specs.Holdings.{IsHeld, Acts, HeldAnswered, HeldDone, batch_of, open_in, unit_reply, loss_reply, page_reply}
 
 -- a call is never refused at a history for want of memory
 memory_last : (b : Bool) (why : Refusal) (rest : Option Refusal) → (why ≡ OutOfMemory → ⊥) → (rest ≡ Some OutOfMemory → ⊥) → cond b (Some why) rest ≡ Some OutOfMemory → ⊥
@@ -184,6 +184,12 @@ count_done p q bs c n f is = record {
 
 pub call_failed : (p q : PassState) (bs : List (Option BatchState)) (c : ℕ) (k : NodeCall) (m : ℕ) (fault : CellFault) → q ≡ at_front p q.front → Failed p q (refusal_of_call q.shape q.front k) m fault → HeldDone c (steps.One k) (record { pass = p; batches = bs }) (record { pass = q; batches = bs }) (Err fault)
 call_failed p q bs c k m fault same failed = held_failed p q bs c same (steps.One k) m fault failed (λ h why e. does_refused p.shape h c k _ why e)
+
+-- an allocation, done or not
+pub alloc_told : (p q : PassState) (bs : List (Option BatchState)) (c : ℕ) (r : Result ℕ CellFault) → q ≡ at_front p q.front → IfOk r (λ page. Called p q c (DidAlloc p.shape c page)) → IfErr r (Failed p q (refusal_of_call q.shape q.front node.Alloc) 1)
+    → HeldDone c (steps.One node.Alloc) (record { pass = p; batches = bs }) (record { pass = q; batches = bs }) (page_reply r)
+alloc_told p q bs c (Ok page) same called failed = alloc_done p q bs c page same called
+alloc_told p q bs c (Err fault) same called failed = call_failed p q bs c node.Alloc 1 fault same failed
 
 -- a call that tells nothing
 pub unit_done : (p q : PassState) (bs : List (Option BatchState)) (c : ℕ) (k : NodeCall) (w : What) (r : Result (Unit {0}) CellFault) (m : ℕ) (call : Call) → q ≡ at_front p q.front → OnOk r (Called p q c (DidOne p.shape call c w)) → IfErr r (Failed p q (refusal_of_call q.shape q.front k) m)

@@ -67,6 +67,11 @@ HeldDone c step old new (Err Busy) = (new ≡ old) × (HasAll old.pass → ⊥)
 HeldDone c step old new (Err (Refused OutOfMemory)) = HeldOutOf c step old new
 HeldDone c step old new (Err (Refused why)) = HeldAnswered c step old new (Err why)
 
+-- what an allocation is answered
+abbrev pub page_reply : Result ℕ CellFault → Result Reply CellFault
+page_reply (Ok page) = Ok (reply.Page page)
+page_reply (Err fault) = Err fault
+
 -- what a call that tells nothing is answered
 abbrev pub unit_reply : Result (Unit {0}) CellFault → Result Reply CellFault
 unit_reply (Ok x) = Ok reply.Unit

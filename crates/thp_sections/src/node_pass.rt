@@ -1,11 +1,11 @@
 //! A pass of one node, with the open batches of its callers there.
-ghost use Rattle.std.specs.Prelude.{◌≡◌, ◌<◌, ◌≤◌, ℕ, length, slice_get, slice_set, IfOk, MatchBool, None, Some};
+ghost use Rattle.std.specs.Prelude.{◌≡◌, ◌<◌, ◌≤◌, ℕ, length, slice_get, slice_set, IfOk, MatchBool, None, Ok, Some};
 ghost use Rattle.thp_model.specs.Legal.{IsLegal};
 ghost use Rattle.thp_cell.specs.Calls.{IsJoined, PartsStay};
 ghost use Rattle.thp_cell.specs.Views.{HasCaller};
 ghost use Rattle.thp_sections.specs.Does.{answer_of, IsStep};
 ghost use Rattle.thp_sections.specs.Sections.{is_open};
-ghost use Rattle.thp_sections.specs.Holdings.{batch_of, lower_part, loss_reply, unit_reply, upper_part, HeldDone, IsSomeBatch, OpenStay};
+ghost use Rattle.thp_sections.specs.Holdings.{batch_of, lower_part, loss_reply, page_reply, unit_reply, upper_part, HeldDone, IsSomeBatch, OpenStay};
 
 use crate::reply::Reply;
 use crate::steps::{NodeCall, Step};
@@ -161,19 +161,10 @@ impl<'a> NodePass<'a> {
         ensures { HeldDone caller (Step.One call) self.old self.new (answer_of result reply.new) }
     {
         match call {
-            NodeCall::Alloc => match self.cell.alloc_page(&mut self.pass, caller) {
-                Ok(page) => {
-                    *reply = Reply::Page(page);
-                    Ok(())
-                }
-                Err(fault) => Err(fault),
-            },
+            NodeCall::Alloc => page(self.cell.alloc_page(&mut self.pass, caller), reply),
             NodeCall::Page { page, call } => self.page_call(caller, page, call, reply),
             NodeCall::Close => unit(self.cell.close(&mut self.pass, caller), reply),
-            NodeCall::Count => {
-                *reply = Reply::Count(self.cell.count(&mut self.pass));
-                Ok(())
-            }
+            NodeCall::Count => count(self.cell.count(&mut self.pass), reply),
         }
     }
 
@@ -280,6 +271,21 @@ fn put_at(batches: &mut Vec<Option<Batch>>, place: usize, batch: Batch)
     ensures { batches.new.items ≡ slice_set batches.old.items place (Some batch) }
 {
     batches[place] = Some(batch);
+}
+
+// What calls are replied, each kind in a function of its own, so that no step makes room for another's.
+fn page(called: Result<PageId, CellFault>, reply: &mut Reply) -> Result<(), CellFault>
+    ensures { answer_of result reply.new ≡ page_reply called }
+{
+    *reply = Reply::Page(called?);
+    Ok(())
+}
+
+fn count(queued: u32, reply: &mut Reply) -> Result<(), CellFault>
+    ensures { answer_of result reply.new ≡ Ok (Reply.Count queued) }
+{
+    *reply = Reply::Count(queued);
+    Ok(())
 }
 
 fn unit(called: Result<(), CellFault>, reply: &mut Reply) -> Result<(), CellFault>

@@ -450,11 +450,9 @@ impl Page {
             Some(refusal) => Err(refusal),
             None => {
                 self.do_unpin();
-                *change = Change {
-                    unused: false,
-                    used_left: self.has_use(),
-                    released: SubSet::empty(),
-                };
+                change.unused = false;
+                change.used_left = self.has_use();
+                change.released = SubSet::empty();
                 Ok(())
             }
         }

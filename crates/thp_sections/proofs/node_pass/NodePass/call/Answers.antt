@@ -2,8 +2,7 @@ use Rattle.std.proofs.Common.{refl}
 use Rattle.thp_model.specs.Refusals as call
 use Rattle.thp_model.specs.declared.events.What.TheVariants as what
 use Rattle.thp_sections.specs.declared.steps.NodeCall.TheVariants as node
-use Rattle.thp_sections.proofs.HoldingLaws.{held_stays, alloc_done, count_done, call_failed, unit_done}
-use Rattle.thp_sections.proofs.node_pass.NodePass.call.Goals.{in-Ok, in-Err}
+use Rattle.thp_sections.proofs.HoldingLaws.{held_stays, alloc_told, count_done, unit_done}
 use Rattle.thp_sections.proofs.node_pass.NodePass.call.Goals as goal
 
 pub invariant_of-self : goal.invariant_of-self
@@ -15,19 +14,13 @@ invariant_of-self-in-Close c = held_stays _ c.self-in-Close.inside.pass c.close.
 pub invariant_of-self-in-Count : goal.invariant_of-self-in-Count
 invariant_of-self-in-Count c = held_stays _ c.self-in-Count.inside.pass c.count.new.pass _ c.self-in-Count.invariant c.count.ensures.follows.same c.count.ensures.follows.batches
 
-pub returns-after-alloc_page : goal.returns-after-alloc_page
-returns-after-alloc_page c =
-    let p = c.self.inside.pass in
-    let q = c.alloc_page.new.pass in
-    let bs = c.self.inside.batches.items in
-    rw (c.in-Alloc.is, ← c.self.view_is)
-    (elim c.match-alloc_page.branch [
-      | in-Ok w ↦ rw (w.result-is, w.reply-is) (alloc_done p q bs c.args.caller w.in-Ok.page c.alloc_page.ensures.same w.in-Ok.ensures.recorded)
-      | in-Err w ↦ rw w.result-is (call_failed p q bs c.args.caller node.Alloc 1 w.in-Err.fault c.alloc_page.ensures.same w.in-Err.ensures.failed)
-    ])
+pub returns-in-Alloc : goal.returns-in-Alloc
+returns-in-Alloc c =
+    rw (c.in-Alloc.is, ← c.self.view_is, c.page.ensures)
+    (alloc_told c.self.inside.pass c.alloc_page.new.pass c.self.inside.batches.items c.args.caller c.alloc_page.result c.alloc_page.ensures.same c.alloc_page.ensures.recorded c.alloc_page.ensures.failed)
 
 pub returns-in-Count : goal.returns-in-Count
-returns-in-Count c = rw (c.in-Count.is, ← c.self-in-Count.view_is) (count_done c.self-in-Count.inside.pass c.count.new.pass c.self-in-Count.inside.batches.items c.args.caller c.count.result c.count.ensures.follows c.count.ensures.count)
+returns-in-Count c = rw (c.in-Count.is, ← c.self-in-Count.view_is, c.count-in-Count.ensures) (count_done c.self-in-Count.inside.pass c.count.new.pass c.self-in-Count.inside.batches.items c.args.caller c.count.result c.count.ensures.follows c.count.ensures.count)
 
 pub returns-in-Close : goal.returns-in-Close
 returns-in-Close c =
