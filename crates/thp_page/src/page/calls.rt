@@ -303,12 +303,7 @@ impl Page {
 
     // `unmap_sub`, or why it is refused.
     #[inline(always)]
-    fn try_unmap_sub(
-        &mut self,
-        first: u16,
-        count: u16,
-        change: &mut Change,
-    ) -> Result<(), Refusal>
+    fn try_unmap_sub(&mut self, first: u16, count: u16, change: &mut Change) -> Result<(), Refusal>
         ensures refusal { (p : ℕ) → result_err result ≡ page_refusal self.old (call.unmap_sub p first count) }
         ensures counts { OnOk result (RangeUnmapped first count self.old self.new) }
         ensures change { OnOk result (IsChange self.old self.new change.new) }
