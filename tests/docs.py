@@ -5,6 +5,8 @@
 With the word `toolchain` one line tells where another toolchain is installed than everything was proved with.
 """
 
+from __future__ import annotations
+
 import re
 import shutil
 import subprocess

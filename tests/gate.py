@@ -3,6 +3,8 @@
 The status is 0 exactly where nothing failed. Each script of `OUTSIDE` ends in a count of its own, which is added up.
 """
 
+from __future__ import annotations
+
 import re
 import subprocess
 import sys

@@ -5,6 +5,8 @@
 A stand-in takes the place of the built program, so nothing is proved or built here.
 """
 
+from __future__ import annotations
+
 import re
 import shutil
 import subprocess
