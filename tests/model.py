@@ -1,8 +1,8 @@
 """A plain reading of docs/MODEL.md: what a node does, event by event. It shares no code with the program.
 
-A node is told one event at a time (`Node.alloc`, `Node.unmap_sub`, `Node.taken`, ..); each method does the event, writes
-its journal line and gives its answer, or raises `Refused` with the word of the refusal and changes nothing. An event that
-no call could have recorded at that place raises `Misfit`. The calls of the shrinker are made of such events.
+A node is told one event at a time (`Node.alloc`, `Node.unmap_sub`, `Node.taken`, ..); each method does the event,
+writes its journal line and gives its answer, or raises `Refused` with the word of the refusal and changes nothing. An
+event that no call could have recorded at that place raises `Misfit`. The calls of the shrinker are made of such events.
 """
 
 from __future__ import annotations
@@ -14,7 +14,8 @@ MOST = 65_535
 """No map count of a subpage and no count of pins goes beyond it."""
 
 REFUSALS = (
-    "no-page", "bad-range", "is-split", "not-mapped", "gone", "not-pinned", "too-many", "closed", "no-block", "has-batch",
+    "no-page", "bad-range", "is-split", "not-mapped", "gone", "not-pinned", "too-many", "closed", "no-block",
+    "has-batch",
 )
 """The words of all refusals."""
 
@@ -52,7 +53,9 @@ class Page:
 
     def used(self) -> set[int]:
         """The subpages that are mapped."""
-        return {i for i in range(len(self.own)) if self.total(i)}
+        if self.whole:
+            return set(range(len(self.own)))
+        return {i for i, own in enumerate(self.own) if own}
 
 
 class Node:

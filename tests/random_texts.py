@@ -64,13 +64,14 @@ def option(chance: Random, name: str, value: str) -> list[str]:
 
 
 def random_shapes(chance: Random, nodes: int) -> list[Shape]:
-    """Nodes of any orders, with and without a threshold, which have as many blocks."""
+    """Nodes which have as many blocks: plain ones, ones of any orders, or such that may have thresholds, too."""
     blocks = chance.choice((1, 2, 3, 5, 16, 16, 64, 4096))
+    kind = chance.choice(("plain", "orders", "thresholds", "thresholds", "thresholds"))
     shapes: list[Shape] = []
     for _ in range(nodes):
-        order = chance.choice((2, 2, 2, 3, 9, chance.randrange(2, 10)))
+        order = 9 if kind == "plain" else chance.choice((2, 2, 2, 3, 9, chance.randrange(2, 10)))
         switch = chance.choice((None, None, 0, 1, 2**order - 1, chance.randrange(2**order)))
-        shapes.append((blocks, order, switch))
+        shapes.append((blocks, order, switch if kind == "thresholds" else None))
     return shapes
 
 
@@ -88,13 +89,20 @@ ANY = tuple(word for word in COMMANDS if word != "close")
 USUAL = ANY + ("alloc",) * 2 + ("splitpmd",) * 4 + ("unmap",) * 8 + ("write", "scan", "scan", "take")
 
 
+PLAIN = tuple(word for word in USUAL if word not in ("write", "zero"))
+HOLDING = USUAL + ("splitnext",) * 12 + ("putback", "unmapwhole", "unmap")
+EMPTY = ANY + ("alloc",) * 30
+
+
 def likely_words(run: Run, number: int) -> tuple[str, ...]:
-    """Words of commands that mostly do something on a node."""
+    """Words of commands that mostly do something on a node. What only version 3 of a journal tells is rare elsewhere."""
     node = run.nodes[number]
     if number in run.batches:
-        return USUAL + ("splitnext",) * 12 + ("putback", "unmapwhole", "unmap")
+        return HOLDING
     if not node.live and not node.closed:
-        return ANY + ("alloc",) * 30
+        return EMPTY
+    if all(it.underused is None for it in run.nodes) and len(node.journal) % 8:
+        return PLAIN
     return USUAL
 
 

@@ -2,7 +2,7 @@
 
 from __future__ import annotations
 
-from typing import Optional
+from typing import Optional, Sequence
 
 OPTIONS = {
     "nodes": "NODES",
@@ -26,9 +26,9 @@ NOT_TEXT = b"error: invalid UTF-8 was detected in one or more arguments\n"
 """Told where a word isn't UTF-8."""
 
 
-def usage(told: str = "[OPTIONS]") -> str:
-    """The line of usage, with an empty line before it."""
-    return f"\n\nUsage: thpsplit {told}"
+def usage(named: Sequence[str] = ()) -> str:
+    """The line of usage, with an empty line before it. It names the options that it is told of."""
+    return f"\n\nUsage: thpsplit {' '.join(map(option, named)) or '[OPTIONS]'}"
 
 
 def option(name: str) -> str:
@@ -72,15 +72,17 @@ def no_report(value: str, similar: Optional[str] = None) -> bytes:
     return f"error: invalid value '{value}' for '{option('report')}'{possible}{tip}{TRY}".encode()
 
 
-def unexpected(word: str, similar: Optional[str] = None) -> bytes:
-    """A word is no option, and nothing else may stand there; an option whose name is near is named."""
-    if similar is None:
-        return f"error: unexpected argument '{word}' found{usage()}{TRY}".encode()
-    tip = f"\n\n  tip: a similar argument exists: '--{similar}'"
-    return f"error: unexpected argument '{word}' found{tip}{usage(option(similar))}{TRY}".encode()
+def unexpected(word: str, similar: Optional[str] = None, used: Sequence[str] = ()) -> bytes:
+    """A word is no option, and nothing else may stand there; an option whose name is near is named.
+
+    `used` are the options before it, where the word begins with `--`.
+    """
+    tip = "" if similar is None else f"\n\n  tip: a similar argument exists: '--{similar}'"
+    named = [*used, *([] if similar is None else [similar])]
+    return f"error: unexpected argument '{word}' found{tip}{usage(named)}{TRY}".encode()
 
 
 def attached(name: str, value: str) -> bytes:
-    """A value is attached to an option that takes none."""
+    """A value is attached to an option that takes none, and that stands first."""
     why = f"unexpected value '{value}' for '--{name}' found; no more were expected"
-    return f"error: {why}{usage(option(name))}{TRY}".encode()
+    return f"error: {why}{usage([name])}{TRY}".encode()
