@@ -64,14 +64,20 @@ SCRIPTS: list[tuple[bytes, int, str]] = [
 """Scripts for one node and one worker: the text, the line and the word of its first fault."""
 
 COUNTS: dict[str, int] = {
-    "alloc": 1, "mapwhole": 2, "unmapwhole": 2, "map": 4, "unmap": 4, "write": 4, "zero": 4, "splitpmd": 2, "pin": 2, "unpin": 2,
-    "close": 1, "count": 1, "scan": 2, "take": 2, "splitnext": 1, "putback": 1,
+    "alloc": 1, "mapwhole": 2, "unmapwhole": 2, "map": 4, "unmap": 4, "write": 4, "zero": 4, "splitpmd": 2,
+    "pin": 2, "unpin": 2, "close": 1, "count": 1, "scan": 2, "take": 2, "splitnext": 1, "putback": 1,
 }
 """How many operands each command has."""
 
 ONE = b"thp-journal 1\nnode 0 blocks 1\n"
 TWO = b"thp-journal 2\nnode 0 blocks 1 order 2\n"
 THREE = b"thp-journal 3\nnode 0 blocks 2 order 2 underused 1\n"
+
+NO_SETS = (
+    b"512", b"0-512", b"1-1", b"2-1", b"0,1", b"0-1,2", b"1,0", b",", b"0,", b"-1", b"0-", b"--", b"00", b"0--1", b"x",
+    b"0-1-2",
+)
+"""Words that aren't sets."""
 
 JOURNALS: list[tuple[bytes, int, str]] = [
     (b"", 1, "cut"),
@@ -138,8 +144,7 @@ JOURNALS: list[tuple[bytes, int, str]] = [
     (ONE + b"0 unmapwhole 0 left - -\nend\n", 3, "bad-word"),
     (ONE + b"0 unpin 0 stays - -\nend\n", 3, "bad-count"),
     (ONE + b"0 split 0\nend\n", 3, "bad-count"),
-    *[(ONE + b"0 split 0 " + text + b"\nend\n", 3, "bad-set") for text in (
-        b"512", b"0-512", b"1-1", b"2-1", b"0,1", b"0-1,2", b"1,0", b",", b"0,", b"-1", b"0-", b"--", b"00", b"0--1", b"x", b"0-1-2")],
+    *[(ONE + b"0 split 0 " + text + b"\nend\n", 3, "bad-set") for text in NO_SETS],
     (ONE + b"x split 0 512\nend\n", 3, "bad-number"),
     (ONE + b"0 split 0 512\nend\n0 fly\n", 3, "bad-set"),
     (ONE + b"0 pin 0\n0 fly 0\nend\n", 4, "bad-word"),

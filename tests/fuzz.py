@@ -5,8 +5,9 @@
 
 What is wanted of each text (the exit status, standard output and standard error) is made by model.py, script.py and
 texts.py, and of words by usage.py. The program's help has to tell each option, command, refusal and fault that stands
-there, and no other. At the end a table tells what was covered, by kind. The first ten texts that differ are kept in FOLDER,
-and the exit status is then 1; as it is where 2,000 cases or more left something out that is to be covered.
+there, and no other option or command. At the end a table tells what was covered, by kind. The first ten texts that
+differ are kept in FOLDER, and the exit status is then 1; as it is where 2,000 cases or more left out something that is
+to be covered.
 """
 
 from __future__ import annotations
@@ -92,15 +93,18 @@ def cover_run(case: Case, script: Script, journal: list[str]) -> None:
     """Notes the commands, answers and events of a run, its nodes and its workers."""
     lines = [line for _, commands in script.sections for line in commands]
     for line, told in zip(lines, script.run.answers):
-        word, answer = line.split(" ", 1)[0], told.split(" ")[2:]
-        case.cover("commands", word)
-        case.cover("refusals" if answer[0] == "refused" else "answers", answer[1] if answer[0] == "refused" else answer[0])
+        case.cover("commands", line.split(" ")[0])
+        answer = told.split(" ")[2:]
+        if answer[0] == "refused":
+            case.cover("refusals", answer[1])
+        else:
+            case.cover("answers", answer[0])
     for line in journal[1:-1]:
         if not line.startswith("node"):
             case.cover("events", line.split(" ")[1])
     for _, order, switch in script.shapes:
         case.cover("orders", order)
-        case.cover("thresholds", "off" if switch is None else "0" if switch == 0 else "all but one" if switch == 2**order - 1 else "other")
+        case.cover("thresholds", {None: "off", 0: "0", 2**order - 1: "all but one"}.get(switch, "other"))
     case.cover("nodes", len(script.shapes))
     case.cover("workers at work", sum(1 for caller, _ in script.sections if caller))
     case.cover("versions of journals", journal[0][-1])
@@ -224,7 +228,9 @@ KIND_OF = ("one worker", "workers on nodes of their own", "spoilt scripts", "one
            "one worker", "workers on nodes of their own", "words", "one worker", "lists")
 """The kinds of cases, in turn; each 500th is another."""
 
-ANSWERS = ("page", "ok", "stays", "queued", "freed", "count", "taken", "split", "pinned", "used", "done", "no-batch", "back")
+ANSWERS = (
+    "page", "ok", "stays", "queued", "freed", "count", "taken", "split", "pinned", "used", "done", "no-batch", "back",
+)
 TO_COVER: dict[str, tuple[str, ...]] = {
     "kinds of cases": tuple(KINDS),
     "commands": COMMANDS,
@@ -255,7 +261,7 @@ def help_is_whole(program: Path) -> list[str]:
     after = told.partition("\nCommands:\n")[2]
     commands = re.findall(r"^  ([a-z]+) ", after.partition("\n\n")[0], re.M)
     pairs = [("option", sorted(options), sorted(usage.OPTIONS)), ("command", sorted(commands), sorted(COMMANDS))]
-    wrong = [f"help tells {kind}s {found}, which are to be {wanted}" for kind, found, wanted in pairs if found != wanted]
+    wrong = [f"help tells {what}s {found}, and not {wanted}" for what, found, wanted in pairs if found != wanted]
     for word in (*REFUSALS, *FAULT_WORDS):
         if not re.search(rf"(?<![\w-]){word}(?![\w-])", after):
             wrong.append(f"help doesn't tell '{word}'")
@@ -297,7 +303,8 @@ def try_cases(asked: tuple[Path, int, range]) -> Outcome:
 def run(program: Path, probe: Probe) -> Ended:
     """Runs the program."""
     try:
-        done = subprocess.run([program, *probe.words], input=probe.text, capture_output=True, timeout=SECONDS, check=False)
+        words = [program, *probe.words]
+        done = subprocess.run(words, input=probe.text, capture_output=True, timeout=SECONDS, check=False)
     except subprocess.TimeoutExpired as late:
         return Ended(-9, late.stdout or b"", late.stderr or b"")
     return Ended(done.returncode, done.stdout, done.stderr)

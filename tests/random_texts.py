@@ -95,7 +95,7 @@ EMPTY = ANY + ("alloc",) * 30
 
 
 def likely_words(run: Run, number: int) -> tuple[str, ...]:
-    """Words of commands that mostly do something on a node. What only version 3 of a journal tells is rare elsewhere."""
+    """Words of commands that mostly do something on a node. What version 3 of a journal alone tells is rare elsewhere."""
     node = run.nodes[number]
     if number in run.batches:
         return HOLDING
@@ -157,7 +157,7 @@ def script_of_limits(chance: Random) -> Script:
 
 
 def changed_journal(chance: Random, journal: list[str]) -> list[str]:
-    """The journal with one event line left out, doubled, put elsewhere, of another kind, or with another number in it."""
+    """The journal with one event left out, doubled, put elsewhere, of another kind, or with another number in it."""
     events = [place for place, line in enumerate(journal) if line.split()[0].isdigit()]
     if not events:
         return journal
@@ -191,19 +191,21 @@ def random_event(chance: Random) -> str:
     return " ".join(words)
 
 
-BYTES = (b"\t", b"\r", b"\x00", b"\x1f", b"\x7f", b"\x80", b"\xff", b"\xc3\xa9", b" ", b"#", b"0", b"-", b",", b"\n", b"~")
+BYTES = (
+    b"\t", b"\r", b"\x00", b"\x1f", b"\x7f", b"\x80", b"\xff", b"\xc3\xa9", b" ", b"#", b"0", b"-", b",", b"\n", b"~",
+)
 """Bytes that are put into a text."""
 
 STRANGE = (
-    "", "x", "00", "01", "-1", "+1", "0x1", "1e3", "65535", "65536", "129", "128", "511", "512", "4097", "18446744073709551615",
-    "18446744073709551616", "off", "-", "0-1", "1-0", "0,1", "0-511", ",", "setup", "worker", "node", "end", "thp-journal",
-    "stays", "freed", "queued", "blocks", "order", "underused", "63", "64", "9" * 40,
+    "", "x", "00", "01", "-1", "+1", "0x1", "1e3", "65535", "65536", "129", "128", "511", "512", "4097", "63", "64",
+    "18446744073709551615", "18446744073709551616", "9" * 40, "off", "-", "0-1", "1-0", "0,1", "0-511", ",", "setup",
+    "worker", "node", "end", "thp-journal", "stays", "freed", "queued", "blocks", "order", "underused",
 )
 """Words that are put into a text."""
 
 
 def spoilt(chance: Random, text: bytes, words: tuple[str, ...]) -> bytes:
-    """A text with one change: of a byte, of a word, of a line, or of its end. `words` are some that its lines begin with."""
+    """A text with one change: of a byte, a word, a line, or its end. `words` are some that name what a line says."""
     kind = chance.randrange(8)
     at = chance.randrange(len(text) + 1)
     if kind == 0:
@@ -217,13 +219,17 @@ def spoilt(chance: Random, text: bytes, words: tuple[str, ...]) -> bytes:
     if kind in (3, 4, 5):
         lines[place] = spoilt_line(chance, lines[place], words)
     elif kind == 6:
-        lines.insert(place, chance.choice(("", "setup", "worker 1", "worker 2", "end", "node 0 blocks 1", "# said", *words)))
+        more = ("", "setup", "worker 1", "worker 2", "end", "thp-journal 1", "node 0 blocks 1", "node 1 blocks 1", "#")
+        lines.insert(place, chance.choice((*more, *more, *words)))
     else:
         lines.insert(place, lines.pop(chance.randrange(len(lines))))
     return "\n".join(lines).encode()
 
 
-SETS = ("-", "0", "0-", "-0", "1-1", "2-1", "0,1", "1-2,3", "3,1", "0,0", "512", "0-512", "00", "0,,2", ",", "0-1-2", "x", "9" * 30)
+SETS = (
+    "-", "0", "0-", "-0", "1-1", "2-1", "0,1", "1-2,3", "3,1", "0,0", "512", "0-512", "00", "0,,2", ",", "0-1-2", "x",
+    "9" * 30,
+)
 """Words in the place of a set, most of which are none."""
 
 

@@ -95,42 +95,47 @@ class WrongProgram:
         return path
 
 
+TOO_LONG = "2, b'', b'thpsplit: line 0: too-long\\n'"
+USAGE = "if errors.startswith(b'error'):"
+
 WRONG = [
-    ("an illegal journal has status 0", "illegal", "status = 0 if status == 1 else status"),
-    ("an illegal journal has status 2", "illegal", "status = 2 if status == 1 else status"),
-    ("an illegal journal is told on standard error", "illegal", "output, errors = (b'', output) if status == 1 else (output, errors)"),
+    ("an illegal journal has status 0", "illegal", "if status == 1: status = 0"),
+    ("an illegal journal has status 2", "illegal", "if status == 1: status = 2"),
+    ("an illegal journal is told on standard error", "illegal", "if status == 1: output, errors = b'', output"),
     ("an illegal line is told a line late", "illegal", "output = output.replace(b'line 7', b'line 8')"),
     ("a word that isn't UTF-8 is out of memory", "not text",
-     "status, errors = (3, b'thpsplit: out of memory\\n') if b'UTF-8' in errors else (status, errors)"),
+     "if b'UTF-8' in errors: status, errors = 3, b'thpsplit: out of memory\\n'"),
     ("a word that isn't UTF-8 has another text", "not text", "errors = errors.replace(b'one or more', b'some')"),
-    ("a usage fault has an empty text", "usage", "errors = b'' if errors.startswith(b'error') else errors"),
-    ("a usage fault has status 1", "usage", "status = 1 if errors.startswith(b'error') else status"),
-    ("a usage fault is told on standard output", "usage",
-     "output, errors = (errors, b'') if errors.startswith(b'error') else (output, errors)"),
+    ("a usage fault has an empty text", "usage", f"{USAGE} errors = b''"),
+    ("a usage fault has status 1", "usage", f"{USAGE} status = 1"),
+    ("a usage fault is told on standard output", "usage", f"{USAGE} output, errors = errors, b''"),
     ("the bounds of a number are told wrong", "usage", "errors = errors.replace(b'1..=8', b'1..=9')"),
-    ("the help writes one other line", "help", "output = b'Hello\\n' if b'Usage' in output else output"),
+    ("the help writes one other line", "help", "if b'Usage' in output: output = b'Hello\\n'"),
     ("the help lacks write and zero", "help",
-     "output = b''.join(line for line in output.splitlines(True) if not line.startswith((b'  write ', b'  zero ')))"),
-    ("the help has statuses swapped", "help", "output = output.replace(b'\\n  1  ', b'\\n  x  ').replace(b'\\n  2  the', b'\\n  1  the')"),
+     "output = b''.join(it for it in output.splitlines(True) if not it.startswith((b'  write ', b'  zero ')))"),
+    ("the help has statuses swapped", "help",
+     "output = output.replace(b'\\n  1  ', b'\\n  x  ').replace(b'\\n  2  the', b'\\n  1  the')"),
     ("the help has one letter more", "help", "output = output.replace(b'Print help', b'Print  help')"),
-    ("the help goes to standard error", "help", "output, errors = (b'', output) if b'Usage' in output else (output, errors)"),
+    ("the help goes to standard error", "help", "if b'Usage' in output: output, errors = b'', output"),
     ("another version", "version", "output = output.replace(b'0.1.0', b'0.1.1')"),
-    ("a version without a line feed", "version", "output = output.rstrip() if output.startswith(b'thpsplit ') else output"),
+    ("a version without a line feed", "version", "if output.startswith(b'thpsplit '): output = output.rstrip()"),
     ("statuses 2 and 3 are swapped", "scripts at fault", "status = {2: 3, 3: 2}.get(status, status)"),
-    ("a failed read has status 2", "read", "status = 2 if b'read' in errors else status"),
+    ("a failed read has status 2", "read", "if b'read' in errors: status = 2"),
     ("a failed read is told as a failed write", "read", "errors = errors.replace(b'read', b'write')"),
-    ("faults are told on standard output, with status 0", "scripts at fault", "status, output, errors = 0, output + errors, b''"),
-    ("a fault's line is followed by a report", "scripts at fault", "output = b'node 0\\n' if errors else output"),
+    ("a failed read is an empty input", "read", "if b'read' in errors: status, errors = 0, b''"),
+    ("faults are told on standard output, with status 0", "scripts at fault",
+     "status, output, errors = 0, output + errors, b''"),
+    ("a fault's line is followed by a report", "scripts at fault", "if errors: output = b'node 0\\n'"),
     ("a fault is told a line late", "scripts at fault", "errors = errors.replace(b'line 2', b'line 3')"),
-    ("bad orders are told as bad underused", "judged first", "errors = errors.replace(b'bad orders', b'bad underused')"),
+    ("bad orders are told as bad underused", "judged first", "errors = errors.replace(b'orders', b'underused')"),
     ("a journal's fault is told as cut", "journals at fault", "errors = errors.replace(b'bad-set', b'cut')"),
     ("legal without a line feed", "reports", "output = output.replace(b'legal\\n', b'legal')"),
+    ("warnings beside a report", "reports", "errors = errors or b'warning: slow\\n'"),
     ("all input is read first", "judged first", "os.read(9, 65536)"),
     ("too many bytes are a cut", "limits", "errors = errors.replace(b'too-long', b'cut')"),
-    ("16 MiB are too many bytes", "limits",
-     "status, output, errors = (2, b'', b'thpsplit: line 0: too-long\\n') if os.lseek(9, 0, 1) == 2**24 else (status, output, errors)"),
-    ("warnings beside a report", "reports", "errors = errors or b'warning: slow\\n'"),
+    ("16 MiB are too many bytes", "limits", f"if os.lseek(9, 0, 1) == 2**24: status, output, errors = {TOO_LONG}"),
 ]
+"""Each has a name, the group of rows that has to refuse it, and what it changes: `status`, `output` or `errors`."""
 
 
 def all_of(real: Path) -> list[WrongProgram]:
