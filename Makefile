@@ -4,8 +4,10 @@
 #               usual); make uninstall takes them away
 # make test:    every check (proofs from nothing, must-fail edits, tests, stored runs, examples, documents); ends in
 #               'N passed, M failed'. What a machine lacks is named and counted neither way, or as failed with STRICT=1
-# make outside: examples and documents alone; PROGRAM=path: by that program
-# make fuzz:    random scripts on the built program and on a plain reading of the model in Python: CASES=n SEED=s
+# make outside: examples and documents alone; PROGRAM=path: by that program, and all that is asked of it from outside:
+#               each status and stream, large inputs, and wrong programs, which are refused
+# make fuzz:    random scripts, journals and words on the built program and on a plain reading of the model in Python:
+#               CASES=n SEED=s; ends in a table of what was covered
 # make memory:  each growth of memory and each start of a thread refused in turn (wants Python 3 and a C compiler)
 # make bench:   times on large scripts, of single calls and of texts (docs/PROOFS.md has the figures)
 # How long each takes: README.md, "First minutes".
@@ -50,10 +52,15 @@ test: toolchain
 	@python3 tests/gate.py
 
 # PROGRAM on the command line names any program; without it the code as it stands is built by `rt try`
+GIVEN = $(if $(filter command% environment%,$(origin PROGRAM)),$(PROGRAM))
+
 outside:
 	@python3 tests/docs.py
 	@python3 tests/installed.py
-	@python3 tests/examples.py $(if $(filter command% environment%,$(origin PROGRAM)),$(PROGRAM))
+	@python3 tests/examples.py $(GIVEN)
+	@$(if $(GIVEN),python3 tests/outside.py $(GIVEN))
+	@$(if $(GIVEN),python3 tests/outside.py --self-test $(GIVEN))
+	@$(if $(GIVEN),python3 tests/large.py $(GIVEN))
 
 fuzz: run
 	@python3 tests/fuzz.py $(PROGRAM) --cases $(CASES) --seed $(SEED)

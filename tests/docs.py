@@ -5,6 +5,8 @@
 With the word `toolchain` one line tells where another toolchain is installed than everything was proved with.
 """
 
+from __future__ import annotations
+
 import re
 import shutil
 import subprocess
@@ -55,9 +57,10 @@ def crates_are_told() -> str | None:
 def words_of_tree() -> set[str]:
     """Each word that code, definitions, proofs and scripts write, and the names of their files."""
     words: set[str] = set()
-    code = [path for path in ROOT.glob("crates/*/**/*") if path.relative_to(ROOT).parts[2] in ("src", "specs", "proofs", "must-fail")]
-    scripts = [*ROOT.glob("tests/*"), *ROOT.glob("bench/*"), *ROOT.glob("examples/*"), ROOT / "Makefile", ROOT / "crates.txt"]
-    for path in code + scripts:
+    parts = ("src", "specs", "proofs", "must-fail")
+    code = [path for path in ROOT.glob("crates/*/**/*") if path.relative_to(ROOT).parts[2] in parts]
+    scripts = [path for folder in ("tests", "bench", "examples") for path in ROOT.glob(f"{folder}/*")]
+    for path in [*code, *scripts, ROOT / "Makefile", ROOT / "crates.txt"]:
         words.update(re.findall(r"\w+", str(path.relative_to(ROOT))))
         if path.is_file():
             words.update(re.findall(r"\w+", path.read_text(errors="replace")))
@@ -78,7 +81,9 @@ def toolchain_is_told() -> str | None:
     version = subprocess.run(["rt", "version"], capture_output=True, text=True, check=False).stdout.strip()
     kit, _, logic = version.partition(" ")
     told = f"Proved with {kit} ({logic})."
-    return None if told in (ROOT / "docs/PROVED.md").read_text() else f"installed is {version}, and not the one that docs/PROVED.md names"
+    if told in (ROOT / "docs/PROVED.md").read_text():
+        return None
+    return f"installed is {version}, and not the one that docs/PROVED.md names"
 
 
 CONSTANT = re.compile(r"pub const (M(?:AX|IN)_[A-Z]+): \w+ = ([^;]+);")

@@ -7,6 +7,8 @@ wanted (no file: nothing, nothing, 0). With no program `rt try` builds one from 
 standard output and the status alone.
 """
 
+from __future__ import annotations
+
 import re
 import shutil
 import subprocess

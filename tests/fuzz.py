@@ -1,141 +1,385 @@
 #!/usr/bin/env python3
-"""Compares the built program with a plain reading of the model on random scripts and journals.
+"""Compares the built program with a plain reading of the model on random scripts, journals and command lines.
 
-    tests/fuzz.py PROGRAM [--cases N] [--seed S] [--keep FOLDER]
+    tests/fuzz.py PROGRAM [--cases N] [--seed S] [--jobs J] [--keep FOLDER]
 
-Each case is one random script. What the program prints for it, report by report, is compared with what model.py and
-script.py make of it; its journal, and the same journal with one line changed, go through `--check`. Only options and
-commands that `PROGRAM --help` names are used. The first ten texts that differ are kept in FOLDER, and the exit status is then 1.
+What is wanted of each text (the exit status, standard output and standard error) is made by model.py, script.py and
+texts.py, and of words by usage.py. The program's help has to tell each option, command, refusal and fault that stands
+there, and no other option or command. At the end a table tells what was covered, by kind. The first ten texts that
+differ are kept in FOLDER, and the exit status is then 1; as it is where 2,000 cases or more left out something that is
+to be covered.
 """
 
+from __future__ import annotations
+
 import argparse
-import pathlib
-import random
+import os
 import re
+import signal
 import subprocess
 import sys
+import tempfile
+import time
+from collections import Counter
+from dataclasses import dataclass, field
+from multiprocessing import Pool
+from pathlib import Path
+from random import Random
+from typing import Callable, Iterator, Optional
 
-from script import PAGE_CALLS, RANGE_CALLS, Run, first_illegal
+import random_texts
+import random_words
+import usage
+from model import REFUSALS
+from process import Ended, Word
+from random_texts import Script, joined
+from script import Run, first_illegal, sections_of
+from texts import COMMANDS, EVENTS, FAULT_WORDS, BadText, Fault, journal_fault, number, script_fault
 
+SECONDS = 60
+"""A run that takes longer counts as one that differs."""
 
-def main():
-    parser = argparse.ArgumentParser()
-    parser.add_argument("program")
-    parser.add_argument("--cases", type=int, default=200)
-    parser.add_argument("--seed", type=int, default=1)
-    parser.add_argument("--keep", type=pathlib.Path, default=pathlib.Path("fuzz-kept"))
-    asked = parser.parse_args()
-    told = subprocess.run([asked.program, "--help"], capture_output=True, text=True, check=True).stdout
-    # the options, and the first words of the lines that tell the commands
-    known = set(re.findall(r"--\w+", told)) | set(re.findall(r"^  (\w+) ", told, re.MULTILINE))
-    differing, compared = 0, 0
-    for case in range(asked.cases):
-        chance = random.Random(f"{asked.seed} {case}")
-        for name, options, text, wanted in texts_of(chance, known):
-            told = subprocess.run([asked.program, *options], input=text, capture_output=True, text=True)
-            compared += 1
-            if told.stdout != wanted or told.returncode not in (0, 1) or told.stderr:
-                differing += 1
-                if differing <= 10:
-                    keep(asked.keep / f"{asked.seed}-{case}-{name}", options, text, wanted, told)
-    print(f"{asked.cases} cases, {compared} texts compared, {differing} differ")
-    sys.exit(differing != 0)
+MANY = 2000
+"""In so many cases everything is covered."""
 
-
-def keep(folder, options, text, wanted, told):
-    folder.mkdir(parents=True, exist_ok=True)
-    (folder / "options").write_text(" ".join(options) + "\n")
-    (folder / "input").write_text(text)
-    (folder / "wanted").write_text(wanted)
-    (folder / "told").write_text(told.stdout + told.stderr)
-    print(f"differs: {folder}", file=sys.stderr)
+AT_ONCE = 20
+"""So many cases are handed to a process at once."""
 
 
-def joined(lines):
-    return "".join(line + "\n" for line in lines)
+@dataclass(frozen=True)
+class Probe:
+    """Words and a text for the program, and how it is to end."""
+
+    name: str
+    words: tuple[Word, ...]
+    text: bytes
+    wanted: Ended
 
 
-def texts_of(chance, known):
-    """The texts of one case: a name, the options, what the program reads, and what it is to print."""
-    shapes = random_shapes(chance, known)
-    setup = random_commands(chance, known, shapes)
-    worker = random_commands(chance, known, shapes) if "worker" in known else []
-    run = Run(shapes)
-    run.section(0, setup)
-    run.section(1, worker)
-    text = joined(["setup", *setup, *(["worker 1", *worker] if "worker" in known else [])])
-    options = ["--blocks", str(shapes[0][0])]
-    if "--nodes" in known:
-        options += ["--nodes", str(len(shapes))]
-    if "--orders" in known:
-        options += ["--orders", ",".join(str(order) for _, order, _ in shapes)]
-    if "--underused" in known:
-        options += ["--underused", ",".join("off" if switch is None else str(switch) for _, _, switch in shapes)]
-    yield "totals", options, text, joined(run.totals())
-    if "--check" not in known:
-        return
-    yield "answers", [*options, "--report", "answers"], text, joined(run.answers)
+class Case:
+    """A random case: what it asks of the program, and what it covers."""
+
+    def __init__(self, seed: int, place: int) -> None:
+        self.chance = Random(f"{seed} {place}")
+        self.covered: Counter[tuple[str, str]] = Counter()
+        kind = KIND_OF[place % len(KIND_OF)] if (place + 1) % 500 else "a count at its limit"
+        self.cover("kinds of cases", kind)
+        self.probes = list(KINDS[kind](self))
+
+    def cover(self, what: str, name: object, count: int = 1) -> None:
+        """Notes that something was covered."""
+        self.covered[what, str(name)] += count
+
+
+def whole_runs(case: Case, script: Script) -> Iterator[Probe]:
+    """A script by each report; then its journal, as it is and changed, by the check."""
+    text, run = script.text(), script.run
     journal = run.journal()
-    yield "journal", [*options, "--report", "journal"], text, joined(journal)
-    yield "check", ["--check"], joined(journal), "legal\n"
-    changed = with_change(chance, journal)
-    line = first_illegal(changed)
-    yield "changed", ["--check"], joined(changed), "legal\n" if line is None else f"illegal line {line}\n"
+    cover_run(case, script, journal)
+    for report, lines in (("totals", run.totals()), ("answers", run.answers), ("journal", journal)):
+        words = script.options(case.chance)
+        if report != "totals" or case.chance.random() < 0.3:
+            words += random_texts.option(case.chance, "report", report)
+        case.cover("reports", report)
+        for word in words:
+            if str(word).startswith("--"):
+                case.cover("options", str(word).partition("=")[0])
+        yield Probe(report, tuple(words), text, Ended(0, joined(lines)))
+    yield checked(case, "check", joined(journal))
+    yield checked(case, "changed", joined(random_texts.changed_journal(case.chance, journal)))
 
 
-def random_shapes(chance, known):
-    blocks = chance.choice((1, 2, 3, 5, 16))
-    shapes = []
-    for _ in range(chance.choice((1, 1, 2, 3)) if "--nodes" in known else 1):
-        order = chance.choice((2, 2, 3, 9)) if "--orders" in known else 9
-        switch = chance.choice((None, None, 0, 1, 2**order - 1)) if "--underused" in known else None
-        shapes.append((blocks, order, switch))
-    return shapes
+def cover_run(case: Case, script: Script, journal: list[str]) -> None:
+    """Notes the commands, answers and events of a run, its nodes and its workers."""
+    lines = [line for _, commands in script.sections for line in commands]
+    for line, told in zip(lines, script.run.answers):
+        case.cover("commands", line.split(" ")[0])
+        answer = told.split(" ")[2:]
+        if answer[0] == "refused":
+            case.cover("refusals", answer[1])
+        else:
+            case.cover("answers", answer[0])
+    for line in journal[1:-1]:
+        if not line.startswith("node"):
+            case.cover("events", line.split(" ")[1])
+    for _, order, switch in script.shapes:
+        case.cover("orders", order)
+        case.cover("thresholds", {None: "off", 0: "0", 2**order - 1: "all but one"}.get(switch, "other"))
+    case.cover("nodes", len(script.shapes))
+    case.cover("workers at work", sum(1 for caller, _ in script.sections if caller))
+    case.cover("versions of journals", journal[0][-1])
 
 
-def random_commands(chance, known, shapes):
-    """Commands of one section, most of them about pages that there may be."""
-    named = [word for word in (*PAGE_CALLS, *RANGE_CALLS, "count", "take", "splitnext", "putback") if word in known]
-    words = ["alloc"] * 3 + ["splitpmd"] * 3 + ["unmap"] * 6 + ["scan"] * 2 + named
-    lines, pages = [], [0] * len(shapes)
-    for _ in range(chance.randrange(60)):
-        word, node = chance.choice(words), chance.randrange(len(shapes))
-        size = 2 ** shapes[node][1]
-        operands = []
-        if word == "alloc":
-            pages[node] += 1
-        elif word in PAGE_CALLS or word in RANGE_CALLS:
-            operands = [chance.randrange(pages[node] + 1)]
-        if word in RANGE_CALLS:
-            first = chance.choice((0, 0, size // 2, chance.randrange(size + 1)))
-            operands += [first, chance.choice((size - first, size - first, 1, chance.randrange(size + 2)))]
-        if word in ("scan", "take"):
-            operands = [chance.choice((0, 1, 2, 8, 128))]
-        lines.append(" ".join(map(str, (word, node, *operands))))
-    if chance.random() < 0.2:
-        lines.insert(chance.randrange(len(lines) + 1), f"close {chance.randrange(len(shapes))}")
-    return lines
+def checked(case: Case, name: str, text: bytes) -> Probe:
+    """A journal by the check: its first fault, else its first illegal line, else that it is legal."""
+    case.cover("options", "--check")
+    fault = journal_fault(text)
+    if fault is not None:
+        case.cover("faults of journals", fault.word)
+        return Probe(name, ("--check",), text, Ended(2, b"", fault.told()))
+    line = first_illegal(text.decode().split("\n")[:-1])
+    if line is None:
+        case.cover("verdicts", "legal")
+        return Probe(name, ("--check",), text, Ended(0, b"legal\n"))
+    case.cover("verdicts", "illegal")
+    case.cover("illegal events", text.split(b"\n")[line - 1].decode().split(" ")[1])
+    return Probe(name, ("--check",), text, Ended(1, f"illegal line {line}\n".encode()))
 
 
-def with_change(chance, journal):
-    """The journal with one event line left out, doubled, put elsewhere, or with another number in it."""
-    events = [place for place, line in enumerate(journal) if line.split()[0].isdigit()]
-    if not events:
-        return journal
-    changed, place = list(journal), chance.choice(events)
-    kind = chance.randrange(4)
-    if kind == 0:
-        del changed[place]
-    elif kind == 1:
-        changed.insert(place, changed[place])
-    elif kind == 2:
-        changed[place - 1 : place + 1] = reversed(changed[place - 1 : place + 1]) if place - 1 in events else changed[place - 1 : place + 1]
-    else:
-        words = changed[place].split()
-        numbers = [at for at, word in enumerate(words) if word.isdigit() and at < 5]
-        words[chance.choice(numbers)] = str(chance.randrange(4))
-        changed[place] = " ".join(words)
-    return changed
+def one_worker(case: Case) -> Iterator[Probe]:
+    """Setup and one worker, on any nodes."""
+    return whole_runs(case, random_texts.script_of_one(case.chance))
+
+
+def many_workers(case: Case) -> Iterator[Probe]:
+    """Several workers, each on nodes of its own."""
+    return whole_runs(case, random_texts.script_of_many(case.chance))
+
+
+def limit(case: Case) -> Iterator[Probe]:
+    """A count that goes to 65,535."""
+    return whole_runs(case, random_texts.script_of_limits(case.chance))
+
+
+def spoilt_scripts(case: Case) -> Iterator[Probe]:
+    """A script with a change, four times: its first fault, or the totals of what it still says."""
+    script = random_texts.script_of_one(case.chance)
+    for place in range(4):
+        text = random_texts.spoilt(case.chance, script.text(), COMMANDS)
+        fault = script_fault(text, len(script.shapes), script.workers)
+        words = tuple(script.options(case.chance))
+        if fault is not None:
+            case.cover("faults of scripts", fault.word)
+            yield Probe(f"spoilt-{place}", words, text, Ended(2, b"", fault.told()))
+            continue
+        case.cover("faults of scripts", "none")
+        if sum(1 for caller, lines in sections_of(text.decode()) if caller and lines) > 1:
+            continue  # workers side by side on one node: more than one run is right
+        run = Run(script.shapes)
+        run.text(text.decode())
+        yield Probe(f"spoilt-{place}", words, text, Ended(0, joined(run.totals())))
+
+
+def spoilt_journals(case: Case) -> Iterator[Probe]:
+    """A journal with a change, six times: its first fault, or whether what it still says is legal."""
+    script = random_texts.script_of_one(case.chance)
+    journal = script.run.journal()
+    text = joined(journal)
+    for place in range(2):
+        yield checked(case, f"spoilt-{place}", random_texts.spoilt(case.chance, text, EVENTS))
+        yield checked(case, f"set-{place}", random_texts.with_other_set(case.chance, text))
+        yield checked(case, f"changed-{place}", joined(random_texts.changed_journal(case.chance, journal)))
+
+
+def command_lines(case: Case) -> Iterator[Probe]:
+    """Words at fault, and requests, beside an input that would be at fault too."""
+    for place in range(4):
+        kind, words, wanted = random_words.faulty_words(case.chance)
+        case.cover("faults of words", kind)
+        yield Probe(f"words-{place}", tuple(words), b"fly\n", wanted)
+    name, words, wanted = random_words.request(case.chance)
+    case.cover("options", f"--{name}")
+    yield Probe(name, tuple(words), b"fly\n", wanted)
+
+
+ORDER_ITEMS = tuple("23456789") * 3 + ("1", "10", "09", "x", "")
+SWITCH_ITEMS = ("off", "0", "1", "3") * 6 + ("4", "511", "512", "on", "00")
+
+
+def lists(case: Case) -> Iterator[Probe]:
+    """Orders and thresholds that fit the nodes, and such that don't, which is told before the script's fault."""
+    for place in range(4):
+        nodes = case.chance.randrange(1, random_texts.MOST_NODES + 1)
+        orders = random_words.list_of(case.chance, ORDER_ITEMS, nodes)
+        switches = random_words.list_of(case.chance, SWITCH_ITEMS, nodes)
+        words = (f"--orders={orders}", "--nodes", str(nodes), f"--underused={switches}", "--report=journal")
+        wanted = wanted_of_lists(nodes, orders.split(","), switches.split(","))
+        case.cover("lists", "fit" if wanted.status == 0 else wanted.errors.decode().strip())
+        yield Probe(f"list-{place}", words, b"# nothing\n" if wanted.status == 0 else b"fly\n", wanted)
+
+
+def wanted_of_lists(nodes: int, orders: list[str], switches: list[str]) -> Ended:
+    """What is told of these lists: the journal of a run without commands, where they fit."""
+    try:
+        read = [number(item.encode(), 9, 2) for item in orders]
+        if len(read) != nodes:
+            raise BadText
+    except BadText:
+        return Ended(2, b"", b"thpsplit: bad orders\n")
+    try:
+        high = [None if item == "off" else number(item.encode(), 2**order - 1) for item, order in zip(switches, read)]
+        if len(switches) != nodes:
+            raise BadText
+    except BadText:
+        return Ended(2, b"", b"thpsplit: bad underused\n")
+    return Ended(0, joined(Run([(16, order, switch) for order, switch in zip(read, high)]).journal()))
+
+
+KINDS: dict[str, Callable[[Case], Iterator[Probe]]] = {
+    "one worker": one_worker,
+    "workers on nodes of their own": many_workers,
+    "spoilt scripts": spoilt_scripts,
+    "spoilt journals": spoilt_journals,
+    "words": command_lines,
+    "lists": lists,
+    "a count at its limit": limit,
+}
+KIND_OF = ("one worker", "workers on nodes of their own", "spoilt scripts", "one worker", "spoilt journals",
+           "one worker", "workers on nodes of their own", "words", "one worker", "lists")
+"""The kinds of cases, in turn; each 500th is another."""
+
+ANSWERS = (
+    "page", "ok", "stays", "queued", "freed", "count", "taken", "split", "pinned", "used", "done", "no-batch", "back",
+)
+TO_COVER: dict[str, tuple[str, ...]] = {
+    "kinds of cases": tuple(KINDS),
+    "commands": COMMANDS,
+    "answers": ANSWERS,
+    "refusals": REFUSALS,
+    "events": EVENTS,
+    "reports": usage.REPORTS,
+    "options": tuple(f"--{name}" for name in usage.OPTIONS),
+    "orders": tuple("23456789"),
+    "thresholds": ("off", "0", "all but one", "other"),
+    "nodes": tuple("12345678"),
+    "workers at work": tuple("012345678"),
+    "versions of journals": tuple("123"),
+    "verdicts": ("legal", "illegal"),
+    "illegal events": EVENTS,
+    "faults of scripts": ("none", *(word for word in FAULT_WORDS if word not in ("too-long", "bad-set"))),
+    "faults of journals": tuple(word for word in FAULT_WORDS if word != "too-long"),
+    "faults of words": tuple(random_words.FAULTS),
+    "lists": ("fit", "thpsplit: bad orders", "thpsplit: bad underused"),
+}
+"""What is to be covered. Texts that are too long are left to tests/outside.py."""
+
+
+def help_is_whole(program: Path) -> list[str]:
+    """What the program's help lacks, or tells beyond what stands here."""
+    told = subprocess.run([program, "--help"], capture_output=True, check=False, timeout=SECONDS).stdout.decode()
+    options = re.findall(r"^ +(?:-\w, )?--(\w+)", told, re.M)
+    after = told.partition("\nCommands:\n")[2]
+    commands = re.findall(r"^  ([a-z]+) ", after.partition("\n\n")[0], re.M)
+    pairs = [("option", sorted(options), sorted(usage.OPTIONS)), ("command", sorted(commands), sorted(COMMANDS))]
+    wrong = [f"help tells {what}s {found}, and not {wanted}" for what, found, wanted in pairs if found != wanted]
+    for word in (*REFUSALS, *FAULT_WORDS):
+        if not re.search(rf"(?<![\w-]){word}(?![\w-])", after):
+            wrong.append(f"help doesn't tell '{word}'")
+    return wrong
+
+
+@dataclass
+class Outcome:
+    """What came of some cases: how many texts were compared, those that differ, and what was covered."""
+
+    cases: int = 0
+    compared: int = 0
+    differing: list[tuple[str, Probe, Ended]] = field(default_factory=list)
+    covered: Counter[tuple[str, str]] = field(default_factory=Counter)
+
+    def add(self, other: Outcome) -> None:
+        """Adds what came of other cases."""
+        self.cases += other.cases
+        self.compared += other.compared
+        self.differing += other.differing
+        self.covered.update(other.covered)
+
+
+def try_cases(asked: tuple[Path, int, range]) -> Outcome:
+    """Makes some cases, and runs the program on each of their texts."""
+    program, seed, places = asked
+    outcome = Outcome(len(places))
+    for place in places:
+        case = Case(seed, place)
+        outcome.covered.update(case.covered)
+        for probe in case.probes:
+            outcome.compared += 1
+            ended = run(program, probe)
+            if ended != probe.wanted:
+                outcome.differing.append((f"{seed}-{place}-{probe.name}", probe, ended))
+    return outcome
+
+
+def run(program: Path, probe: Probe) -> Ended:
+    """Runs the program."""
+    try:
+        words = [program, *probe.words]
+        done = subprocess.run(words, input=probe.text, capture_output=True, timeout=SECONDS, check=False)
+    except subprocess.TimeoutExpired as late:
+        return Ended(-9, late.stdout or b"", late.stderr or b"")
+    return Ended(done.returncode, done.stdout, done.stderr)
+
+
+def keep(folder: Path, probe: Probe, ended: Ended) -> None:
+    """Keeps a text that differs, with what was wanted and what was told."""
+    folder.mkdir(parents=True, exist_ok=True)
+    (folder / "options").write_bytes(b"".join(os.fsencode(word) + b"\n" for word in probe.words))
+    (folder / "input").write_bytes(probe.text)
+    for name, it in (("wanted", probe.wanted), ("told", ended)):
+        (folder / f"{name}.status").write_text(f"{it.status}\n")
+        (folder / f"{name}.stdout").write_bytes(it.output)
+        (folder / f"{name}.stderr").write_bytes(it.errors)
+    print(f"differs: {folder}: {ended.differs_from(probe.wanted)}", file=sys.stderr, flush=True)
+
+
+def tell_covered(covered: Counter[tuple[str, str]]) -> list[str]:
+    """Tells what was covered, by kind, and answers what wasn't."""
+    never: list[str] = []
+    for what, names in TO_COVER.items():
+        counts = {name: covered[what, name] for name in names}
+        counts.update({name: count for (kind, name), count in sorted(covered.items()) if kind == what})
+        print(f"{what}: " + ", ".join(f"{name} {count}" for name, count in counts.items()))
+        never += [f"{what}: {name}" for name, count in counts.items() if count == 0]
+    return never
+
+
+def arguments() -> argparse.Namespace:
+    """The words of the command line."""
+    parser = argparse.ArgumentParser(description="compares the built program with a plain reading of the model")
+    parser.add_argument("program", type=Path)
+    parser.add_argument("--cases", type=int, default=MANY)
+    parser.add_argument("--seed", type=int, default=1)
+    parser.add_argument("--jobs", type=int, default=min(2, os.cpu_count() or 1), help="processes side by side")
+    parser.add_argument("--keep", type=Path, default=Path("fuzz-kept"))
+    return parser.parse_args()
+
+
+def try_all(asked: argparse.Namespace, program: Path) -> Outcome:
+    """Makes all cases, or those until it is interrupted; keeps the first texts that differ."""
+    whole = Outcome()
+    parts = [(program, asked.seed, range(at, min(at + AT_ONCE, asked.cases))) for at in range(0, asked.cases, AT_ONCE)]
+    with Pool(asked.jobs, signal.signal, (signal.SIGINT, signal.SIG_IGN)) as pool:
+        try:
+            for part in pool.imap(try_cases, parts):
+                for name, probe, ended in part.differing[: max(10 - len(whole.differing), 0)]:
+                    keep(asked.keep / name, probe, ended)
+                whole.add(part)
+        except KeyboardInterrupt:
+            print("interrupted", file=sys.stderr)
+    return whole
+
+
+def main() -> None:
+    """Compares, and tells what was covered and what differs."""
+    asked = arguments()
+    if not os.access(asked.program, os.X_OK):
+        sys.exit(f"{asked.program} is no program")
+    began = time.monotonic()
+    with tempfile.TemporaryDirectory() as name:
+        program = Path(name) / "thpsplit"
+        program.symlink_to(asked.program.resolve())
+        wrong = help_is_whole(program)
+        whole = try_all(asked, program)
+    never = tell_covered(whole.covered)
+    for line in wrong:
+        print(line)
+    if never:
+        print(f"never met: {'; '.join(never)}")
+    took = f"{time.monotonic() - began:.0f} s"
+    differ = len(whole.differing)
+    print(f"{whole.cases} cases of seed {asked.seed}, {whole.compared} texts compared, {differ} differ, {took}")
+    is_whole = whole.cases == asked.cases and not (never and asked.cases >= MANY)
+    sys.exit(0 if is_whole and not differ and not wrong else 1)
 
 
 if __name__ == "__main__":

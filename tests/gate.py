@@ -1,15 +1,32 @@
 """The gate: `rt ci`, and behind it what is tested from outside. The last line is `N passed, M failed` over all of it.
 
-The status is 0 exactly where nothing failed. Each script of `OUTSIDE` ends in a count of its own, which is added up.
+    tests/gate.py
+
+The status is 0 exactly where nothing failed. Each script ends in a count of its own, which is added up. Those that want
+the built program get what `rt ci` has just built, by each of its compilers; where it built none, a line says so.
 """
 
+from __future__ import annotations
+
+import os
 import re
 import subprocess
 import sys
+import time
 from pathlib import Path
 
+from tally import SKIPPED, Tally
+
 ROOT = Path(__file__).resolve().parent.parent
-OUTSIDE = ["tests/docs.py", "tests/installed.py", "tests/examples.py"]
+WITHOUT = ("tests/docs.py", "tests/installed.py")
+"""What looks at the tree alone."""
+
+BUILT = ("crates/thpsplit/out/thpsplit", "crates/thpsplit/out/thpsplit.by-rattle")
+"""Where `rt ci` leaves the program, as LLVM builds it and as Rattle's own compiler does."""
+
+BY_EACH = ("tests/examples.py", "tests/outside.py", "tests/large.py")
+"""What looks at a program."""
+
 COUNT = re.compile(r"(\d+) passed, (\d+) failed$")
 
 
@@ -19,8 +36,9 @@ def run(command: list[str]) -> tuple[int, int, int]:
     A command that prints no count counts as nothing passed.
     """
     passed, failed = 0, 0
+    how = {"stdout": subprocess.PIPE, "stderr": subprocess.STDOUT, "text": True, "errors": "replace"}
     try:
-        child = subprocess.Popen(command, cwd=ROOT, stdout=subprocess.PIPE, stderr=subprocess.STDOUT, text=True, errors="replace")
+        child = subprocess.Popen(command, cwd=ROOT, **how)
     except OSError as error:
         print(f"{command[0]}: {error.strerror}", flush=True)
         return 0, 0, 127
@@ -34,19 +52,40 @@ def run(command: list[str]) -> tuple[int, int, int]:
     return passed, failed, child.wait()
 
 
+def add(tally: Tally, name: str, command: list[str]) -> None:
+    """Runs a command and adds its count. One that ends wrong and counts nothing failed counts as one failed."""
+    passed, failed, status = run(command)
+    if status not in (0, SKIPPED) and failed == 0:
+        print(f"{name}: ended with status {status}", flush=True)
+        failed = 1
+    print(f"{name}: {passed} of {passed + failed}", flush=True)
+    tally.passed += passed
+    tally.failed += failed
+
+
+def programs_since(began: float) -> list[str]:
+    """The built programs that were made since then: none that an earlier run left."""
+    paths = [ROOT / name for name in BUILT]
+    return [str(path) for path in paths if os.access(path, os.X_OK) and path.stat().st_mtime >= began]
+
+
 def main() -> None:
     """Runs everything and ends with the sum."""
-    passed, failed = 0, 0
-    for command in [["rt", "ci"], *([sys.executable, script] for script in OUTSIDE)]:
-        name = " ".join(Path(word).name for word in command)
-        more, wrong, status = run(command)
-        if status not in (0, 77) and wrong == 0:
-            print(f"{name}: ended with status {status}", flush=True)
-            wrong = 1
-        print(f"{name}: {more} of {more + wrong}", flush=True)
-        passed, failed = passed + more, failed + wrong
-    print(f"{passed} passed, {failed} failed", flush=True)
-    sys.exit(1 if failed else 0)
+    tally = Tally()
+    began = time.time() - 1
+    add(tally, "rt ci", ["rt", "ci"])
+    for script in WITHOUT:
+        add(tally, Path(script).name, [sys.executable, script])
+    programs = programs_since(began)
+    for program in programs:
+        for script in BY_EACH:
+            add(tally, f"{Path(script).name} {Path(program).name}", [sys.executable, script, program])
+    for program in programs[:1]:
+        add(tally, "outside.py --self-test", [sys.executable, "tests/outside.py", "--self-test", program])
+    if not programs:
+        add(tally, "examples.py", [sys.executable, "tests/examples.py"])
+        tally.skip("the program from outside", "rt ci has built none")
+    tally.end()
 
 
 if __name__ == "__main__":

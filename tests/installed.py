@@ -5,6 +5,8 @@
 A stand-in takes the place of the built program, so nothing is proved or built here.
 """
 
+from __future__ import annotations
+
 import re
 import shutil
 import subprocess
@@ -57,7 +59,8 @@ def page_is_sound(page: str) -> str | None:
     """A manual page gives no warning."""
     if shutil.which("groff") is None:
         raise Missing("groff isn't there")
-    done = subprocess.run(["groff", "-man", "-Tascii", "-ww", "-z", page], cwd=ROOT, capture_output=True, text=True, check=False)
+    words = ["groff", "-man", "-Tascii", "-ww", "-z", page]
+    done = subprocess.run(words, cwd=ROOT, capture_output=True, text=True, check=False)
     return done.stderr.strip() or None
 
 

@@ -10,6 +10,8 @@ which call met that. Wants a C compiler, `cc` or what CC names. A line for each 
 exit status is 1 where a run ended wrong.
 """
 
+from __future__ import annotations
+
 import os
 import pathlib
 import re

@@ -1,13 +1,23 @@
 """A plain reading of docs/MODEL.md: what a node does, event by event. It shares no code with the program.
 
-A node is told one event at a time (`Node.alloc`, `Node.unmap_sub`, `Node.taken`, ..); each method does the event, writes its
-journal line and gives its answer, or raises `Refused` with the word of the refusal and changes nothing. An event that no
-call could have recorded at that place raises `Misfit`. The calls of the shrinker are made of such events.
+A node is told one event at a time (`Node.alloc`, `Node.unmap_sub`, `Node.taken`, ..); each method does the event,
+writes its journal line and gives its answer, or raises `Refused` with the word of the refusal and changes nothing. An
+event that no call could have recorded at that place raises `Misfit`. The calls of the shrinker are made of such events.
 """
 
+from __future__ import annotations
+
 from collections import Counter
+from typing import Iterable, Optional, Union
 
 MOST = 65_535
+"""No map count of a subpage and no count of pins goes beyond it."""
+
+REFUSALS = (
+    "no-page", "bad-range", "is-split", "not-mapped", "gone", "not-pinned", "too-many", "closed", "no-block",
+    "has-batch",
+)
+"""The words of all refusals."""
 
 
 class Refused(Exception):
@@ -18,9 +28,9 @@ class Misfit(Exception):
     """No call records this event here."""
 
 
-def set_text(subpages):
+def set_text(subpages: Iterable[int]) -> str:
     """A set of subpages as its maximal runs in ascending order."""
-    runs = []
+    runs: list[list[int]] = []
     for i in sorted(subpages):
         if runs and runs[-1][1] == i - 1:
             runs[-1][1] = i
@@ -30,51 +40,68 @@ def set_text(subpages):
 
 
 class Page:
-    def __init__(self, size):
+    """A live page: map counts (of the whole, and of each subpage its own), pins, and which subpages are zero-filled."""
+
+    def __init__(self, size: int) -> None:
         self.whole, self.own, self.pins = 1, [0] * size, 0
         self.is_split = self.is_partly = False
         self.zero = set(range(size))
 
-    def total(self, i):
+    def total(self, i: int) -> int:
+        """The map count of a subpage."""
         return self.whole + self.own[i]
 
-    def used(self):
-        return {i for i in range(len(self.own)) if self.total(i)}
+    def used(self) -> set[int]:
+        """The subpages that are mapped."""
+        if self.whole:
+            return set(range(len(self.own)))
+        return {i for i, own in enumerate(self.own) if own}
 
 
 class Node:
-    def __init__(self, blocks, order=9, underused=None):
+    """A memory node: its live pages by number, its queue, and the batch of each caller (pages by number, in order)."""
+
+    def __init__(self, blocks: int, order: int = 9, underused: Optional[int] = None) -> None:
         self.blocks, self.order, self.underused = blocks, order, underused
         self.size = 2**order
-        self.live = {}  # pages by number
+        self.live: dict[int, Page] = {}
         self.allocated = self.given = 0
-        self.queue, self.flights, self.closed = [], {}, False
-        self.counters = Counter()
-        self.journal, self.taker = [], None
+        self.queue: list[int] = []
+        self.flights: dict[int, list[int]] = {}
+        self.closed = False
+        self.counters: Counter[str] = Counter()
+        self.journal: list[str] = []
+        self.taker: Optional[int] = None
 
     # What the definitions name.
 
-    def held(self, page):
+    def held(self, page: Page) -> set[int]:
+        """The frames that a page holds."""
         if not page.is_split:
             return set(range(self.size))
         return page.used() - page.zero if self.underused is not None else page.used()
 
-    def frames_held(self):
+    def frames_held(self) -> int:
+        """How many frames the live pages hold."""
         return sum(len(self.held(page)) for page in self.live.values())
 
-    def flight(self, caller):
+    def flight(self, caller: int) -> list[int]:
+        """The batch of a caller."""
         return self.flights.setdefault(caller, [])
 
-    def worth_splitting(self, page):
+    def worth_splitting(self, page: Page) -> bool:
+        """Whether the shrinker splits a page, if it isn't pinned."""
         return page.is_partly or (self.underused is not None and len(page.zero) > self.underused)
 
-    def record(self, caller, *words):
+    def record(self, caller: int, *words: Union[int, str]) -> None:
+        """Writes an event into the journal."""
         self.taker = caller if words[0] == "taken" else None
         self.journal.append(" ".join(map(str, (caller, *words))))
 
     # What is asked of one page.
 
-    def page(self, number, whole=False):
+    def page(self, number: int, whole: bool = False) -> Page:
+        """The live page of this number, which mustn't be split where it is asked for whole."""
         if number not in self.live:
             raise Refused("no-page")
         page = self.live[number]
@@ -82,12 +109,14 @@ class Node:
             raise Refused("is-split")
         return page
 
-    def range(self, first, count):
+    def range(self, first: int, count: int) -> range:
+        """A range of subpages, which isn't empty and lies within a page."""
         if count == 0 or first + count > self.size:
             raise Refused("bad-range")
         return range(first, first + count)
 
-    def alloc(self, caller):
+    def alloc(self, caller: int) -> str:
+        """Allocates a page, mapped whole."""
         if self.closed:
             raise Refused("closed")
         if len(self.live) == self.blocks:
@@ -99,7 +128,8 @@ class Node:
         self.record(caller, "alloc", number)
         return f"page {number}"
 
-    def map_whole(self, caller, number):
+    def map_whole(self, caller: int, number: int) -> str:
+        """Maps a page whole once more."""
         page = self.page(number, whole=True)
         if any(page.total(i) == MOST for i in range(self.size)):
             raise Refused("too-many")
@@ -107,7 +137,8 @@ class Node:
         self.record(caller, "mapwhole", number)
         return "ok"
 
-    def map_sub(self, caller, number, first, count):
+    def map_sub(self, caller: int, number: int, first: int, count: int) -> str:
+        """Maps each subpage of a range once more."""
         page = self.page(number)
         subpages = self.range(first, count)
         if page.is_split and not self.held(page).issuperset(subpages):
@@ -119,7 +150,8 @@ class Node:
         self.record(caller, "mapsub", number, first, count)
         return "ok"
 
-    def split_pmd(self, caller, number):
+    def split_pmd(self, caller: int, number: int) -> str:
+        """Turns one mapping of the whole into one of each subpage."""
         page = self.page(number, whole=True)
         if page.whole == 0:
             raise Refused("not-mapped")
@@ -129,7 +161,8 @@ class Node:
         self.record(caller, "splitpmd", number)
         return "ok"
 
-    def pin(self, caller, number):
+    def pin(self, caller: int, number: int) -> str:
+        """Pins a page once more."""
         page = self.page(number, whole=True)
         if page.pins == MOST:
             raise Refused("too-many")
@@ -137,7 +170,8 @@ class Node:
         self.record(caller, "pin", number)
         return "ok"
 
-    def fill(self, caller, number, first, count, zero):
+    def fill(self, caller: int, number: int, first: int, count: int, zero: bool) -> str:
+        """Fills each subpage of a range with zeros, or with data."""
         page = self.page(number)
         subpages = self.range(first, count)
         self.page(number, whole=True)
@@ -147,7 +181,8 @@ class Node:
         self.record(caller, "zero" if zero else "write", number, first, count)
         return "ok"
 
-    def unmap_whole(self, caller, number):
+    def unmap_whole(self, caller: int, number: int) -> str:
+        """Takes one mapping of the whole away."""
         page = self.page(number, whole=True)
         if page.whole == 0:
             raise Refused("not-mapped")
@@ -155,7 +190,8 @@ class Node:
         page.whole -= 1
         return self.lost(caller, number, held, used, "unmapwhole", number)
 
-    def unmap_sub(self, caller, number, first, count):
+    def unmap_sub(self, caller: int, number: int, first: int, count: int) -> str:
+        """Takes one mapping of each subpage of a range away."""
         page = self.page(number)
         subpages = self.range(first, count)
         if any(page.own[i] == 0 for i in subpages):
@@ -165,14 +201,15 @@ class Node:
             page.own[i] -= 1
         return self.lost(caller, number, held, used, "unmapsub", number, first, count)
 
-    def unpin(self, caller, number):
+    def unpin(self, caller: int, number: int) -> str:
+        """Takes one pin away."""
         page = self.page(number, whole=True)
         if page.pins == 0:
             raise Refused("not-pinned")
         page.pins -= 1
         return self.lost(caller, number, self.held(page), page.used(), "unpin", number)
 
-    def lost(self, caller, number, held, used, *words):
+    def lost(self, caller: int, number: int, held: set[int], used: set[int], *words: Union[int, str]) -> str:
         """The outcome of an unmap or unpin after its change of counts, and the frames given back."""
         page, left = self.live[number], self.live[number].used()
         stands = number in self.queue or any(number in flight for flight in self.flights.values())
@@ -194,7 +231,8 @@ class Node:
         self.record(caller, *words, answer)
         return answer
 
-    def close(self, caller):
+    def close(self, caller: int) -> str:
+        """Closes the node."""
         if self.closed:
             raise Refused("closed")
         self.closed = True
@@ -203,14 +241,15 @@ class Node:
 
     # The shrinker's events.
 
-    def taken(self, caller):
+    def taken(self, caller: int) -> int:
+        """Takes the oldest page of the queue into the caller's batch."""
         if not self.queue or (self.flight(caller) and self.taker != caller):
             raise Misfit
         self.flight(caller).append(self.queue.pop(0))
         self.record(caller, "taken", self.flight(caller)[-1])
         return self.flight(caller)[-1]
 
-    def tried(self, caller, number):
+    def tried(self, caller: int, number: int) -> str:
         """Splits a page of the flight, finds it pinned, or finds it in full use."""
         if number not in self.flight(caller):
             raise Misfit
@@ -234,7 +273,7 @@ class Node:
         self.record(caller, "split", number, set_text(released))
         return "split"
 
-    def returned(self, caller):
+    def returned(self, caller: int) -> str:
         """Puts the first page of the flight back, or drops it."""
         if not self.flight(caller):
             raise Misfit
@@ -247,27 +286,32 @@ class Node:
 
     # The shrinker's calls.
 
-    def take(self, caller, most):
+    def take(self, caller: int, most: int) -> list[int]:
+        """Takes up to so many pages."""
         if self.flight(caller):
             raise Refused("has-batch")
         return [self.taken(caller) for _ in range(min(most, len(self.queue)))]
 
-    def scan(self, caller, most):
-        counts = Counter()
+    def scan(self, caller: int, most: int) -> str:
+        """Takes up to so many pages, tries each, and puts the others back."""
+        counts: Counter[str] = Counter()
         batch = self.take(caller, most)
         for number in batch:
             counts[self.tried(caller, number)] += 1
         while self.flight(caller):
             counts[self.returned(caller)] += 1
         used = f" used {counts['used']}" if self.underused is not None else ""
-        return f"taken {len(batch)} split {counts['split']} pinned {counts['pinned']} back {counts['back']} dropped {counts['dropped']}{used}"
+        told = " ".join(f"{word} {counts[word]}" for word in ("split", "pinned", "back", "dropped"))
+        return f"taken {len(batch)} {told}{used}"
 
     # Reports.
 
-    def totals(self, number):
+    def totals(self, number: int) -> list[str]:
+        """The node's lines of the report of totals."""
         names = ["thp_split_page", "thp_split_page_failed", "thp_deferred_split_page", "thp_split_pmd"]
         if self.underused is not None:
             names.append("thp_underused_split_page")
-        lines = [("node", number), ("pages", self.allocated), ("queue", len(self.queue)), ("frames_held", self.frames_held())]
-        lines += [("frames_given", self.given)] + [(name, self.counters[name]) for name in names]
+        lines = [("node", number), ("pages", self.allocated), ("queue", len(self.queue))]
+        lines += [("frames_held", self.frames_held()), ("frames_given", self.given)]
+        lines += [(name, self.counters[name]) for name in names]
         return [f"{name} {value}" for name, value in lines]

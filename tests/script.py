@@ -1,55 +1,87 @@
-"""A plain reading of docs/FORMATS.md: runs a script, as a list of lines, on nodes of model.py; reads a journal text back."""
+"""A plain reading of docs/FORMATS.md: runs a script, as a list of lines, on nodes of model.py; reads a journal back."""
+
+from __future__ import annotations
 
 from collections import Counter
+from typing import Callable, Iterable, Optional
 
 from model import Misfit, Node, Refused
 
-PAGE_CALLS = {"mapwhole": Node.map_whole, "unmapwhole": Node.unmap_whole, "splitpmd": Node.split_pmd, "pin": Node.pin, "unpin": Node.unpin}
-RANGE_CALLS = {"map": Node.map_sub, "unmap": Node.unmap_sub, "write": None, "zero": None}
+Shape = tuple[int, int, Optional[int]]
+"""A node's blocks, the order of its pages, and its threshold for underused pages, if it splits those."""
+
+PAGE_CALLS: dict[str, Callable[[Node, int, int], str]] = {
+    "mapwhole": Node.map_whole,
+    "unmapwhole": Node.unmap_whole,
+    "splitpmd": Node.split_pmd,
+    "pin": Node.pin,
+    "unpin": Node.unpin,
+}
+RANGE_CALLS: dict[str, Callable[[Node, int, int, int, int], str]] = {
+    "map": Node.map_sub,
+    "unmap": Node.unmap_sub,
+    "write": lambda node, caller, number, first, count: node.fill(caller, number, first, count, False),
+    "zero": lambda node, caller, number, first, count: node.fill(caller, number, first, count, True),
+}
 
 
 class Run:
-    """One worker's run of a script: what it answers, and the nodes afterwards."""
+    """A run of a script, a section at a time: what it answers, and the nodes afterwards."""
 
-    def __init__(self, shapes):
+    def __init__(self, shapes: Iterable[Shape]) -> None:
         self.nodes = [Node(*shape) for shape in shapes]
-        self.answers, self.batches = [], {}
+        self.answers: list[str] = []
+        self.batches: dict[int, list[int]] = {}
 
-    def section(self, caller, lines):
+    def section(self, caller: int, lines: Iterable[str]) -> None:
+        """Does the commands of a section; then its open batches are put back."""
         for index, line in enumerate(lines, 1):
-            word, number, *operands = line.split()
-            try:
-                answer = self.command(caller, word, int(number), [int(text) for text in operands])
-            except Refused as refusal:
-                answer = f"refused {refusal}"
-            self.answers.append(f"{caller} {index} {answer}")
+            self.line(caller, index, line)
+        self.end(caller)
+
+    def line(self, caller: int, index: int, line: str) -> None:
+        """Does a command of a section, the one at this place from 1."""
+        word, number, *operands = line.split()
+        try:
+            answer = self.command(caller, word, int(number), [int(text) for text in operands])
+        except Refused as refusal:
+            answer = f"refused {refusal}"
+        self.answers.append(f"{caller} {index} {answer}")
+
+    def end(self, caller: int) -> None:
+        """Puts the batches back that are open at the end of a section."""
         for number in sorted(self.batches):
             self.put_back(caller, number)
 
-    def command(self, caller, word, number, operands):
+    def text(self, text: str) -> None:
+        """Does a script that has no fault, its sections one after the other."""
+        for caller, lines in sections_of(text):
+            self.section(caller, lines)
+
+    def command(self, caller: int, word: str, number: int, operands: list[int]) -> str:
+        """Does a command on a node, and answers it."""
         node = self.nodes[number]
         if word in PAGE_CALLS:
-            return PAGE_CALLS[word](node, caller, *operands)
-        if word in ("write", "zero"):
-            return node.fill(caller, *operands, word == "zero")
+            return PAGE_CALLS[word](node, caller, operands[0])
         if word in RANGE_CALLS:
-            return RANGE_CALLS[word](node, caller, *operands)
+            return RANGE_CALLS[word](node, caller, operands[0], operands[1], operands[2])
         if word in ("alloc", "close"):
-            return getattr(node, word)(caller)
+            return node.alloc(caller) if word == "alloc" else node.close(caller)
         if word == "count":
             return f"count {len(node.queue)}"
         if word in ("take", "scan"):
             if number in self.batches:
                 raise Refused("has-batch")
             if word == "scan":
-                return node.scan(caller, *operands)
-            self.batches[number] = node.take(caller, *operands)
+                return node.scan(caller, operands[0])
+            self.batches[number] = node.take(caller, operands[0])
             return f"taken {len(self.batches[number])}"
         if number not in self.batches:
             return "no-batch"
         return self.split_next(caller, number) if word == "splitnext" else self.put_back(caller, number)
 
-    def split_next(self, caller, number):
+    def split_next(self, caller: int, number: int) -> str:
+        """Tries the next page of the open batch that is still in it."""
         node, batch = self.nodes[number], self.batches[number]
         while batch:
             page = batch.pop(0)
@@ -57,18 +89,20 @@ class Run:
                 return f"{node.tried(caller, page)} {page}"
         return "done"
 
-    def put_back(self, caller, number):
+    def put_back(self, caller: int, number: int) -> str:
+        """Puts back what is left of the open batch."""
         node = self.nodes[number]
         del self.batches[number]
-        counts = Counter()
+        counts: Counter[str] = Counter()
         while node.flight(caller):
             counts[node.returned(caller)] += 1
         return f"back {counts['back']} dropped {counts['dropped']}"
 
-    def totals(self):
+    def totals(self) -> list[str]:
+        """The report of totals."""
         return [line for number, node in enumerate(self.nodes) for line in node.totals(number)]
 
-    def journal(self):
+    def journal(self) -> list[str]:
         """The journal's text, in the lowest version that can say it."""
         filled = any(line.split()[1] in ("write", "zero") for node in self.nodes for line in node.journal)
         version = 1
@@ -85,16 +119,29 @@ class Run:
         return [*lines, "end"]
 
 
-def first_illegal(lines):
+def sections_of(text: str) -> list[tuple[int, list[str]]]:
+    """The sections of a script that has no fault: who does each, and its commands."""
+    sections: list[tuple[int, list[str]]] = []
+    for line in text.split("\n"):
+        if line == "setup" or line.startswith("worker "):
+            sections.append((int(line[len("worker ") :] or 0), []))
+        elif line and not line.startswith("#"):
+            sections[-1][1].append(line)
+    return sections
+
+
+def first_illegal(lines: Iterable[str]) -> Optional[int]:
     """The number of the first illegal line of a journal text without text faults, or None."""
-    node = None
+    node: Optional[Node] = None
     for number, line in enumerate(lines, 1):
         words = line.split()
         if words[0] == "node":
             options = dict(zip(words[2::2], words[3::2]))
             switch = options.get("underused", "off")
-            node = Node(int(options["blocks"]), int(options.get("order", 9)), None if switch == "off" else int(switch))
+            underused = None if switch == "off" else int(switch)
+            node = Node(int(options["blocks"]), int(options.get("order", 9)), underused)
         elif words[0] not in ("thp-journal", "end"):
+            assert node is not None
             try:
                 replay(node, int(words[0]), words[1], [int(word) for word in words[2:] if word.isdigit()])
             except (Refused, Misfit):
@@ -104,16 +151,14 @@ def first_illegal(lines):
     return None
 
 
-def replay(node, caller, word, numbers):
+def replay(node: Node, caller: int, word: str, numbers: list[int]) -> None:
     """Does the event that a line tells of; what the line says of it is compared afterwards."""
     if word in PAGE_CALLS:
         PAGE_CALLS[word](node, caller, numbers[0])
-    elif word in ("write", "zero"):
-        node.fill(caller, *numbers, word == "zero")
-    elif word in ("mapsub", "unmapsub"):
-        RANGE_CALLS[word[:-3]](node, caller, *numbers[:3])
+    elif word in ("mapsub", "unmapsub", "write", "zero"):
+        RANGE_CALLS[word.replace("sub", "")](node, caller, numbers[0], numbers[1], numbers[2])
     elif word in ("alloc", "close"):
-        getattr(node, word)(caller)
+        node.alloc(caller) if word == "alloc" else node.close(caller)
     elif word == "taken":
         node.taken(caller)
     elif word in ("split", "pinned", "used"):

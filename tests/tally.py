@@ -1,5 +1,7 @@
 """Tests from outside the proved part: a line for each, and their count."""
 
+from __future__ import annotations
+
 import os
 import sys
 from collections.abc import Callable
@@ -15,9 +17,11 @@ class Missing(Exception):
 class Tally:
     """Runs tests one by one, tells each by a line, and counts them."""
 
-    def __init__(self) -> None:
+    def __init__(self, is_brief: bool = False) -> None:
         self.passed = 0
         self.failed = 0
+        self.is_brief = is_brief
+        """Whether what passed is only counted."""
 
     def run(self, name: str, test: Callable[[], str | None]) -> None:
         """Runs a test, which answers what is wrong, or None."""
@@ -28,7 +32,8 @@ class Tally:
             return
         if wrong is None:
             self.passed += 1
-            print(f"{name}: passed", flush=True)
+            if not self.is_brief:
+                print(f"{name}: passed", flush=True)
         else:
             self.failed += 1
             print(f"{name}: failed: {wrong}", flush=True)

@@ -1,0 +1,315 @@
+"""Large inputs by the built program: every limit that nobody asked for would show here.
+
+    tests/large.py PROGRAM
+
+What is wanted is worked out here by counting, with no model of the program.
+"""
+
+from __future__ import annotations
+
+import os
+import sys
+import tempfile
+from dataclasses import dataclass
+from pathlib import Path
+from typing import Callable, Iterable, Iterator, Optional
+
+import usage
+from process import Call, Ended, run
+from tally import Tally
+from texts import MOST_BYTES
+
+COUNTERS = ("thp_split_page", "thp_split_page_failed", "thp_deferred_split_page", "thp_split_pmd")
+CALLERS = 64
+NODES = 8
+MOST_BLOCKS = 4096
+MOST_WORKERS = 63
+MOST_BATCH = 128
+SIZE = 512
+"""Subpages of a page of order 9."""
+
+
+@dataclass(frozen=True)
+class Case:
+    """A call, and how it is to end."""
+
+    name: str
+    call: Call
+    wanted: Ended
+
+
+def joined(lines: Iterable[str]) -> bytes:
+    """The text of some lines."""
+    return "".join(f"{line}\n" for line in lines).encode()
+
+
+def totals(number: int = 0, *further: str, **counts: int) -> bytes:
+    """The totals of a node; what isn't named is 0. `further` are counters that the node has besides."""
+    names = ("pages", "queue", "frames_held", "frames_given", *COUNTERS, *further)
+    return joined([f"node {number}", *(f"{name} {counts.get(name, 0)}" for name in names)])
+
+
+def fault(line: int, word: str) -> Ended:
+    """The first fault of a text."""
+    return Ended(2, b"", f"thpsplit: line {line}: {word}\n".encode())
+
+
+LEGAL = Ended(0, b"legal\n")
+
+
+def illegal(line: int) -> Ended:
+    """A journal's first illegal line."""
+    return Ended(1, f"illegal line {line}\n".encode())
+
+
+def words(text: str) -> tuple[str, ...]:
+    """The words of a command line."""
+    return tuple(text.split())
+
+
+CHECK = words("--check")
+
+
+def long_lines() -> Iterator[Case]:
+    """Lines of 4 KB to 10 MB: comments, words, numbers, operands, sets, and a bad byte at the end."""
+    one_page = Ended(0, totals(pages=1, frames_held=SIZE))
+    for size in (4_096, 5_000, 65_536, 100_000, 10_000_000):
+        comment = b"#" + b"x" * size + b"\n"
+        text = comment + b"setup\nalloc 0\n" + (comment if size < MOST_BYTES // 2 else b"")
+        yield Case(f"comments of {size} bytes", Call((), text), one_page)
+        yield Case(f"a bad byte behind {size} bytes", Call((), comment[:-1] + b"\xff\nsetup\n"), fault(1, "bad-byte"))
+        text = b"setup\n" + b"x" * size + b" 0\n"
+        yield Case(f"a word of {size} bytes", Call((), text), fault(2, "bad-word"))
+        text = b"setup\nalloc 0\nalloc " + b"0" * size + b"\n"
+        yield Case(f"a number of {size} digits", Call((), text), fault(3, "bad-number"))
+        text = b"setup\nalloc" + b" 0" * (size // 2) + b"\n"
+        yield Case(f"{size // 2} operands", Call((), text), fault(2, "bad-count"))
+        text = b"thp-journal 1\nnode 0 blocks 1\n0 alloc 0\n0 split 0 " + b"0," * (size // 2) + b"\nend\n"
+        yield Case(f"a set of {size} bytes", Call(CHECK, text), fault(4, "bad-set"))
+
+
+def many_commands() -> Iterator[Case]:
+    """A million and a half commands of one section, and what becomes of the last ones."""
+    count = 1_500_000
+    text = b"setup\n" + b"count 0\n" * count
+    answers = joined([*(f"0 {index} count 0" for index in range(1, count + 1)), f"0 {count + 1} page 0"])
+    answered = words("--report answers")
+    yield Case("1.5 million counts, answers over 16 MiB", Call(answered, text + b"alloc 0\n"), Ended(0, answers))
+    one_page = Ended(0, totals(pages=1, frames_held=SIZE))
+    yield Case("1.5 million counts, totals", Call((), text + b"alloc 0\n"), one_page)
+    yield Case("a fault behind 1.5 million commands", Call((), text + b"count 1\n"), fault(count + 2, "bad-number"))
+    yield Case("a last line that is cut, behind as many", Call((), text + b"count 0"), fault(count + 2, "cut"))
+    full = Ended(0, totals(pages=16, frames_held=16 * SIZE))
+    yield Case("two million allocations, most of them refused", Call((), b"setup\n" + b"alloc 0\n" * 2_000_000), full)
+    text = b"".join(f"worker {worker}\n".encode() + b"count 0\n" * 1_000_000 for worker in (1, 63))
+    answers = joined(f"{worker} {index} count 0" for worker in (1, 63) for index in range(1, 1_000_001))
+    yield Case("a million counts by each of two workers", Call((*answered, "--workers", "63"), text), Ended(0, answers))
+
+
+def late_faults() -> Iterator[Case]:
+    """Faults in lines whose numbers are just before and just behind powers of two, up to the last line there may be."""
+    for line in (255, 256, 65_535, 65_536, 65_537, 131_073, 10_000_000, MOST_BYTES - 8):
+        text = b"setup\n" + b"\n" * (line - 2) + b"fly\n"
+        yield Case(f"a fault in line {line}", Call((), text), fault(line, "bad-word"))
+
+
+def many_pages() -> Iterator[Case]:
+    """Over half a million allocations, each freed at once, on each of 8 nodes with 4,096 blocks; and full nodes."""
+    lines, pages = ["setup"], [0] * NODES
+    size = 6
+    while size < MOST_BYTES - 100:
+        node = len(lines) // 2 % NODES
+        pair = (f"alloc {node}", f"unmapwhole {node} {pages[node]}")
+        pages[node] += 1
+        lines += pair
+        size += sum(len(line) + 1 for line in pair)
+    options = words("--nodes 8 --blocks 4096")
+    report = b"".join(totals(node, pages=count, frames_given=SIZE * count) for node, count in enumerate(pages))
+    yield Case(f"{sum(pages)} pages allocated and freed", Call(options, joined(lines)), Ended(0, report))
+    text = joined(["setup", *(f"alloc {node}" for node in range(NODES) for _ in range(MOST_BLOCKS + 1))])
+    report = b"".join(totals(node, pages=MOST_BLOCKS, frames_held=SIZE * MOST_BLOCKS) for node in range(NODES))
+    yield Case("8 nodes of 4,096 blocks, full", Call(options, text), Ended(0, report))
+
+
+def pinned_scans(scans: int) -> tuple[bytes, bytes, bytes]:
+    """128 queued pages that are pinned, and so many scans: the script, its totals and its journal."""
+    commands, events = [], []
+    for page in range(MOST_BATCH):
+        commands += [f"alloc 0\nsplitpmd 0 {page}\nunmap 0 {page} 0 1\npin 0 {page}"]
+        events += [f"0 alloc {page}\n0 splitpmd {page}\n0 unmapsub {page} 0 1 queued -\n0 pin {page}"]
+    turn = joined(f"0 {word} {page}" for word in ("taken", "pinned", "back") for page in range(MOST_BATCH))
+    script = joined(["setup", *commands]) + b"scan 0 128\n" * scans
+    journal = joined(["thp-journal 1", "node 0 blocks 128", *events]) + turn * scans + b"end\n"
+    report = totals(
+        pages=MOST_BATCH,
+        queue=MOST_BATCH,
+        frames_held=MOST_BATCH * SIZE,
+        thp_split_page_failed=MOST_BATCH * scans,
+        thp_deferred_split_page=MOST_BATCH,
+        thp_split_pmd=MOST_BATCH,
+    )
+    return script, report, journal
+
+
+def long_journals() -> Iterator[Case]:
+    """Journals of over 16 MiB, and of so many events that they can still be checked."""
+    script, report, journal = pinned_scans(4_000)
+    _, _, legal = pinned_scans(3_500)
+    assert len(legal) <= MOST_BYTES < len(journal)
+    options = words("--blocks 128")
+    yield Case("1.5 million events by scans, totals", Call(options, script), Ended(0, report))
+    yield Case("1.5 million events, journal", Call((*options, "--report=journal"), script), Ended(0, journal))
+    yield Case("1.5 million events, too long for the check", Call(CHECK, journal), fault(0, "too-long"))
+    lines, front = legal.count(b"\n"), legal[: -len(b"end\n")]
+    yield Case("1.3 million events, legal", Call(CHECK, legal), LEGAL)
+    yield Case("1.3 million events, the last illegal", Call(CHECK, front + b"0 taken 1\nend\n"), illegal(lines))
+    yield Case("1.3 million events, then cut", Call(CHECK, front), fault(lines, "cut"))
+    yield Case("1.3 million events, then a fault", Call(CHECK, front + b"ends\n"), fault(lines, "bad-word"))
+
+
+def just_so_long() -> Iterator[Case]:
+    """A journal of just 16 MiB, of pins that come and go: legal, illegal in its last event, and a byte too long."""
+    front, pair = b"thp-journal 1\nnode 0 blocks 1\n0 alloc 0\n", b"0 pin 0\n0 unpin 0 stays -\n"
+    pin, whole, end = b"0 pin 0\n", b"0 mapwhole 0\n", b"end\n"
+    left = MOST_BYTES - len(front) - len(end)
+    counts = ((wholes, pins) for wholes in range(64) for pins in range(64))
+    wholes, pins = next(it for it in counts if (left - it[0] * len(whole) - it[1] * len(pin)) % len(pair) == 0)
+    pairs = (left - wholes * len(whole) - pins * len(pin)) // len(pair)
+    front += whole * wholes + pin * pins
+    legal = front + pair * pairs + end
+    assert len(legal) == MOST_BYTES
+    # in the place of the last pin that goes, one of a page that there isn't
+    late = front + pair * (pairs - 1) + pin + b"0 unpin 9 stays -\n" + end
+    yield Case(f"16 MiB, {2 * pairs} events and more, legal", Call(CHECK, legal), LEGAL)
+    yield Case("16 MiB, the last event illegal", Call(CHECK, late), illegal(late.count(b"\n") - 1))
+    longer = legal.replace(b"blocks 1", b"blocks 16", 1)
+    yield Case("16 MiB and a byte", Call(CHECK, longer), fault(0, "too-long"))
+
+
+def split_apart() -> Iterator[Case]:
+    """Sets of 256 runs: each second subpage is unmapped, then the page is split."""
+    unmapped = range(0, SIZE, 2)
+    lines = ["setup", "alloc 0", "splitpmd 0 0", *(f"unmap 0 0 {first} 1" for first in unmapped), "scan 0 1"]
+    events = [f"0 unmapsub 0 {first} 1 {'queued' if first == 0 else 'stays'} -" for first in unmapped]
+    events += ["0 taken 0", f"0 split 0 {','.join(map(str, unmapped))}"]
+    journal = joined(["thp-journal 1", "node 0 blocks 16", "0 alloc 0", "0 splitpmd 0", *events, "end"])
+    yield Case("a set of 256 runs, written", Call(words("--report journal"), joined(lines)), Ended(0, journal))
+    yield Case("a set of 256 runs, read", Call(CHECK, journal), LEGAL)
+    other = Call(CHECK, journal.replace(b",510\n", b"\n"))
+    yield Case("a set of 255 runs in its place", other, illegal(journal.count(b"\n") - 1))
+
+
+def node_of_64(node: int) -> list[str]:
+    """The journal of a node with 4,096 pages, of which each of 64 callers takes, tries and puts back 64."""
+    own = MOST_BLOCKS // CALLERS
+    lines = [f"node {node} blocks {MOST_BLOCKS}"]
+    for page in range(MOST_BLOCKS):
+        caller = page % CALLERS
+        lines += [f"{caller} alloc {page}", f"{caller} splitpmd {page}", f"{caller} unmapsub {page} 0 1 queued -"]
+    lines += [f"{page // own} taken {page}" for page in range(MOST_BLOCKS)]
+    # batches go on in turn, the last caller's first: odd pages are split, even ones are pinned
+    for page in (caller * own + place for place in range(own) for caller in reversed(range(CALLERS))):
+        caller = page // own
+        tried = [f"{caller} pin {page}", f"{caller} pinned {page}"]
+        lines += [f"{caller} split {page} 0"] if page % 2 else tried
+    lines += [f"{page // own} {word} {page}" for word in ("back", "taken") for page in range(0, MOST_BLOCKS, 2)]
+    return lines
+
+
+def largest_check() -> Iterator[Case]:
+    """A journal of 8 nodes with 4,096 blocks, whose 64 callers each have a batch."""
+    lines = ["thp-journal 1", *(line for node in range(NODES) for line in node_of_64(node))]
+    text, last = joined(lines), len(lines) + 1
+    name = "8 nodes, 4,096 blocks, 64 callers"
+    yield Case(f"{name}: {last} lines, legal", Call(CHECK, text + b"end\n"), LEGAL)
+    yield Case(f"{name}: a page more than blocks", Call(CHECK, text + b"63 alloc 4096\nend\n"), illegal(last))
+    yield Case(f"{name}: a try by another caller", Call(CHECK, text + b"62 split 0 0\nend\n"), illegal(last))
+    yield Case(f"{name}: a caller too many", Call(CHECK, text + b"64 pin 0\nend\n"), fault(last, "bad-number"))
+
+
+def many_words() -> Iterator[Case]:
+    """Command lines of many and of long words."""
+    line = "--nodes 8 --blocks 4096 --workers 63 --report totals --orders 9,9,9,9,9,9,9,9 --underused"
+    options = (*words(line), ",".join(["off"] * NODES))
+    report = b"".join(totals(node, pages=node, frames_held=SIZE * node) for node in range(NODES))
+    text = "".join(f"worker {8 * node + 7}\n" + f"alloc {node}\n" * node for node in range(NODES))
+    yield Case("each option at its most", Call(options, text.encode()), Ended(0, report))
+    unexpected = Ended(2, b"", usage.unexpected("zzz"))
+    yield Case("10,000 words behind all options", Call((*options, *("zzz",) * 10_000)), unexpected)
+    orders = ",".join("9" * 30_000)
+    yield Case("a list of 30,000 orders", Call(("--orders", orders)), Ended(2, b"", b"thpsplit: bad orders\n"))
+    bad_underused = Ended(2, b"", b"thpsplit: bad underused\n")
+    yield Case("a list of 30,000 thresholds", Call(("--underused", orders)), bad_underused)
+
+
+PARTS: tuple[Callable[[], Iterator[Case]], ...] = (
+    long_lines, many_commands, late_faults, many_pages, long_journals, just_so_long, split_apart, largest_check,
+    many_words,
+)
+
+TURNS = 60
+"""So often each worker of the crowd allocates, takes, and splits a page of each node."""
+
+
+def crowd_script() -> bytes:
+    """63 workers, each of whom works on all 8 nodes. A page that nobody wrote to is queued once it is allocated."""
+    turn = [f"{word} {node}" for node in range(NODES) for word in ("alloc", "take", "splitnext", "putback", "count")]
+    own = "".join(f"{line} 1\n" if line.startswith("take") else f"{line}\n" for line in turn) * TURNS
+    return "".join(f"worker {worker}\n{own}" for worker in range(1, MOST_WORKERS + 1)).encode()
+
+
+def crowd(program: Path) -> Optional[str]:
+    """63 workers on 8 nodes: each page is taken and split once, whoever does it, and the journal is legal."""
+    script, pages = crowd_script(), MOST_WORKERS * TURNS
+    options = (*words("--nodes 8 --blocks 4096 --workers 63 --underused"), ",".join("0" * NODES))
+    counts = {"pages": pages, "frames_given": SIZE * pages, "thp_split_page": pages, "thp_split_pmd": pages}
+    underused = "thp_underused_split_page"
+    wanted = b"".join(totals(node, underused, **{**counts, underused: pages}) for node in range(NODES))
+    wrong = run(program, Call(options, script)).differs_from(Ended(0, wanted))
+    return wrong or crowd_answers(program, options, script, pages) or crowd_journal(program, options, script, pages)
+
+
+def crowd_answers(program: Path, options: tuple[str, ...], script: bytes, pages: int) -> Optional[str]:
+    """Each worker's answers are there in order; on each node each page was allocated once, and split once."""
+    told = run(program, Call((*options, "--report", "answers"), script))
+    answers = [line.split(" ", 2) for line in told.output.decode().splitlines()]
+    commands = [line.split(" ") for line in script.decode().splitlines() if not line.startswith("worker")]
+    each = len(commands) // MOST_WORKERS
+    places = [[str(worker), str(place)] for worker in range(1, MOST_WORKERS + 1) for place in range(1, each + 1)]
+    if (told.status, told.errors) != (0, b"") or [answer[:2] for answer in answers] != places:
+        return f"answers: status {told.status}, {told.errors!r}, {len(answers)} answers"
+    for node in range(NODES):
+        own = [answer[2] for answer, command in zip(answers, commands) if command[1] == str(node)]
+        for word in ("page", "split"):
+            if sorted(int(answer[len(word) :]) for answer in own if answer.startswith(word)) != list(range(pages)):
+                return f"answers: on node {node} not each page is told once by '{word}'"
+    return None
+
+
+def crowd_journal(program: Path, options: tuple[str, ...], script: bytes, pages: int) -> Optional[str]:
+    """The journal has the events of all workers, and is legal."""
+    told = run(program, Call((*options, "--report", "journal"), script))
+    callers = {line.split(b" ", 1)[0] for line in told.output.splitlines()} - {b"thp-journal", b"node", b"end"}
+    count = told.output.count(b"\n") - NODES - 2
+    if told.status or len(callers) != MOST_WORKERS or count != 3 * pages * NODES:
+        return f"journal: status {told.status}, {len(callers)} callers, {count} events"
+    return run(program, Call(CHECK, told.output)).differs_from(LEGAL)
+
+
+def main() -> None:
+    """Makes each call, and looks at how it ends."""
+    if len(sys.argv) != 2 or not os.access(sys.argv[1], os.X_OK):
+        sys.exit(__doc__)
+    tally = Tally()
+    with tempfile.TemporaryDirectory() as name:
+        path = Path(name) / "thpsplit"
+        path.symlink_to(Path(sys.argv[1]).resolve())
+        for part in PARTS:
+            for case in part():
+                tally.run(case.name, lambda case=case: run(path, case.call).differs_from(case.wanted))
+        tally.run("63 workers on 8 nodes", lambda: crowd(path))
+        tally.end()
+
+
+if __name__ == "__main__":
+    main()

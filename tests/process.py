@@ -1,0 +1,138 @@
+"""One run of the built program from outside: its words, what its three streams are, and how it ends."""
+
+from __future__ import annotations
+
+import os
+import resource
+import subprocess
+import tempfile
+from dataclasses import dataclass
+from enum import Enum, auto
+from pathlib import Path
+from typing import Callable, Optional, Union
+
+SECONDS = 120
+"""A run that takes longer counts as one that never ends."""
+
+Word = Union[str, bytes]
+
+
+class Source(Enum):
+    """What standard input is."""
+
+    FILE = auto()
+    PIPE = auto()
+    FOLDER = auto()
+    CLOSED = auto()
+    ENDLESS = auto()
+
+
+class Sink(Enum):
+    """What an output is. What goes to any but the first is lost."""
+
+    KEPT = auto()
+    FULL = auto()
+    CLOSED = auto()
+    BROKEN = auto()
+
+
+@dataclass(frozen=True)
+class Ended:
+    """How a run ended: the exit status (a signal's number below 0), standard output and standard error."""
+
+    status: int
+    output: bytes = b""
+    errors: bytes = b""
+
+    def differs_from(self, wanted: Ended) -> Optional[str]:
+        """What is otherwise than wanted, in one line; or None."""
+        for name in ("status", "output", "errors"):
+            is_, should = getattr(self, name), getattr(wanted, name)
+            if is_ != should:
+                return f"{name} {shown(is_, should)} in place of {shown(should, is_)}"
+        return None
+
+
+def shown(it: Union[int, bytes], other: Union[int, bytes]) -> str:
+    """A status or a text; of a long text what stands where it first differs from the other."""
+    if isinstance(it, int) or isinstance(other, int) or len(it) <= 200:
+        return repr(it)
+    front = len(os.path.commonprefix([it, other]))
+    return f"{it[max(front - 40, 0) : front + 80]!r} (at byte {front} of {len(it)})"
+
+
+@dataclass(frozen=True)
+class Call:
+    """A run to be made."""
+
+    words: tuple[Word, ...] = ()
+    given: bytes = b""
+    source: Source = Source.FILE
+    output: Sink = Sink.KEPT
+    errors: Sink = Sink.KEPT
+    memory: Optional[int] = None
+    """The most bytes of address space, where they are bounded."""
+    untouched: bool = False
+    """Whether no byte of the input may have been read (of a file alone)."""
+
+
+class ReadTooEarly(Exception):
+    """Bytes of the input were read, where none may be."""
+
+
+def run(program: Path, call: Call) -> Ended:
+    """Makes a run. Its end, where the input is untouched if that is asked for."""
+    with tempfile.TemporaryDirectory() as folder:
+        path = Path(folder) / "input"
+        path.write_bytes(call.given)
+        opened = {Source.FOLDER: Path(folder), Source.ENDLESS: Path("/dev/zero")}.get(call.source, path)
+        given = os.open(opened, os.O_RDONLY)
+        outputs = [sink(call.output), sink(call.errors)]
+        try:
+            child = subprocess.Popen(
+                [program, *call.words],
+                stdin=subprocess.PIPE if call.source == Source.PIPE else given,
+                stdout=outputs[0],
+                stderr=outputs[1],
+                preexec_fn=before(call),
+            )
+            told = child.communicate(call.given if call.source == Source.PIPE else None, timeout=SECONDS)
+            if call.untouched and os.lseek(given, 0, os.SEEK_CUR) != 0:
+                raise ReadTooEarly
+        except subprocess.TimeoutExpired:
+            child.kill()
+            told = child.communicate()
+            return Ended(-9, *(text or b"" for text in told))
+        finally:
+            for it in (given, *outputs):
+                if it >= 0:
+                    os.close(it)
+    return Ended(child.returncode, *(text or b"" for text in told))
+
+
+def sink(kind: Sink) -> int:
+    """What `subprocess` takes for an output: a file's number, or that of a pipe to be kept."""
+    if kind == Sink.FULL:
+        return os.open("/dev/full", os.O_WRONLY)
+    if kind == Sink.BROKEN:
+        reader, writer = os.pipe()
+        os.close(reader)
+        return writer
+    return subprocess.PIPE if kind == Sink.KEPT else subprocess.DEVNULL
+
+
+def before(call: Call) -> Optional[Callable[[], None]]:
+    """What the new process does before it becomes the program, if anything."""
+    are_closed = (call.source == Source.CLOSED, call.output == Sink.CLOSED, call.errors == Sink.CLOSED)
+    closed = [number for number, is_closed in enumerate(are_closed) if is_closed]
+    memory = call.memory
+    if not closed and memory is None:
+        return None
+
+    def prepare() -> None:
+        for number in closed:
+            os.close(number)
+        if memory is not None:
+            resource.setrlimit(resource.RLIMIT_AS, (memory, memory))
+
+    return prepare
