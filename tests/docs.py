@@ -36,8 +36,8 @@ def readme_is_short() -> str | None:
 
 
 def paths_are_there(document: str) -> str | None:
-    """Each path that a document names is in the tree."""
-    named = PATH.findall((ROOT / document).read_text())
+    """Each path that a document names is in the tree, but for what is built."""
+    named = [path for path in PATH.findall((ROOT / document).read_text()) if "/out/" not in path]
     gone = sorted({path for path in named if not list(ROOT.glob(path.rstrip("/")))})
     return f"names {', '.join(gone)}" if gone else None
 

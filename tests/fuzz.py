@@ -344,17 +344,26 @@ def arguments() -> argparse.Namespace:
     return parser.parse_args()
 
 
+def be_worker() -> None:
+    """A process of the pool is ended by the first one, which alone is interrupted."""
+    signal.signal(signal.SIGINT, signal.SIG_IGN)
+    signal.signal(signal.SIGTERM, signal.SIG_DFL)
+
+
 def try_all(asked: argparse.Namespace, program: Path) -> Outcome:
-    """Makes all cases, or those until it is interrupted; keeps the first texts that differ."""
+    """Makes all cases, or those until it is interrupted or asked to end; keeps the first texts that differ."""
+    signal.signal(signal.SIGTERM, signal.default_int_handler)
     whole = Outcome()
     parts = [(program, asked.seed, range(at, min(at + AT_ONCE, asked.cases))) for at in range(0, asked.cases, AT_ONCE)]
-    with Pool(asked.jobs, signal.signal, (signal.SIGINT, signal.SIG_IGN)) as pool:
+    with Pool(asked.jobs, be_worker) as pool:
         try:
             for part in pool.imap(try_cases, parts):
                 for name, probe, ended in part.differing[: max(10 - len(whole.differing), 0)]:
                     keep(asked.keep / name, probe, ended)
                 whole.add(part)
         except KeyboardInterrupt:
+            for which in (signal.SIGINT, signal.SIGTERM):
+                signal.signal(which, signal.SIG_IGN)
             print("interrupted", file=sys.stderr)
     return whole
 

@@ -3,11 +3,11 @@
 
     tests/memory.py PROGRAM [TESTS[:FRONT] ..]
 
-PROGRAM is the built `thpsplit`. Where memory is refused to it, it ends with status 3, tells `thpsplit: out of memory` and
-writes nothing; or it got by with less, or without the thread, and all is as ever. TESTS are built tests; each whose name
-begins with FRONT (each at all, where there is none) passes whatever growth is refused; it may tell by a line `refused: CALL`
-which call met that. Wants a C compiler, `cc` or what CC names. A line for each case tells how many growths were refused; the
-exit status is 1 where a run ended wrong.
+PROGRAM is the built `thpsplit`. Where memory is refused to it, it ends with status 3, tells `thpsplit: out of memory`
+and writes nothing; or it got by with less, or without the thread, and all is as ever. TESTS are built tests; each whose
+name begins with FRONT (each at all, where there is none) passes whatever growth is refused; it may tell by a line
+`refused: CALL` which call met that. Wants a C compiler, `cc` or what CC names; the exit status is 77 where there is
+none. A line for each case tells how many growths were refused; the exit status is 1 where a run ended wrong.
 """
 
 from __future__ import annotations
@@ -15,17 +15,25 @@ from __future__ import annotations
 import os
 import pathlib
 import re
+import shutil
 import struct
 import subprocess
 import sys
 import tempfile
 from collections import Counter
 from concurrent.futures import ThreadPoolExecutor
+from typing import Iterable, Iterator, Sequence
 
-from script import Run
+from script import Run, Shape
+from tally import SKIPPED
 
 HERE = pathlib.Path(__file__).parent
+COMPILER = os.environ.get("CC", "cc")
 TOLD = "thpsplit: out of memory\n"
+
+Ran = subprocess.CompletedProcess[str]
+Case = tuple[str, list[str], str, str]
+"""A run: a name, its options, what it reads, and what it prints."""
 
 FIRST = "setup\nalloc 0\nsplitpmd 0 0\nunmap 0 0 0 256\nscan 0 8\n"
 # three workers on a node each, one of whom leaves a batch open
@@ -37,9 +45,13 @@ SECTIONS = {
 }
 
 
-def main():
+def main() -> None:
+    """Refuses, and tells how many runs ended wrong."""
     if len(sys.argv) < 2:
         sys.exit(__doc__)
+    if shutil.which(COMPILER.split()[0]) is None:
+        print(f"skipped: no C compiler, {COMPILER} isn't there")
+        sys.exit(SKIPPED)
     program, *tests = sys.argv[1:]
     with tempfile.TemporaryDirectory() as folder:
         refuser = Refuser(pathlib.Path(folder))
@@ -52,24 +64,26 @@ def main():
 class Refuser:
     """Runs programs with one growth or one start of a thread refused."""
 
-    def __init__(self, folder):
+    def __init__(self, folder: pathlib.Path) -> None:
         self.folder, self.library = folder, folder / "refuse.so"
-        words = [os.environ.get("CC", "cc"), "-O2", "-shared", "-fPIC", "-o", self.library, HERE / "refuse.c", "-ldl"]
+        words = [*COMPILER.split(), "-O2", "-shared", "-fPIC", "-o", self.library, HERE / "refuse.c", "-ldl"]
         subprocess.run(words, check=True)
 
-    def run(self, words, text, which="MEMORY", number=0):
+    def run(self, words: Sequence[str], text: str, which: str = "MEMORY", number: int = 0) -> tuple[Ran, int, int]:
         """The run, and how many growths and starts of threads it made."""
         with tempfile.NamedTemporaryFile(dir=self.folder) as counts:
             counts.write(bytes(16))
             counts.flush()
-            names = {"LD_PRELOAD": self.library, "REFUSE_COUNTS": counts.name, f"REFUSE_{which}": str(number)}
-            ran = subprocess.run(words, input=text, capture_output=True, text=True, env={**os.environ, **names})
+            names = {"LD_PRELOAD": str(self.library), "REFUSE_COUNTS": counts.name, f"REFUSE_{which}": str(number)}
+            env = {**os.environ, **names}
+            ran = subprocess.run(words, input=text, capture_output=True, text=True, env=env, check=False)
             counts.seek(0)
-            return ran, struct.unpack("=QQ", counts.read())
+            growths, starts = struct.unpack("=QQ", counts.read())
+            return ran, growths, starts
 
-    def each(self, words, text):
+    def each(self, words: Sequence[str], text: str) -> tuple[list[Ran], list[Ran]]:
         """The runs with each growth and then each start of a thread refused."""
-        growths, starts = self.run(words, text)[1]
+        _, growths, starts = self.run(words, text)
         asked = [("MEMORY", number) for number in range(1, growths + 1)]
         asked += [("THREAD", number) for number in range(1, starts + 1)]
         with ThreadPoolExecutor(os.cpu_count()) as pool:
@@ -77,9 +91,9 @@ class Refuser:
         return runs[:growths], runs[growths:]
 
 
-def cases():
-    """Runs of the program: a name, its options, what it reads, and what it prints."""
-    shapes = [(16, 9, None)] * 3
+def cases() -> Iterator[Case]:
+    """Runs of the program."""
+    shapes: list[Shape] = [(16, 9, None)] * 3
     run = Run(shapes)
     for caller, lines in SECTIONS.items():
         run.section(caller, lines)
@@ -96,27 +110,35 @@ def cases():
     yield "check", ["--check"], journal, "legal\n"
 
 
-def joined(lines):
+def joined(lines: Iterable[str]) -> str:
+    """The text of some lines."""
     return "".join(line + "\n" for line in lines)
 
 
-def try_case(refuser, program, name, options, text, wanted):
+def try_case(refuser: Refuser, program: str, name: str, options: list[str], text: str, wanted: str) -> int:
     """Runs the program with each growth and each thread refused; how many of these runs ended wrong."""
-    def kind(ran):
+
+    def kind(ran: Ran) -> str:
         told = (ran.returncode, ran.stdout, ran.stderr)
         return {(3, "", TOLD): "told", (0, wanted, ""): "whole"}.get(told, "wrong")
 
-    growths, starts = (Counter(map(kind, runs)) for runs in refuser.each([program, *options], text))
-    print(f"{name}: {growths.total()} growths refused: {growths['told']} told, {growths['whole']} met by less, {growths['wrong']} wrong; "
-          f"{starts.total()} threads refused: {starts['told']} told, {starts['whole']} done without, {starts['wrong']} wrong", flush=True)
-    return growths["wrong"] + starts["wrong"]
+    wrong, parts = 0, []
+    growths, starts = refuser.each([program, *options], text)
+    for what, whole, runs in (("growths", "met by less", growths), ("threads", "done without", starts)):
+        counts = Counter(map(kind, runs))
+        told = f"{counts['told']} told, {counts['whole']} {whole}, {counts['wrong']} wrong"
+        parts.append(f"{len(runs)} {what} refused: {told}")
+        wrong += counts["wrong"]
+    print(f"{name}: {'; '.join(parts)}", flush=True)
+    return wrong
 
 
-def try_tests(refuser, tests):
+def try_tests(refuser: Refuser, tests: str) -> int:
     """Runs each test with each growth and each thread refused; how many of these runs failed."""
     path, _, front = tests.partition(":")
     listed = subprocess.run([path, "--list"], capture_output=True, text=True, check=True).stdout
-    failed, calls = 0, Counter()
+    failed = 0
+    calls: Counter[str] = Counter()
     names = [name for name in re.findall(r"^(.*): test$", listed, re.MULTILINE) if name.startswith(front)]
     if not names:
         sys.exit(f"{path} has no test {front}")
@@ -125,7 +147,8 @@ def try_tests(refuser, tests):
         bad = [number for number, ran in enumerate(growths + starts, 1) if ran.returncode]
         for ran in growths:
             calls.update(re.findall(r"^refused: (.*)$", ran.stdout, re.MULTILINE))
-        print(f"{name}: {len(growths)} growths and {len(starts)} threads refused, {len(bad)} failed {bad[:5]}", flush=True)
+        counts = f"{len(growths)} growths and {len(starts)} threads refused"
+        print(f"{name}: {counts}, {len(bad)} failed {bad[:5]}", flush=True)
         failed += len(bad)
     for call, count in sorted(calls.items()):
         print(f"  {call} was refused {count} times")

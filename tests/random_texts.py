@@ -95,7 +95,7 @@ EMPTY = ANY + ("alloc",) * 30
 
 
 def likely_words(run: Run, number: int) -> tuple[str, ...]:
-    """Words of commands that mostly do something on a node. What version 3 of a journal alone tells is rare elsewhere."""
+    """Words that mostly do something on a node. What only version 3 of a journal tells is rare without thresholds."""
     node = run.nodes[number]
     if number in run.batches:
         return HOLDING

@@ -1,4 +1,4 @@
-"""The first fault of a script or a journal: a plain reading of docs/FORMATS.md, "Faults of a text" and the tables above.
+"""The first fault of a script or a journal: a plain reading of docs/FORMATS.md, its faults and its tables.
 
 It shares no code with the program. A text is bytes; lines count from 1.
 """
