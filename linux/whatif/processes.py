@@ -4,16 +4,21 @@ from __future__ import annotations
 
 import os
 import signal
+import subprocess
+import sys
 import time
-from contextlib import contextmanager
+from contextlib import ExitStack, contextmanager
 from dataclasses import dataclass, field
+from pathlib import Path
 from typing import Dict, Iterable, Iterator, List, Optional, Set
 
 from ..common.errors import InputFault, Unavailable
 from ..common.files import read
 from ..common.groups import find_hierarchy
 from ..common.keeper import Keeper
+from .resume import start_of
 
+RESUME = Path(__file__).with_name("resume.py")
 PATIENCE = 0.4  # seconds that a process gets to stop
 STOPPED = "TtZX"  # states of /proc/PID/stat in which a process does nothing
 
@@ -29,7 +34,7 @@ class Choice:
     def told(self) -> str:
         """In words."""
         words = [f"process {number}" for number in self.processes] + [f"control group {path}" for path in self.groups]
-        return ", ".join(words + (["all processes"] if self.everything else []))
+        return printable(", ".join(words + (["all processes"] if self.everything else [])))
 
     def find(self) -> List[int]:
         """The processes now, but for this one and threads of the kernel. InputFault for one that isn't there."""
@@ -74,7 +79,8 @@ def group_names() -> Dict[int, str]:
     out: Dict[int, str] = {}
     for folder in below(mount):
         try:
-            out[os.stat(folder).st_ino] = os.path.relpath(folder, mount) if folder != mount else "/"
+            name = os.path.relpath(folder, mount) if folder != mount else "/"
+            out[os.stat(folder).st_ino] = printable(name)
         except OSError:
             continue  # it went meanwhile
     return out
@@ -94,7 +100,12 @@ def name_of(process: int) -> str:
         name = read(f"/proc/{process}/comm").rstrip("\n")
     except OSError:
         return "ended"
-    return "".join(letter if " " <= letter <= "~" else "?" for letter in name) or "?"
+    return printable(name) or "?"
+
+
+def printable(text: str) -> str:
+    """A text as a comment of a script can hold it: other characters than those of ASCII are `?`."""
+    return "".join(letter if " " <= letter <= "~" else "?" for letter in text)
 
 
 def anonymous_huge(process: int) -> int:
@@ -137,23 +148,68 @@ def freeze(keeper: Keeper, file: str) -> None:
         keeper.set(file, words[former])
 
 
+class Stopper:
+    """Stops processes by SIGSTOP. They go on at `close` and at any end of this program (resume.py)."""
+
+    def __init__(self) -> None:
+        self._resumer = subprocess.Popen(
+            [sys.executable, "-S", "-E", str(RESUME)],
+            stdin=subprocess.PIPE,
+            stdout=subprocess.PIPE,
+            text=True,
+            cwd="/",
+            start_new_session=True,
+        )
+
+    def stop(self, process: int) -> None:
+        """Stops a process; one that has ended is let be."""
+        resumer = self._resumer
+        assert resumer.stdin and resumer.stdout
+        start = start_of(process)
+        try:
+            resumer.stdin.write(f"{process} {start}\n")
+            resumer.stdin.flush()
+            answer = resumer.stdout.readline()
+        except OSError:
+            answer = ""
+        if answer != "ok\n":
+            raise Unavailable("the helper that lets processes go on has ended: none is stopped")
+        try:
+            if start and start_of(process) == start:
+                os.kill(process, signal.SIGSTOP)
+        except OSError:
+            pass  # it ended
+
+    def close(self) -> None:
+        """Lets all go on, and waits for that."""
+        self._resumer.communicate()
+
+
 @contextmanager
-def held(processes: Iterable[int], groups: Iterable[str], wanted: bool) -> Iterator[int]:
+def held(
+    processes: Iterable[int], groups: Iterable[str], wanted: bool, keeper: Optional[Keeper] = None
+) -> Iterator[int]:
     """Holds processes still: control groups by their freezer where there is one, other processes by SIGSTOP, but those that
-    are stopped already and our own parents. Gives how many are held. All go on at any end of this program, SIGKILL too."""
+    are stopped already and our own parents. Gives how many are held. All go on at any end of this program, SIGKILL too;
+    groups that a given keeper froze go on when that one closes."""
     if not wanted:
         yield 0
         return
-    with Keeper() as keeper:
-        frozen: Set[int] = set()
-        for group in groups:
-            file = freezer_of(group)
-            if file:
+    files = {group: freezer_of(group) for group in groups}
+    frozen: Set[int] = set()
+    with ExitStack() as stack:
+        if keeper is None and any(files.values()):
+            keeper = stack.enter_context(Keeper())
+        for group, file in files.items():
+            if file and keeper:
                 freeze(keeper, file)
                 frozen |= set(members(group))
-        stopped = [number for number in processes if number not in frozen | ancestors() and state_of(number) not in STOPPED]
+        stopper = Stopper()
+        stack.callback(stopper.close)
+        spared = frozen | ancestors()
+        stopped = [number for number in processes if number not in spared and state_of(number) not in STOPPED]
         for number in stopped:
-            keeper.stop(number)
+            stopper.stop(number)
         wait_for_stop(stopped)
         yield len(frozen) + len(stopped)
 
@@ -176,11 +232,3 @@ def wait_for_stop(processes: Iterable[int]) -> None:
     for number in processes:
         while state_of(number) not in STOPPED and time.monotonic() < until:
             time.sleep(0.001)
-
-
-def stop(process: int) -> None:
-    """Sends SIGSTOP."""
-    try:
-        os.kill(process, signal.SIGSTOP)
-    except OSError:
-        pass  # it ended

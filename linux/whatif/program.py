@@ -26,6 +26,7 @@ from .table import (
     share_json,
     table,
 )
+from .verify import THRESHOLDS, Task, verify
 
 NAME = "thpwhatif"
 SLOW = 1.0  # seconds after which progress is shown
@@ -83,7 +84,24 @@ def parser() -> argparse.ArgumentParser:
     target.add_argument("files", nargs="*", metavar="FILE", help="scripts; else --pid, --cgroup or --all")
     target.add_argument("--json", action="store_true")
     add_choice(target), add_program(target)
+    add_verify(commands.add_parser("verify", help="known pages, or a command's, and then the real shrinker"))
     return top
+
+
+def add_verify(words: argparse.ArgumentParser) -> None:
+    """The options of verify."""
+    words.add_argument("--thresholds", metavar="LIST", help="as for now")
+    words.add_argument("--rounds", type=int, default=1, metavar="N", help="how often each threshold is tried")
+    words.add_argument("--seed", type=int, default=1, metavar="S")
+    words.add_argument("--pages", type=int, default=40, metavar="N", help="known pages of a trial, at most 4000")
+    words.add_argument("--change", type=int, default=0, metavar="MICROS", help="known pages that change so often")
+    words.add_argument("--after", type=float, default=5, metavar="SECONDS", help="how long the command runs before the look")
+    words.add_argument("--running", action="store_true", help="don't hold the pages still until they are judged")
+    words.add_argument("--enabled", choices=("always", "madvise"), help="transparent_hugepage/enabled meanwhile")
+    words.add_argument("--no-kernel", action="store_true", help="do without BPF: queues and pins are guessed")
+    words.add_argument("--verbose", action="store_true", help="a line for each trial")
+    words.add_argument("words", nargs="*", metavar="-- COMMAND", help="a command to try in place of known pages")
+    add_program(words)
 
 
 def choice_of(asked: argparse.Namespace) -> Choice:
@@ -255,11 +273,32 @@ def command_target(asked: argparse.Namespace) -> int:
     return DONE
 
 
+def command_verify(asked: argparse.Namespace) -> int:
+    demand_root()
+    if asked.rounds < 1 or not 1 <= asked.pages <= 4000 or asked.change < 0:
+        raise InputFault("verify wants 1 round or more, 1 to 4000 pages, and 0 microseconds or more")
+    task = Task(
+        thresholds=thresholds_of(asked.thresholds) if asked.thresholds else THRESHOLDS,
+        rounds=asked.rounds,
+        seed=asked.seed,
+        pages=asked.pages,
+        command=asked.words,
+        after=asked.after,
+        running=asked.running,
+        enabled=asked.enabled or "",
+        change=asked.change,
+        with_kernel=not asked.no_kernel,
+        verbose=asked.verbose,
+    )
+    return verify(task, Program(asked.program))
+
+
 COMMANDS: Dict[str, Callable[[argparse.Namespace], int]] = {
     "now": command_now,
     "snapshot": command_snapshot,
     "what-if": command_what_if,
     "target": command_target,
+    "verify": command_verify,
 }
 
 

@@ -12,6 +12,7 @@ import struct
 import time
 from collections import Counter
 from concurrent.futures import ThreadPoolExecutor
+from dataclasses import replace
 from typing import Callable, Dict, List, Optional, Tuple
 
 from ..common.errors import Unavailable
@@ -25,6 +26,7 @@ Progress = Callable[[str, int, int], None]  # what is done, how many of how many
 MOVED = "huge pages that changed while they were read"
 SMALL = "huge pages below PMD size (--orders has them)"
 SWAP_CACHE = 1 << 13  # KPF_SWAPCACHE of include/uapi/linux/kernel-page-flags.h
+SAMPLE = 64  # huge pages that are read twice
 BATCH = 64  # huge pages that one task of a thread reads
 
 
@@ -144,24 +146,23 @@ class Reader:
         """Map counts of each subpage by all processes, and the pages' control groups."""
         began = time.monotonic()
         for folio in self.folios.values():
-            raw = os.pread(self._files[1], 8 * folio.size, 8 * folio.frame)
-            if raw == raw[:8] * folio.size:
-                folio.totals = [int.from_bytes(raw[:8], "little")] * folio.size
-            else:
-                folio.totals = list(struct.unpack(f"<{folio.size}Q", raw))
+            self._count(folio)
             if len(self._files) > 2:
                 folio.cgroup = int.from_bytes(os.pread(self._files[2], 8, 8 * folio.frame), "little")
         self.spent["counts"] += time.monotonic() - began
 
+    def _count(self, folio: Folio) -> None:
+        raw = os.pread(self._files[1], 8 * folio.size, 8 * folio.frame)
+        if raw == raw[:8] * folio.size:
+            folio.totals = [int.from_bytes(raw[:8], "little")] * folio.size
+        else:
+            folio.totals = list(struct.unpack(f"<{folio.size}Q", raw))
+
     def read_zeros(self) -> None:
         """Which subpages are zero-filled. What can't be read isn't `known`."""
         began = time.monotonic()
-        folios, memory = list(self.folios.values()), {}
-        for process in {mapping.process for folio in folios for mapping in folio.mappings}:
-            try:
-                memory[process] = os.open(f"/proc/{process}/mem", os.O_RDONLY | os.O_CLOEXEC)
-            except OSError:
-                continue  # it ended: what nobody else maps stays unknown
+        folios = list(self.folios.values())
+        memory = self._open_memory(folios)
         batches = [folios[i : i + BATCH] for i in range(0, len(folios), BATCH)]
         with ThreadPoolExecutor(self._threads) as pool:
             for done, _ in enumerate(pool.map(lambda batch: self._read_batch(batch, memory), batches), 1):
@@ -169,6 +170,16 @@ class Reader:
         for file in memory.values():
             os.close(file)
         self.spent["content"] += time.monotonic() - began
+
+    def _open_memory(self, folios: List[Folio]) -> Dict[int, int]:
+        """The memory of the processes that map these pages, open, by process."""
+        memory: Dict[int, int] = {}
+        for process in {mapping.process for folio in folios for mapping in folio.mappings}:
+            try:
+                memory[process] = os.open(f"/proc/{process}/mem", os.O_RDONLY | os.O_CLOEXEC)
+            except OSError:
+                continue  # it ended: what nobody else maps stays unknown
+        return memory
 
     def _read_batch(self, folios: List[Folio], memory: Dict[int, int]) -> None:
         for folio in folios:
@@ -201,6 +212,22 @@ class Reader:
         if gone:
             self.left_out[MOVED] += len(gone)
         self.spent["second look"] += time.monotonic() - began
+
+    def read_sample_again(self) -> Tuple[int, int]:
+        """Reads some pages a second time; answers how many, and how many had other content or other map counts by then."""
+        began = time.monotonic()
+        frames = sorted(self.folios)
+        some = [self.folios[frame] for frame in frames[:: max(1, len(frames) // SAMPLE)]]
+        again = [replace(folio, zero=0, known=0) for folio in some]
+        memory = self._open_memory(again)
+        self._read_batch(again, memory)
+        for file in memory.values():
+            os.close(file)
+        for folio in again:
+            self._count(folio)
+        changed = sum((a.zeros, a.totals) != (b.zeros, b.totals) for a, b in zip(some, again))
+        self.spent["sample"] += time.monotonic() - began
+        return len(some), changed
 
     def _is_same(self, folio: Folio, maps: Dict[int, int]) -> bool:
         """Whether the page's frames are still one huge page, mapped where they were."""

@@ -64,6 +64,8 @@ class Snapshot:
     switch: Optional[bool] = None  # shrink_underused
     kernel: str = ""
     at: str = ""
+    sampled: int = 0  # pages that were read twice
+    changed: int = 0  # of these, how many had changed
     seconds: float = 0.0
     spent: Dict[str, float] = field(default_factory=dict)
 
@@ -149,6 +151,11 @@ def told(snapshot: Snapshot) -> List[str]:
     unread = sum(1 for folio in snapshot.folios if mapped(folio) & ~folio.known)
     lines += [f"with subpages that couldn't be read, taken as data: {unread}"] if unread else []
     lines.append("held still meanwhile" if snapshot.held else "not held: each subpage was so at some moment")
+    if snapshot.changed:
+        lines.append(
+            f"WARNING: {snapshot.changed} of {snapshot.sampled} huge pages that were read twice had changed meanwhile; "
+            "the numbers are of a moving picture" + ("" if snapshot.held else " (--freeze holds it still)")
+        )
     return lines
 
 
@@ -201,10 +208,12 @@ class Taker:
                 reader.read_zeros()
                 self._look(reader)
                 reader.check_again()
+                sampled, changed = reader.read_sample_again()
             snapshot = self._gather(reader, choice, sums)
         finally:
             reader.close()
         snapshot.looked_at, snapshot.held = len(wanted), count
+        snapshot.sampled, snapshot.changed = sampled, changed
         snapshot.seconds = time.monotonic() - began
         return snapshot
 
