@@ -23,7 +23,7 @@ from ..common.program import Program
 from ..common.script import Script, read_script
 from .bench import Bench
 from .generator import Shape, scripts
-from .running import Outcome, Result, Runner
+from .running import Follower, Outcome, Result, Runner, quiet
 from .seen import Seen
 
 NAME = "thpreplay"
@@ -139,13 +139,13 @@ def replay(asked: argparse.Namespace) -> int:
     with Keeper() as keeper:
         bench = Bench(keeper, memory)
         try:
-            runner = Runner(bench, program, print if asked.verbose else lambda line: None)
+            follower = Follower(tell=print if asked.verbose else quiet, looks=[] if asked.store else None)
+            runner = Runner(bench, program, follower)
             for script in found:
-                looks: Optional[List[Seen]] = [] if asked.store else None
-                sums.add(script, runner.run(script, zeros, looks), looks)
+                sums.add(script, runner.run(script, zeros), follower.looks)
         finally:
             bench.close()
-    sums.tell(runner.sums)
+    sums.tell(follower.sums)
     if not sums.compared:
         raise Unavailable("no script could be compared")
     return DIFFERS if sums.differing else DONE

@@ -6,7 +6,7 @@ import os
 from dataclasses import dataclass
 from typing import Iterable, List, Optional
 
-from ..common.files import COLLAPSE_SLEEP, PTES_NONE, SWITCH, size_folder
+from ..common.files import COLLAPSE_SLEEP, PMD_ORDER, PTES_NONE, SWITCH, size_folder
 from ..common.groups import Groups
 from ..common.keeper import Keeper
 from ..common.kernel_memory import KernelMemory
@@ -41,12 +41,13 @@ class Bench:
 
     def prepare(self, options: Options) -> None:
         """Settings and nodes for a script. Unsayable where a kernel can't have such settings."""
-        thresholds = set(options.underused)
-        if None in thresholds and len(thresholds) > 1:
+        large = {switch for order, switch in zip(options.orders, options.underused) if order == PMD_ORDER}
+        if None in large and len(large) > 1:
             raise Unsayable("underused pages are split on some nodes only: the kernel has one switch")
-        if len(thresholds) > 1:
+        if len(large) > 1:
             raise Unsayable("thresholds differ by node: the kernel has one")
-        threshold = thresholds.pop()
+        small = [switch for switch in options.underused if switch is not None]  # these pages aren't looked at (C)
+        threshold = large.pop() if large else next(iter(small), None)
         if os.path.exists(SWITCH):
             self._keeper.set(SWITCH, int(threshold is not None))
         elif threshold is not None:

@@ -13,11 +13,9 @@ from ..common.counters import Counter, SizeCounter
 from ..common.files import PMD_ORDER
 from ..common.subpages import set_text
 from .known import Known
-from .sayings import Said, Unsayable
+from .sayings import NEVER, Said
 from .seen import PageSeen, Seen
 from .states import NodeState, PageState
-
-NEVER = 511  # max_ptes_none at which no page is underused (mm/huge_memory.c: thp_underused)
 
 
 class Differs(Exception):
@@ -30,24 +28,15 @@ def same(what: str, kernel: object, says: object) -> None:
 
 
 class Expecting:
-    """Follows a script on all nodes; `known` gathers the differences that it met."""
+    """Follows a script on all nodes; `known` gathers the differences that it met, from those of the story on. `small`: nodes
+    whose pages aren't queued at their fault (C); at their splits zero-filled subpages go back, as the script says."""
 
-    def __init__(self, states: Sequence[NodeState]) -> None:
-        self._states = states
+    def __init__(self, states: Sequence[NodeState], known: Set[Known], small: Set[int]) -> None:
+        self._states, self._small = states, small
         self._queues: List[List[int]] = [[] for _ in states]  # the kernel's, as they should be
         self._failed: Dict[int, int] = Tallies()  # failed splits by order, as they should be
-        self.known: Set[Known] = set()
+        self.known = set(known)
         self.seen: Dict[str, int] = Tallies()
-
-    def refuse(self, said: Said) -> None:
-        """Unsayable where C or D decides what becomes of a page: the kernel then has another story from there on."""
-        state = self._states[said.node]
-        for event in said.events:
-            if event.word == "split" and event.page is not None and not state.pages[event.page].partly:
-                if state.order < PMD_ORDER:
-                    raise Unsayable("known as C: an underused page below PMD size is never queued")
-                if state.threshold == NEVER:
-                    raise Unsayable("known as D: at threshold 511 no page is underused")
 
     def follow(self, said: Said, seen: Seen) -> None:
         """The node's state is that after the command; works out the kernel's queue and failed splits."""
@@ -56,17 +45,20 @@ class Expecting:
             self._scan(said, state, seen)
             return
         stays = [page for page in queue if page in state.queue]
-        small = state.splits_underused and state.order < PMD_ORDER
-        comes = [page for page in state.queue if page not in stays and not (small and not state.pages[page].partly)]
-        self._queues[said.node] = stays + comes
+        self._queues[said.node] = stays + [page for page in state.queue if page not in stays]
 
     def _scan(self, said: Said, state: NodeState, seen: Seen) -> None:
         pinned = sum(event.word == "pinned" for event in said.events)
-        stay = {event.page for event in said.events if event.word == "back"}
+        taken = [event.page for event in said.events if event.word == "taken"]
+        stay = [event.page for event in said.events if event.word == "back"]
+        in_order = [page for page in taken if page in stay]
+        if stay != in_order:  # E: the kernel's order is the other way round, the program's is that of taking
+            raise Differs(f"order of putting back, kernel {in_order[::-1]} at each pass, thpsplit {stay}")
         queue = [page for page in self._queues[said.node] if page in stay]
         once = pinned - len(stay)  # pinned underused pages leave the queue after one try
-        if state.order < PMD_ORDER or state.threshold == NEVER:
-            once = 0  # C, D: never tried
+        if state.threshold == NEVER and once:
+            self.known.add(Known.D)
+            once = 0
         total = seen.counts.sizes[SizeCounter.SPLIT_FAILED, state.order]
         if total is None and state.order == PMD_ORDER:
             total = seen.counts.machine[Counter.SPLIT_FAILED]
@@ -93,7 +85,7 @@ class Expecting:
         for node, state in enumerate(self._states):
             for number, page in enumerate(state.pages):
                 if page.live:
-                    self._compare_page(f"page {number} of node {node}", page, seen.pages[node, number])
+                    self._compare_page(node, f"page {number} of node {node}", page, seen.pages[node, number])
             self._compare_queue(node, state, seen.queues[node])
 
     def _sum(self, name: str, order: Optional[int] = None) -> int:
@@ -139,7 +131,7 @@ class Expecting:
             if sizes[counter, order] is not None:
                 same(f"{counter.value} of order {order}", sizes[counter, order], value)
 
-    def _compare_page(self, name: str, page: PageState, seen: PageSeen) -> None:
+    def _compare_page(self, node: int, name: str, page: PageState, seen: PageSeen) -> None:
         totals = page.totals()
         if not page.split:
             same(f"frames of {name}", seen.whole, page.subpages)
@@ -147,7 +139,7 @@ class Expecting:
             return
         held = page.held & ~page.dropped_zero
         if held != page.held:
-            self.known.add(Known.B)
+            self.known.add(Known.C if node in self._small else Known.B)
         same(f"frames of {name}", set_text(seen.mapped), set_text(held))
         self._compare_counts(name, seen.counts, totals, seen.mapped)
 
@@ -167,4 +159,4 @@ class Expecting:
         self.seen["queues compared"] += 1
         self.seen["queues compared, of two pages or more"] += len(should) > 1
         if should != state.queue:
-            self.known.add(Known.C if state.splits_underused and state.order < PMD_ORDER else Known.E)
+            self.known.add(Known.E)

@@ -1,14 +1,28 @@
-"""What `thpsplit` says of a script, command by command, out of its answers and its journal."""
+"""What `thpsplit` says of a script, command by command, out of its answers and its journal.
+
+Two known differences change what becomes of pages, so that the kernel has another story from there on. That story is
+told by `thpsplit` too, of a script changed so that it says the kernel's rule:
+
+    C   a page below PMD size isn't queued at its fault: the nodes of such pages get `off`
+    D   at threshold 511 no page is underused: of a page that is all zero one subpage is written before each scan, and
+        filled with zeros after it
+"""
 
 from __future__ import annotations
 
-from dataclasses import dataclass
-from typing import Dict, List, Sequence, Tuple
+from dataclasses import dataclass, replace
+from typing import Dict, List, Sequence, Set, Tuple
 
 from ..common.errors import InputFault
+from ..common.files import PMD_ORDER
 from ..common.journal import Event
 from ..common.program import Program
-from ..common.script import Script
+from ..common.script import Options, Script
+from .known import Known
+from .states import NodeState
+
+NEVER = 511  # max_ptes_none at which no page is underused (mm/huge_memory.c: thp_underused)
+INSERTED = 0  # the place of a command that only tells D
 
 
 class Unsayable(Exception):
@@ -16,10 +30,19 @@ class Unsayable(Exception):
 
 
 @dataclass(frozen=True)
+class Step:
+    """A command: its place in the script from 1, its section, its words."""
+
+    place: int
+    section: int
+    words: Sequence[str]
+
+
+@dataclass(frozen=True)
 class Said:
     """One command, its answer, and the events that it recorded on its node."""
 
-    place: int  # in the script, from 1
+    place: int
     words: Sequence[str]
     answer: str
     events: Tuple[Event, ...]
@@ -31,6 +54,17 @@ class Said:
     @property
     def node(self) -> int:
         return int(self.words[1])
+
+
+@dataclass(frozen=True)
+class Story:
+    """What the kernel should do: by commands, under these options; the known differences that the story tells; the nodes
+    whose pages aren't queued at their fault though the script's options say so."""
+
+    said: List[Said]
+    options: Options
+    known: Set[Known]
+    small: Set[int]
 
 
 def events_of(words: Sequence[str], answer: str) -> int:
@@ -45,26 +79,88 @@ def events_of(words: Sequence[str], answer: str) -> int:
     return 1
 
 
-def what_is_said(script: Script, program: Program) -> List[Said]:
-    """The commands in an order in which a kernel can do them: workers one after the other, if no two share a node."""
-    commands = script.commands()
-    owners: Dict[int, int] = {}
-    for command in commands:
-        if command.section and owners.setdefault(int(command.words[1]), command.section) != command.section:
-            raise Unsayable("workers share a node: the kernel has no such schedule")
-    options = script.options.words()
-    answers = program.answers(script.text, options)
-    if len(answers) != len(commands):
-        raise InputFault(f"{program.path} gives {len(answers)} answers to {len(commands)} commands")
-    rest = [list(node.events) for node in program.journal(script.text, options)]
+def said_of(steps: Sequence[Step], text: str, options: Options, program: Program) -> List[Said]:
+    """The program's answers and events of the steps that a text says."""
+    answers = program.answers(text, options.words())
+    if len(answers) != len(steps):
+        raise InputFault(f"{program.path} gives {len(answers)} answers to {len(steps)} commands")
+    rest = [list(node.events) for node in program.journal(text, options.words())]
     out = []
-    for place, (command, answer) in enumerate(zip(commands, answers), 1):
-        node, count = int(command.words[1]), events_of(command.words, answer.text)
+    for step, answer in zip(steps, answers):
+        node, count = int(step.words[1]), events_of(step.words, answer.text)
         if len(rest) <= node or len(rest[node]) < count:
-            raise InputFault(f"{program.path} says fewer events than answers tell (command {place})")
-        out.append(Said(place, command.words, answer.text, tuple(rest[node][:count])))
+            raise InputFault(f"{program.path} says fewer events than answers tell (command {step.place})")
+        out.append(Said(step.place, step.words, answer.text, tuple(rest[node][:count])))
         del rest[node][:count]
-    return fold_batches(out)
+    return out
+
+
+def story_of(script: Script, program: Program) -> Story:
+    """The kernel's story of a script. Unsayable where workers share a node; Refused where the script has a fault."""
+    steps = [Step(i, command.section, command.words) for i, command in enumerate(script.commands(), 1)]
+    owners: Dict[int, int] = {}
+    for step in steps:
+        if step.section and owners.setdefault(int(step.words[1]), step.section) != step.section:
+            raise Unsayable("workers share a node: the kernel has no such schedule")
+    options, known = script.options, set()
+    said = said_of(steps, script.text, options, program)
+    small = {n for n, order in enumerate(options.orders) if order < PMD_ORDER and options.underused[n] is not None}
+    if small:
+        switches = tuple(None if n in small else switch for n, switch in enumerate(options.underused))
+        options, before = replace(options, underused=switches), said
+        said = said_of(steps, script.text, options, program)
+        if [(each.answer, each.events) for each in said] != [(each.answer, each.events) for each in before]:
+            known.add(Known.C)
+    while True:
+        more = _without_underused(steps, said, options)
+        if len(more) == len(steps):
+            break
+        steps = more
+        said = said_of(steps, _text(steps), options, program)
+        known.add(Known.D)
+    told = [each for each in said if each.place != INSERTED]
+    return Story(fold_batches(told), options, known, small)
+
+
+def _text(steps: Sequence[Step]) -> str:
+    lines, section = [], -1
+    for step in steps:
+        if step.section != section:
+            section = step.section
+            lines.append(f"worker {section}" if section else "setup")
+        lines.append(" ".join(step.words))
+    return "\n".join(lines) + "\n"
+
+
+def _without_underused(steps: Sequence[Step], said: Sequence[Said], options: Options) -> List[Step]:
+    """The steps, with one subpage written around the first command that splits or tries an underused page at 511.
+
+    A page that only a pin holds can't be written: the program tries it once, the kernel doesn't (expecting.py).
+    """
+    states = [NodeState(order, switch, True) for order, switch in zip(options.orders, options.underused)]
+    out = list(steps)
+    for at, each in enumerate(said):
+        state = states[each.node]
+        if state.threshold == NEVER and each.words[0] in ("scan", "take") and not each.refused:
+            taken = [event.page for event in each.events if event.word == "taken" and event.page is not None]
+            pages = [(number, state.pages[number]) for number in taken]
+            hit = [n for n, page in pages if not page.partly and page.zero == page.every and page.used()]
+            if hit:
+                return out[:at] + _around(out[at:], hit, each)
+        for event in each.events:
+            state.apply(event)
+    return out
+
+
+def _around(steps: List[Step], pages: List[int], said: Said) -> List[Step]:
+    """The steps from a scan or take on; after it (or its putback) the subpage is zero again."""
+    node, section = said.words[1], steps[0].section
+    end = 1
+    if said.words[0] == "take":
+        end = next((i + 1 for i, step in enumerate(steps) if list(step.words) == ["putback", node]), 1)
+    writes = [Step(INSERTED, section, ("write", node, str(page), "0", "1")) for page in pages]
+    zeros = [Step(INSERTED, section, ("zero", node, str(page), "0", "1")) for page in pages]
+    return writes + steps[:end] + zeros + steps[end:]
 
 
 def fold_batches(said: List[Said]) -> List[Said]:
