@@ -20,7 +20,7 @@ from ..common.files import write
 from ..common.keeper import Keeper
 from ..common.kernel_memory import KernelMemory
 from ..common.program import Program
-from ..common.script import Script, read_script
+from ..common.script import MARK, Script, read_script
 from .bench import Bench
 from .generator import Shape, scripts
 from .running import Follower, Outcome, Result, Runner, quiet
@@ -106,8 +106,9 @@ class Sums:
         if self._asked.keep and outcome.result is Result.DIFFERS:
             self._write(self._asked.keep, f"{script.name}.script", script.text)
         if self._asked.store and looks:
-            self._write(self._asked.store, f"{script.name}.looks", "".join(f"{look.line()}\n" for look in looks))
-            self._write(self._asked.store, f"{script.name}.script", script.text)
+            self._write(self._asked.store, script.name.replace(".script", "") + ".looks", "".join(f"{look.line()}\n" for look in looks))
+            head = "" if script.text.startswith(MARK) else f"{MARK}{' '.join(script.options.words())}\n"
+            self._write(self._asked.store, script.name.replace(".script", "") + ".script", head + script.text)
 
     def _write(self, folder: str, name: str, text: str) -> None:
         os.makedirs(folder, exist_ok=True)

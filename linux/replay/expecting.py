@@ -53,7 +53,7 @@ class Expecting:
         stay = [event.page for event in said.events if event.word == "back"]
         in_order = [page for page in taken if page in stay]
         if stay != in_order:  # E: the kernel's order is the other way round, the program's is that of taking
-            raise Differs(f"order of putting back, kernel {in_order[::-1]} at each pass, thpsplit {stay}")
+            same(f"order of putting back {in_order}, which the kernel turns around at each pass (E)", "so", stay)
         queue = [page for page in self._queues[said.node] if page in stay]
         once = pinned - len(stay)  # pinned underused pages leave the queue after one try
         if state.threshold == NEVER and once:
