@@ -131,9 +131,9 @@ def replay(asked: argparse.Namespace) -> int:
     if not asked.script and not asked.random:
         raise InputFault("no script: name one, or ask for random ones (--random COUNT)")
     parts, memory = compared_parts(not asked.no_memory)
-    print(f"{machine.kernel()}\n{machine.table(parts)}", flush=True)
     machine.demand(parts, NEEDED)
     program = Program(asked.program)
+    print(f"{machine.kernel()}\n{machine.table(parts)}", flush=True)
     print(f"program {program.path}; " + ("queues are compared" if memory else "queues are not compared"), flush=True)
     sums = Sums(asked)
     zeros = None if asked.fill is None else asked.fill == "zeros"
