@@ -12,10 +12,11 @@ from typing import Any, Callable, Dict, List, NoReturn, Optional, Sequence
 
 from ..common.errors import DONE, USAGE, InputFault, Unavailable, run_tool
 from ..common.program import Program
-from .predict import DEFAULT, OFF, Predictor, highest_with, label, thresholds_of, with_today
+from .picture import picture
+from .predict import DEFAULT, OFF, Predictor, Row, Share, highest_with, label, thresholds_of, with_today
 from .processes import Choice
 from .scripts import Script, read_script
-from .snapshot import How, Snapshot, Taker, from_json, mebibytes, show_progress, told, write
+from .snapshot import How, Snapshot, Taker, from_json, mebibytes, show_progress, told, warnings, write
 from .table import (
     FRAMES_A_MEBIBYTE,
     cost_table,
@@ -27,6 +28,7 @@ from .table import (
     table,
 )
 from .verify import THRESHOLDS, Task, verify
+from .watch import Look, watch
 
 NAME = "thpwhatif"
 SLOW = 1.0  # seconds after which progress is shown
@@ -84,6 +86,11 @@ def parser() -> argparse.ArgumentParser:
     target.add_argument("files", nargs="*", metavar="FILE", help="scripts; else --pid, --cgroup or --all")
     target.add_argument("--json", action="store_true")
     add_choice(target), add_program(target)
+    watching = commands.add_parser("watch", help="look again and again, and tell how the rows drift")
+    watching.add_argument("seconds", type=float, metavar="SECONDS", help="from one look to the next")
+    watching.add_argument("--rounds", type=int, default=0, metavar="N", help="end after so many; else when interrupted")
+    watching.add_argument("--thresholds", metavar="LIST", help="as for now")
+    add_choice(watching), add_program(watching)
     add_verify(commands.add_parser("verify", help="known pages, or a command's, and then the real shrinker"))
     return top
 
@@ -99,6 +106,7 @@ def add_verify(words: argparse.ArgumentParser) -> None:
     words.add_argument("--running", action="store_true", help="don't hold the pages still until they are judged")
     words.add_argument("--enabled", choices=("always", "madvise"), help="transparent_hugepage/enabled meanwhile")
     words.add_argument("--no-kernel", action="store_true", help="do without BPF: queues and pins are guessed")
+    words.add_argument("--keep", default="", metavar="FOLDER", help="write what each trial saw there")
     words.add_argument("--verbose", action="store_true", help="a line for each trial")
     words.add_argument("words", nargs="*", metavar="-- COMMAND", help="a command to try in place of known pages")
     add_program(words)
@@ -161,12 +169,12 @@ def left_out_of(scripts: Sequence[Script]) -> Dict[str, int]:
     return out
 
 
-def show(asked: argparse.Namespace, scripts: List[Script], snapshot: Optional[Snapshot]) -> None:
+def show(asked: argparse.Namespace, scripts: List[Script], snapshot: Optional[Snapshot], program: Program) -> None:
     """The tables, or the JSON object, of scripts."""
     today = snapshot.today if snapshot else next((t for t in (script.today() for script in scripts) if t is not None), None)
     given = thresholds_of(asked.thresholds) if asked.thresholds else DEFAULT
     thresholds = with_today(given, None if asked.thresholds else today)
-    predictor = Predictor(scripts, Program(asked.program))
+    predictor = Predictor(scripts, program)
     began = time.monotonic()
     rows = predictor.run(thresholds)
     names = {number: name for script in scripts for number, name in script.processes().items()}
@@ -174,18 +182,10 @@ def show(asked: argparse.Namespace, scripts: List[Script], snapshot: Optional[Sn
     groups = predictor.by_group(thresholds) if asked.by_cgroup else {}
     left_out = dict(snapshot.left_out) if snapshot else left_out_of(scripts)
     if asked.svg:
-        from .picture import picture
-
-        Path(asked.svg).write_text(picture(rows, today), encoding="ascii")
+        write_file(asked.svg, picture(rows, today))
     if asked.json:
         out: Dict[str, Any] = {"rows": [row_json(row, today) for row in rows], "left_out": left_out}
-        if asked.by_process:
-            out["by_process"] = {
-                label(t): [share_json(p, names.get(p, "?"), share) for p, share in sorted(each.items())]
-                for t, each in shares.items()
-            }
-        if asked.by_cgroup:
-            out["by_cgroup"] = {name: [row_json(row, today) for row in each] for name, each in groups.items()}
+        out.update(parts_json(shares, groups, names, today))
         out.update(about(snapshot, time.monotonic() - began))
         print(json.dumps(out, indent=1))
         return
@@ -194,6 +194,29 @@ def show(asked: argparse.Namespace, scripts: List[Script], snapshot: Optional[Sn
     parts += [group_table(groups)] if asked.by_cgroup else []
     print("\n\n".join(parts))
     print(last_line(left_out))
+
+
+def parts_json(
+    shares: Dict[int, Dict[int, Share]], groups: Dict[str, List[Row]], names: Dict[int, str], today: Optional[int]
+) -> Dict[str, Any]:
+    """The tables by process and by control group, where they were asked for, as JSON."""
+    out: Dict[str, Any] = {}
+    if shares:
+        out["by_process"] = {
+            label(t): [share_json(p, names.get(p, "?"), share) for p, share in sorted(each.items())]
+            for t, each in shares.items()
+        }
+    if groups:
+        out["by_cgroup"] = {name: [row_json(row, today) for row in each] for name, each in groups.items()}
+    return out
+
+
+def write_file(path: str, text: str) -> None:
+    """Writes a file; InputFault where that isn't possible."""
+    try:
+        Path(path).write_text(text, encoding="ascii")
+    except OSError as error:
+        raise InputFault(f"{path} can't be written: {error.strerror}") from error
 
 
 def about(snapshot: Optional[Snapshot], runs: float) -> Dict[str, Any]:
@@ -205,6 +228,8 @@ def about(snapshot: Optional[Snapshot], runs: float) -> Dict[str, Any]:
         "looked_at": snapshot.looked_at,
         "held": bool(snapshot.held),
         "queues_read": not snapshot.lacking,
+        "read_twice": snapshot.sampled,
+        "of_these_changed": snapshot.changed,
         "at": snapshot.at,
         "kernel": snapshot.kernel,
         "sums": vars(snapshot.sums),
@@ -213,6 +238,7 @@ def about(snapshot: Optional[Snapshot], runs: float) -> Dict[str, Any]:
 
 
 def command_now(asked: argparse.Namespace) -> int:
+    program = Program(asked.program)
     snapshot = look(asked)
     made = write(snapshot)
     for line in told(snapshot) if not asked.json else ():
@@ -222,7 +248,7 @@ def command_now(asked: argparse.Namespace) -> int:
         if not asked.json:
             print(last_line(snapshot.left_out))
             return DONE
-    show(asked, made.scripts, snapshot)
+    show(asked, made.scripts, snapshot, program)
     return DONE
 
 
@@ -230,7 +256,7 @@ def command_snapshot(asked: argparse.Namespace) -> int:
     snapshot = look(asked)
     made = write(snapshot)
     if asked.facts:
-        Path(asked.facts).write_text(json.dumps(snapshot.to_json()) + "\n", encoding="ascii")
+        write_file(asked.facts, json.dumps(snapshot.to_json()) + "\n")
     for line in told(snapshot) + [last_line(snapshot.left_out)]:
         print(line, file=sys.stderr)
     if not made.scripts:
@@ -241,20 +267,21 @@ def command_snapshot(asked: argparse.Namespace) -> int:
         if asked.output == "-":
             sys.stdout.write(script.text)
         else:
-            Path(asked.output + (f".{index}" if index > 1 else "")).write_text(script.text, encoding="ascii")
+            write_file(asked.output + (f".{index}" if index > 1 else ""), script.text)
     return DONE
 
 
 def command_what_if(asked: argparse.Namespace) -> int:
-    show(asked, read_scripts(asked.files), None)
+    show(asked, read_scripts(asked.files), None, Program(asked.program))
     return DONE
 
 
 def command_target(asked: argparse.Namespace) -> int:
     if asked.mebibytes <= 0:
         raise InputFault("target wants more than 0 MiB")
+    program = Program(asked.program)
     scripts = read_scripts(asked.files) if asked.files else write(look(asked)).scripts
-    predictor = Predictor(scripts, Program(asked.program))
+    predictor = Predictor(scripts, program)
     found = highest_with(predictor, -int(-asked.mebibytes * FRAMES_A_MEBIBYTE // 1))
     names = {number: name for script in scripts for number, name in script.processes().items()}
     threshold = 0 if found is None else found
@@ -270,6 +297,24 @@ def command_target(asked: argparse.Namespace) -> int:
     else:
         print(f"max_ptes_none {found} gives back {row.mebibytes:.1f} MiB and splits {row.split} huge pages. What it costs:")
     print(cost_table(shares, names))
+    return DONE
+
+
+def command_watch(asked: argparse.Namespace) -> int:
+    demand_root()
+    if not 0 < asked.seconds < 1e6 or asked.rounds < 0:
+        raise InputFault("watch wants more than 0 seconds, and 0 rounds or more")
+    choice, taker, program = choice_of(asked), Taker(how_of(asked)), Program(asked.program)
+    given = thresholds_of(asked.thresholds) if asked.thresholds else DEFAULT
+
+    def look_once() -> Look:
+        snapshot = taker.take(choice)
+        thresholds = with_today(given, None if asked.thresholds else snapshot.today)
+        rows = Predictor(write(snapshot).scripts, program).run(thresholds)
+        notes = [last_line(snapshot.left_out)] if any(snapshot.left_out.values()) else []
+        return Look(rows, snapshot.today, notes + warnings(snapshot))
+
+    watch(look_once, asked.seconds, asked.rounds)
     return DONE
 
 
@@ -289,6 +334,7 @@ def command_verify(asked: argparse.Namespace) -> int:
         change=asked.change,
         with_kernel=not asked.no_kernel,
         verbose=asked.verbose,
+        keep=asked.keep,
     )
     return verify(task, Program(asked.program))
 
@@ -298,6 +344,7 @@ COMMANDS: Dict[str, Callable[[argparse.Namespace], int]] = {
     "snapshot": command_snapshot,
     "what-if": command_what_if,
     "target": command_target,
+    "watch": command_watch,
     "verify": command_verify,
 }
 

@@ -19,8 +19,8 @@ from ..common.errors import Unavailable
 from ..common.files import BASE, PMD_ORDER, read
 from ..common.helpers import helper
 from ..common.page_files import PageFlag, frame_of_entry
-from ..common.subpages import bits_of, runs
-from .folios import Folio, Mapping
+from ..common.subpages import bits_of
+from .folios import Folio, Mapping, runs
 
 Progress = Callable[[str, int, int], None]  # what is done, how many of how many
 MOVED = "huge pages that changed while they were read"

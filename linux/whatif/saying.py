@@ -19,8 +19,8 @@ from dataclasses import dataclass
 from typing import List
 
 from ..common.files import PMD_ORDER
-from ..common.subpages import runs, size
-from .folios import Folio
+from ..common.subpages import size
+from .folios import Folio, runs
 
 LEVELS = 32  # map counts and pins beyond this are said as this many: more change no answer
 

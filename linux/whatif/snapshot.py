@@ -151,12 +151,17 @@ def told(snapshot: Snapshot) -> List[str]:
     unread = sum(1 for folio in snapshot.folios if mapped(folio) & ~folio.known)
     lines += [f"with subpages that couldn't be read, taken as data: {unread}"] if unread else []
     lines.append("held still meanwhile" if snapshot.held else "not held: each subpage was so at some moment")
-    if snapshot.changed:
-        lines.append(
-            f"WARNING: {snapshot.changed} of {snapshot.sampled} huge pages that were read twice had changed meanwhile; "
-            "the numbers are of a moving picture" + ("" if snapshot.held else " (--freeze holds it still)")
-        )
-    return lines
+    return lines + warnings(snapshot)
+
+
+def warnings(snapshot: Snapshot) -> List[str]:
+    """Why the numbers may be off: pages changed while they were read."""
+    if not snapshot.changed:
+        return []
+    return [
+        f"WARNING: {snapshot.changed} of {snapshot.sampled} huge pages that were read twice had changed meanwhile; "
+        "the numbers are of a moving picture" + ("" if snapshot.held else " (--freeze holds it still)")
+    ]
 
 
 def mapped(folio: Folio) -> int:

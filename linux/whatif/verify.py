@@ -7,6 +7,7 @@ any end (linux/common/keeper.py); one tool at a time holds the lock.
 
 from __future__ import annotations
 
+import json
 import os
 import random
 import signal
@@ -15,11 +16,12 @@ import time
 from collections import Counter
 from contextlib import contextmanager
 from dataclasses import dataclass, field
+from pathlib import Path
 from typing import Dict, Iterator, List, Optional, Sequence, Set
 
 from ..common.counters import Counter as Statistic
 from ..common.counters import counts
-from ..common.errors import DIFFERS, DONE
+from ..common.errors import DIFFERS, DONE, InputFault
 from ..common.files import BASE, COLLAPSE_SLEEP, PMD_ORDER, PTES_NONE, SWITCH, THP, size_folder
 from ..common.groups import Groups
 from ..common.keeper import Keeper
@@ -36,6 +38,7 @@ from .snapshot import How, Scripts, Snapshot, Taker, write
 THRESHOLDS = (OFF, 0, 1, 16, 32, 64, 128, 256, 409, 500, 510)
 SMALL_ORDERS = (4, 6)
 HOUR = 3600000  # milliseconds: khugepaged collapses nothing meanwhile
+TURN = 60.0  # seconds after which another tool may have the machine
 CHANGE_TIME = 0.5  # seconds that pages change before the look
 
 
@@ -54,6 +57,7 @@ class Task:
     change: int = 0  # microseconds between changes of known pages; 0: they stand still
     with_kernel: bool = True
     verbose: bool = False
+    keep: str = ""  # a folder for what was seen
 
     @property
     def settings(self) -> List[str]:
@@ -66,15 +70,14 @@ class Task:
 class Result:
     """What a trial saw: for each page that is split which frames come back, by frame; said, judged and come."""
 
+    snapshot: Snapshot
     folios: Dict[int, Folio]  # those that a script says
     said: Dict[int, int]
     judged: Dict[int, int]
     came: Dict[int, int]
     beside: Dict[int, int]  # what came of pages that no script says
     added: Dict[Statistic, int]  # to the kernel's counters
-    left_out: Dict[str, int]
     differing: List[int] = field(default_factory=list)
-    changed: int = 0  # pages of the sample that changed between two looks
 
     def statistics(self) -> Dict[Statistic, int]:
         """The two counters that the prediction says: pages of PMD size split, and those of them as underused."""
@@ -192,8 +195,7 @@ class Bench:
                 judged[frame] = sum(1 << i for i, is_back in enumerate(back) if is_back)
         own = {frame: given for frame, given in came.items() if frame in folios}
         differing = [frame for frame in folios if not said.get(frame) == own.get(frame) == judged.get(frame)]
-        left_out = {why: count for why, count in snapshot.left_out.items() if count}
-        return Result(folios, said, judged, own, beside, added, left_out, differing, snapshot.changed)
+        return Result(snapshot, folios, said, judged, own, beside, added, differing)
 
 
 def end_process(process: subprocess.Popen[str]) -> None:
@@ -256,10 +258,10 @@ def count_result(seen: Counter[str], result: Result) -> None:
     seen["pages split"] += len(result.came)
     seen["frames said"] += sum(size(given) for given in result.said.values())
     seen["frames that came back"] += came
-    seen["pages that no script says"] += sum(result.left_out.values())
+    seen["pages that were left out"] += sum(result.snapshot.left_out.values())
     seen["  of these split"] += len(result.beside)
     seen["  and their frames"] += sum(size(given) for given in result.beside.values())
-    seen["pages found changed between two looks"] += result.changed
+    seen["pages found changed between two looks"] += result.snapshot.changed
 
 
 def told(threshold: int, result: Result) -> str:
@@ -291,17 +293,33 @@ def told_pages(result: Result) -> List[str]:
 
 
 def verify(task: Task, program: Program) -> int:
-    """Runs all trials; status 1 where one wasn't exact."""
+    """Runs all trials; status 1 where one wasn't exact. After TURN seconds another tool may have the lock for a while."""
     seen: Counter[str] = Counter()
-    with Keeper() as keeper:
-        print("set meanwhile, and put back: " + ", ".join(task.settings), flush=True)
-        bench = Bench(keeper, task, program)
-        for number in range(task.rounds):
-            for threshold in task.thresholds:
+    todo = [(number, threshold) for number in range(task.rounds) for threshold in task.thresholds]
+    print("set meanwhile, and put back: " + ", ".join(task.settings), flush=True)
+    while todo:
+        with Keeper() as keeper:
+            bench, until = Bench(keeper, task, program), time.monotonic() + TURN
+            while todo and time.monotonic() < until:
+                number, threshold = todo.pop(0)
                 result = bench.trial(threshold, random.Random(f"{task.seed} {number} {threshold}"))
                 count_result(seen, result)
+                if task.keep:
+                    keep(task.keep, f"{task.seed}-{number}-{label(threshold)}", threshold, result)
                 if task.verbose or not result.is_exact:
                     print("\n".join([told(threshold, result)] + told_pages(result)), flush=True)
     for what, count in seen.items():
         print(f"{count:10} {what}")
     return DONE if seen["trials exact"] == seen["trials"] else DIFFERS
+
+
+def keep(folder: str, name: str, threshold: int, result: Result) -> None:
+    """Writes what was seen before and after a trial, so that it can be judged again: `seen`, a stored snapshot, and `came`,
+    the frames that came back by the page's first frame, as hexadecimal sets."""
+    came = {str(frame): format(given, "x") for frame, given in {**result.came, **result.beside}.items()}
+    text = json.dumps({"threshold": threshold, "came": came, "seen": result.snapshot.to_json()})
+    try:
+        Path(folder).mkdir(parents=True, exist_ok=True)
+        (Path(folder) / f"{name}.json").write_text(text + "\n", encoding="ascii")
+    except OSError as error:
+        raise InputFault(f"{folder}/{name}.json can't be written: {error.strerror}") from error
