@@ -7,9 +7,8 @@ What the kernel does otherwise than the model is said by the script, too, and no
   use and drops it, as the kernel did (mm/huge_memory.c: deferred_split_scan, deferred_split_folio).
 * A split drops zero-filled subpages that are mapped, but those in locked VMAs (mm/migrate.c:
   try_to_map_unused_to_zeropage): on a partly mapped page their zeros are said as data.
-* With max_ptes_none 511 no page counts as underused (mm/huge_memory.c: thp_underused): `fill_all` writes every page before
-  the shrinker runs. A write to a page with an unmapped subpage is refused and changes nothing, so partly mapped pages stay
-  what they are.
+* With max_ptes_none 511 no page counts as underused (mm/huge_memory.c: thp_underused): each page that isn't partly mapped
+  is written before the shrinker runs (`fill`).
 """
 
 from __future__ import annotations
@@ -159,6 +158,6 @@ def tell(said: Said, node: int, page: int) -> str:
     return " ".join(words + [mark for mark, stands in marks.items() if stands])
 
 
-def fill_all(node: int, pages: int, size: int) -> List[str]:
-    """Puts each wholly mapped page of a node in full use: from then on only partly mapped pages are split."""
-    return [f"write {node} {page} 0 {size}" for page in range(pages)]
+def fill(node: int, page: int, size: int) -> str:
+    """Puts a page in full use, before the shrinker runs: it isn't split as underused."""
+    return f"write {node} {page} 0 {size}"

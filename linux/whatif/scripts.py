@@ -13,7 +13,7 @@ from typing import Dict, Iterable, Iterator, List, Optional, Sequence, Tuple
 
 from ..common.errors import InputFault
 from ..common.files import PMD_ORDER
-from .saying import Said, begin, fill_all, state
+from .saying import Said, begin, fill, state
 
 MARK = "# the shrinker"  # the scans follow
 TAKE, BLOCKS, NODES = 128, 4096, 8  # limits of scripts (docs/FORMATS.md)
@@ -56,9 +56,12 @@ class Script:
         return options_of(self.orders, self.blocks)
 
     def filled(self) -> str:
-        """The text with each wholly mapped page in full use before the shrinker runs (saying.fill_all)."""
-        lines = [line for n, node in enumerate(self.nodes) for line in fill_all(n, node.pages, 1 << node.order)]
+        """The text with each page in full use before the shrinker runs, but those that are partly mapped (saying.fill)."""
         front, back = self.text.split(f"\n{MARK}\n", 1)
+        lines = []
+        for found in re.finditer(r"^# page (\d+) (\d+) (.*)$", front, re.MULTILINE):
+            if "partly" not in found[3].split():
+                lines.append(fill(int(found[1]), int(found[2]), 1 << self.nodes[int(found[1])].order))
         return front + "\n" + "".join(line + "\n" for line in lines) + f"{MARK}\n" + back
 
     def pages(self) -> List[List[Page]]:

@@ -21,7 +21,7 @@ from typing import Dict, Iterator, List, Optional, Sequence, Set
 
 from ..common.counters import Counter as Statistic
 from ..common.counters import counts
-from ..common.errors import DIFFERS, DONE, InputFault
+from ..common.errors import DIFFERS, DONE, InputFault, Unavailable
 from ..common.files import BASE, COLLAPSE_SLEEP, PMD_ORDER, PTES_NONE, SWITCH, THP, size_folder
 from ..common.groups import Groups
 from ..common.keeper import Keeper
@@ -225,23 +225,25 @@ def remove_group(path: str) -> None:
 
 def became(snapshot: Snapshot, frames: Frames) -> Dict[int, int]:
     """Which frames came back, by page: of those that are no longer whole, each subpage that no process of the snapshot maps
-    where it was."""
+    where it was. Frames that are a huge page, but nobody's where they were, came back altogether and are in use again."""
     out: Dict[int, int] = {}
     maps: Dict[int, NumberFile] = {}
     for folio in snapshot.folios:
         flags = frames.flags(folio.frame, folio.size)
-        if flags[0] & PageFlag.COMPOUND_HEAD and all(flag & PageFlag.COMPOUND_TAIL for flag in flags[1:]):
-            continue
+        is_whole = flags[0] & PageFlag.COMPOUND_HEAD and all(flag & PageFlag.COMPOUND_TAIL for flag in flags[1:])
         is_held: Set[int] = set()
         for mapping in folio.mappings:
             try:
                 if mapping.process not in maps:
                     maps[mapping.process] = NumberFile(f"/proc/{mapping.process}/pagemap")
                 entries = maps[mapping.process].at(mapping.address // BASE, folio.size)
-            except Exception:  # the process ended: it holds nothing
+            except (OSError, Unavailable):  # the process ended: it holds nothing
                 continue
             is_held |= {i for i, entry in enumerate(entries) if frame_of_entry(entry) == folio.frame + i}
-        out[folio.frame] = folio.full & ~sum(1 << i for i in is_held)
+            if is_whole and is_held:
+                break
+        if not (is_whole and is_held):
+            out[folio.frame] = folio.full & ~sum(1 << i for i in is_held)
     for file in maps.values():
         file.close()
     return out

@@ -116,17 +116,20 @@ class MadeUp(unittest.TestCase):
     def test_a_target_is_the_highest_threshold(self) -> None:
         pages = [folio(number, zero=bits_of(0, number * 7 % 513)) for number in range(200)] + [holed(200, bits_of(0, 500))]
         each = predictor(pages)
+        plain = {t: 12 + sum(z for z in (n * 7 % 513 for n in range(200)) if z > t and t != OFF) for t in range(OFF + 1)}
         for frames in (1, 12, 13, 1000, 20000, 51000, 10**6):
-            plain = [t for t in range(OFF + 1) if sum(map(size, judged(pages, t).values())) >= frames]
-            self.assertEqual(highest_with(each, frames), max(plain) if plain else None)
+            wanted = [threshold for threshold, given in plain.items() if given >= frames]
+            self.assertEqual(highest_with(each, frames), max(wanted) if wanted else None)
 
     def test_84000_pages_beside_a_plain_count(self) -> None:
         chance = random.Random(84)
         zeros = [chance.choice((0, 1, 16, 17, 64, 100, 256, 300, 409, 410, 511, 512)) for _ in range(84000)]
-        pages = [folio(n, zero=bits_of(0, zero), cgroup=n % 3) for n, zero in enumerate(zeros)]
         for number in range(0, 84000, 10):
-            pages[number] = holed(number, bits_of(0, 128), cgroup=number % 3)
             zeros[number] = -1
+        pages = [
+            holed(n, bits_of(0, 128), cgroup=n % 3) if zero < 0 else folio(n, zero=bits_of(0, zero), cgroup=n % 3)
+            for n, zero in enumerate(zeros)
+        ]
         thresholds = [OFF, 0, 16, 64, 409, 510]
         for row in predictor(pages).run(thresholds):
             limit = 512 if row.threshold == OFF else row.threshold

@@ -60,9 +60,10 @@ class Scripts(unittest.TestCase):
         self.assertEqual([said.folio.frame // 1024 - 1 for said in nodes[0]], [2, 1, 0, 3])
 
     def test_filled_writes_each_page_before_the_shrinker(self) -> None:
-        made, _ = next(write_scripts(pages(3), [], {}))
+        made, _ = next(write_scripts(pages(3) + [prepare(folio(9, is_partly=True))], [], {}))
         before, after = made.filled().split(MARK)
-        self.assertTrue(before.endswith("write 0 0 0 512\nwrite 0 1 0 512\nwrite 0 2 0 512\n"))
+        self.assertTrue(before.endswith("\nwrite 0 0 0 512\nwrite 0 1 0 512\nwrite 0 2 0 512\n"))
+        self.assertNotIn("write 0 3 0 512\nwrite", made.filled())
         self.assertEqual(after, "\nscan 0 128\n")
 
     def test_read_back(self) -> None:
