@@ -14,6 +14,7 @@ import json
 import os
 import random
 import subprocess
+import threading
 import time
 from collections import Counter as Tallies
 from typing import Dict, List, NoReturn, Optional, Tuple
@@ -82,18 +83,26 @@ class Recorder:
         try:
             child = subprocess.Popen(command, preexec_fn=lambda: write(f"{self._path}/cgroup.procs", os.getpid()))
             self._keeper.own(child.pid)
-            last = 0.0
-            while child.poll() is None:
-                time.sleep(PAUSE)
-                records += tap.read()
-                if self._asked.every and time.monotonic() - last > self._asked.every:
-                    self._groups.reclaim(self._path)
-                    last = time.monotonic()
+            ended = threading.Event()
+            reclaimer = threading.Thread(target=self._reclaim, args=(ended,))
+            reclaimer.start()
+            try:
+                while child.poll() is None:
+                    time.sleep(PAUSE)
+                    records += tap.read()
+            finally:
+                ended.set()
+                reclaimer.join()
             self._keeper.disown(child.pid)
             time.sleep(AFTER)
             return records + tap.read(), tap.lost()
         finally:
             tap.close()
+
+    def _reclaim(self, ended: threading.Event) -> None:
+        """Reclaims again and again, beside the reader of records, which must not wait for it."""
+        while self._asked.every and not ended.wait(self._asked.every):
+            self._groups.reclaim(self._path)
 
 
 def workload(own: List[str], order: int, seed: int) -> List[str]:

@@ -13,7 +13,7 @@ from ..common.errors import Unavailable
 from ..common.kernel_memory import KernelMemory, symbols
 from .records import COUNT_AT, FOLIOS_AT, QUEUE_MOST, SIZE, VALUES_AT, Kind, Record, record_of
 
-RING = 1 << 25  # bytes of the ring buffer
+RING = 1 << 26  # bytes of the ring buffer
 LENGTH_AT = 104
 MUNMAP, MPROTECT, MREMAP, MADVISE = 11, 10, 25, 28  # system calls of x86-64
 _HEAD_PAGE = mmap.PAGESIZE
