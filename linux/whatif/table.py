@@ -65,8 +65,9 @@ def last_line(left_out: Dict[str, int]) -> str:
     some = {why: count for why, count in left_out.items() if count}
     if not some:
         return "left out: nothing"
-    parts = [f"{count} {why}" for why, count in sorted(some.items(), key=lambda item: (-item[1], item[0]))]
-    more = f"; {len(parts) - 4} reasons more (--json has them)" if len(parts) > 4 else ""
+    ordered = sorted(some.items(), key=lambda item: (-item[1], item[0]))
+    parts = [why if why.startswith("process ") else f"{count} {why}" for why, count in ordered]
+    more = f"; {len(parts) - 4} more (--json has them)" if len(parts) > 4 else ""
     return "left out: " + "; ".join(parts[:4]) + more
 
 

@@ -1,5 +1,9 @@
-"""An interpreter with something on its heap: syntax trees of its own library, half of them dropped again. Run it with
-GLIBC_TUNABLES=glibc.malloc.hugetlb=1, so that malloc asks for huge pages."""
+"""An interpreter with something on its heap: syntax trees of its own library, half of them dropped again.
+
+    PYTHONMALLOC=malloc GLIBC_TUNABLES=glibc.malloc.hugetlb=1 python3 trees.py
+
+so that all objects lie in the heap of malloc, which asks for huge pages.
+"""
 
 import ast
 import pathlib
