@@ -135,7 +135,9 @@ class Assembler:
         """Goes to a label, where a register `left` compares so with a number or with a register `right`."""
         self._jumps.append((len(self._code), name))
         opcode = self._JUMPS[condition]
-        return self.put(opcode | (8 if right is not None else 0), left, right or 0, 0, 0 if right is not None else number)
+        if right is not None:
+            return self.put(opcode | 8, left, right)
+        return self.put(opcode, left, 0, 0, number)
 
     def read_kernel(self, at: int, size: int, offset: int = 0) -> Assembler:
         """Stack at r10 + at = `size` bytes of kernel memory at r3 + offset. Spoils r0 to r5."""
@@ -161,7 +163,8 @@ def load_program(kind: ProgramType, assembler: Assembler, flags: int = 0) -> int
     problem = ""
     for room in (0, len(log)):  # without the log first: it costs time, and may be too long
         at = ctypes.addressof(log) if room else 0
-        attributes = struct.pack("<IIQQ", kind, len(code) // 8, ctypes.addressof(instructions), ctypes.addressof(licence))
+        attributes = struct.pack("<IIQ", kind, len(code) // 8, ctypes.addressof(instructions))
+        attributes += struct.pack("<Q", ctypes.addressof(licence))
         attributes += struct.pack("<IIQII", 1 if room else 0, room, at, 0, flags)
         try:
             return bpf(Command.PROG_LOAD, attributes)[0]

@@ -1,6 +1,7 @@
 """The running kernel's types by BTF: where a field lies, how large it is, what an enumerator is.
 
-Rules: Documentation/bpf/btf.rst of the kernel. No offset is written down in the tools: what isn't there, or is of another
+Rules: Documentation/bpf/btf.rst of the kernel. No offset is written down in the tools: what isn't there, or is of
+another
 type, is a Missing that names it.
 """
 
@@ -127,7 +128,8 @@ class Types:
         return self._head(self._named[_STRUCT, of])[2]
 
     def field(self, of: str, path: str, kind: str = "", size: int = 0) -> Field:
-        """The field at a path (`deferred_split_queue.split_queue`) of a struct; of this kind and size where they are given."""
+        """The field at a path (`deferred_split_queue.split_queue`) of a struct; of this kind and size where they are
+        given."""
         if (_STRUCT, of) not in self._named:
             raise Missing(f"this kernel has no struct {of}")
         number, total, bits = self._named[_STRUCT, of], 0, 0

@@ -7,6 +7,8 @@ and answers each by a line, `ok` or what is wrong:
     {"group": PATH}                   at the end, kill the processes in this control group and remove it
     {"process": PID, "start": TICKS}  at the end, kill the process of this number if it began at this time
     {"forget": PID}                   that process has ended
+    {"continue": PID, "start": TICKS} at the end, send SIGCONT to the process if it began at this time
+    {"continued": PID}                that process runs on already
 
 The end is the end of standard input: it comes also where the tool is killed. The tool's lock is inherited, so no other
 tool begins before all is put back. What could not be put back is told on standard error, and the status is then 1.
@@ -30,6 +32,7 @@ class Guardian:
         self.files: List[Tuple[str, str]] = []  # in the order in which they were changed
         self.groups: List[str] = []
         self.processes: Dict[int, int] = {}
+        self.stopped: Dict[int, int] = {}
         self.problems: List[str] = []
 
     def take(self, order: Dict[str, object]) -> None:
@@ -42,11 +45,18 @@ class Guardian:
             self.processes[int(str(order["process"]))] = int(str(order["start"]))
         elif "forget" in order:
             self.processes.pop(int(str(order["forget"])), None)
+        elif "continue" in order:
+            self.stopped[int(str(order["continue"]))] = int(str(order["start"]))
+        elif "continued" in order:
+            self.stopped.pop(int(str(order["continued"])), None)
         else:
             raise ValueError("unknown order")
 
     def put_back(self) -> None:
         """Processes first (they hold pages and groups), then settings, newest change first, then control groups."""
+        for number, start in self.stopped.items():
+            if start_of(number) == start:
+                send(number, signal.SIGCONT)
         self.kill_processes()
         for path, text in reversed(self.files):
             try:
@@ -60,12 +70,12 @@ class Guardian:
     def kill_processes(self) -> None:
         for number, start in self.processes.items():
             if start_of(number) == start:
-                kill(number)
+                send(number, signal.SIGKILL)
         until = time.monotonic() + PATIENCE
         for group in self.groups:
             while members(group) and time.monotonic() < until:
                 for number in members(group):
-                    kill(number)
+                    send(number, signal.SIGKILL)
                 time.sleep(0.01)
 
     def remove_group(self, path: str) -> None:
@@ -85,7 +95,8 @@ class Guardian:
 
 
 def start_of(number: int) -> int:
-    """When a process began, in clock ticks since the start of the machine (proc(5), stat, field 22); 0: it has ended."""
+    """When a process began, in clock ticks since the start of the machine (proc(5), stat, field 22); 0: it has
+    ended."""
     try:
         with open(f"/proc/{number}/stat", encoding="utf-8", errors="replace") as file:
             return int(file.read().rsplit(")", 1)[1].split()[19])
@@ -102,9 +113,9 @@ def members(group: str) -> List[int]:
         return []
 
 
-def kill(number: int) -> None:
+def send(number: int, what: signal.Signals) -> None:
     try:
-        os.kill(number, signal.SIGKILL)
+        os.kill(number, what)
     except OSError:
         pass
 

@@ -6,7 +6,8 @@
         keeper.own(process.pid)              # killed if it still runs
 
 A guardian (guardian.py) holds what is to be put back and does it, so an exception, a signal and SIGKILL of the tool end
-alike. Each change is told to the guardian before it is made. Only where the guardian itself is killed too is nothing put
+alike. Each change is told to the guardian before it is made. Only where the guardian itself is killed too is nothing
+put
 back.
 """
 
@@ -15,6 +16,7 @@ from __future__ import annotations
 import fcntl
 import json
 import os
+import signal
 import subprocess
 import sys
 from pathlib import Path
@@ -92,6 +94,16 @@ class Keeper:
     def disown(self, process: int) -> None:
         """Such a process has ended."""
         self._tell({"forget": process})
+
+    def stop(self, process: int) -> None:
+        """Stops a process (SIGSTOP) that is to run on at the end."""
+        self._tell({"continue": process, "start": start_of(process)})
+        os.kill(process, signal.SIGSTOP)
+
+    def go_on(self, process: int) -> None:
+        """Lets such a process run on now."""
+        os.kill(process, signal.SIGCONT)
+        self._tell({"continued": process})
 
     def close(self) -> None:
         """Has everything put back, and waits for it. Says on standard error what could not be."""

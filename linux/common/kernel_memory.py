@@ -1,4 +1,5 @@
-"""Kernel memory read by BPF programs, and what the tools find in it: control groups, deferred split queues, struct page.
+"""Kernel memory read by BPF programs, and what the tools find in it: control groups, deferred split queues, struct
+page.
 
 Wants root (CAP_BPF, CAP_PERFMON), BPF_SYSCALL and DEBUG_INFO_BTF. Works where lockdown allows BPF to read (integrity).
 A queue is copied by one program run, without its lock: a copy that changed meanwhile may miss its end, and is then made
@@ -248,7 +249,8 @@ def _reader(window: int) -> Assembler:
 
 
 def _walker(window: int) -> Assembler:
-    """Follows links from r6 on until r7 or LINKS of them: into the window the count, the last link's next, the links."""
+    """Follows links from r6 on until r7 or LINKS of them: into the window the count, the last link's next, the
+    links."""
     code = _begin(window).set(8, 0)
     code.move(3, 6).read_kernel(-16, 8).load(6, 10, -16).jump("out", "!=", 0, 0)
     code.label("next").jump("end", "==", 6, right=7).jump("full", ">=", 8, LINKS)

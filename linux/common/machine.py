@@ -63,7 +63,7 @@ def orders() -> List[int]:
 
 def sizes() -> str:
     if not orders():
-        raise Unavailable("no sizes with settings of their own (before Linux 6.8): only order 9, where enabled allows it")
+        raise Unavailable("no sizes with settings of their own (before Linux 6.8)")
     return "orders " + ", ".join(map(str, orders()))
 
 

@@ -2,7 +2,10 @@
 
 from __future__ import annotations
 
+import re
 from typing import Iterator, Tuple
+
+_ONES = re.compile("1+")
 
 
 def bits_of(first: int, count: int) -> int:
@@ -12,14 +15,8 @@ def bits_of(first: int, count: int) -> int:
 
 def runs(bits: int) -> Iterator[Tuple[int, int]]:
     """The maximal runs of a set, ascending, as (first, count)."""
-    first = 0
-    while bits >> first:
-        rest = bits >> first
-        first += (rest & -rest).bit_length() - 1
-        rest = ~(bits >> first)
-        count = (rest & -rest).bit_length() - 1
-        yield first, count
-        first += count
+    for run in _ONES.finditer(bin(bits)[:1:-1]):
+        yield run.start(), run.end() - run.start()
 
 
 def size(bits: int) -> int:

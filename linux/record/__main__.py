@@ -4,7 +4,8 @@
     thprecord -- COMMAND ARGS..                      a command in a control group of its own
 
 Prints the verdict, with the line where the journal is illegal, and what was seen, inferred and left out. Wants root.
-Status 0: legal; 1: illegal, or records were lost; 2: a fault in the words; 77: nothing could be recorded, or nothing was.
+Status 0: legal; 1: illegal, or records were lost; 2: a fault in the words; 77: nothing could be recorded, or nothing
+was.
 """
 
 from __future__ import annotations
@@ -39,7 +40,8 @@ PAUSE, AFTER = 0.002, 0.05  # seconds between two looks into the ring, and for w
 
 
 def words() -> argparse.Namespace:
-    parser = argparse.ArgumentParser(prog=NAME, description=__doc__, formatter_class=argparse.RawDescriptionHelpFormatter)
+    form = argparse.RawDescriptionHelpFormatter
+    parser = argparse.ArgumentParser(prog=NAME, description=__doc__, formatter_class=form)
     parser.add_argument("--program", metavar="PATH", help="the thpsplit that judges")
     parser.add_argument("--own", default="1,300,1", metavar="THREADS,STEPS,SEED[,zeros]")
     parser.add_argument("--order", type=int, default=PMD_ORDER, help="the order of the pages that are followed")
@@ -48,8 +50,8 @@ def words() -> argparse.Namespace:
     parser.add_argument("--straighten", action="store_true", help="tell away E (order of putting back) and B (zeros)")
     parser.add_argument("--out", metavar="FILE", help="write the journal there")
     parser.add_argument("--records", metavar="FILE", help="write the records there, one JSON list a line")
-    parser.add_argument("--tamper", type=int, default=0, metavar="N", help="check N spoilt copies of a legal journal too")
-    parser.add_argument("--least", type=int, default=0, metavar="EVENTS", help="run more workloads, seed by seed, until so many")
+    parser.add_argument("--tamper", type=int, default=0, metavar="N", help="check N spoilt copies of a legal journal)
+    parser.add_argument("--least", type=int, default=0, metavar="EVENTS", help="more seeds until so many events")
     parser.add_argument("command", nargs="*")
     return parser.parse_args()
 
@@ -131,7 +133,9 @@ def tamper(text: str, program: Program, copies: int) -> None:
         print(f"{found[spoil] - legal[spoil]:9} of {found[spoil]} copies with {spoil.value} are illegal")
 
 
-def one(asked: argparse.Namespace, recorder: Recorder, program: Program, command: List[str], sums: Dict[str, int]) -> Tuple[bool, int]:
+def one(
+    asked: argparse.Namespace, recorder: Recorder, program: Program, command: List[str], sums: Dict[str, int]
+) -> Tuple[bool, int]:
     """Records and judges once: whether it is legal and complete, and the number of events."""
     records, lost = recorder.record(command)
     journalist = Journalist(recorder.settings())

@@ -1,8 +1,10 @@
 """Records made into a journal.
 
-Seen: a huge page allocated in a fault; the queue at each scan's start and end, so what is taken and put back, and in which
+Seen: a huge page allocated in a fault; the queue at each scan's start and end, so what is taken and put back, and in
+which
 order; frames and pages freed. Inferred: mappings by the arguments of system calls, by forks and ends of address spaces;
-pins by what a scan leaves; writes (with the switch on) by the kernel's verdicts. What isn't understood is left out by whole
+pins by what a scan leaves; writes (with the switch on) by the kernel's verdicts. What isn't understood is left out by
+whole
 pages, with a reason. docs/LINUX.md has the table.
 """
 
@@ -76,7 +78,9 @@ class Journalist:
 
     # small steps
 
-    def _say(self, task: int, page: Page, word: str, first: int = 0, count: int = 0, outcome: str = "", given: int = 0) -> None:
+    def _say(
+        self, task: int, page: Page, word: str, first: int = 0, count: int = 0, outcome: str = "", given: int = 0
+    ) -> None:
         caller = self._callers.setdefault(task, len(self._callers) % CALLERS)
         self.lines.append(Line(page, Event(caller, word, page.number, first, count, outcome, given)))
         self.seen[f"events {word}"] += 1
@@ -231,7 +235,8 @@ class Journalist:
         self._say(record.task, page, "splitpmd")
 
     def _unmap(self, record: Record, page: Page, mapping: Mapping, bits: int, queue: Optional[List[int]]) -> None:
-        """Takes one address space's mappings of these subpages away; `queue`: the kernel's right after, if it was seen."""
+        """Takes one address space's mappings of these subpages away; `queue`: the kernel's right after, if it was
+        seen."""
         steps: List[Optional[Tuple[int, int]]] = [None]
         if not mapping.whole or bits != page.every:
             if mapping.whole:
@@ -259,7 +264,9 @@ class Journalist:
                 del page.maps[space]
                 self._spaces[space].pop(page, None)
 
-    def _outcome(self, record: Record, page: Page, before: int, queue: Optional[List[int]], last: bool) -> Tuple[str, int]:
+    def _outcome(
+        self, record: Record, page: Page, before: int, queue: Optional[List[int]], last: bool
+    ) -> Tuple[str, int]:
         """What became of a page by an unmap, and the frames given back."""
         after = page.used()
         if page.split:
@@ -299,7 +306,8 @@ class Journalist:
     # several tasks: the kernel's queue tells the order
 
     def _end_scans_before(self, queue: Optional[List[int]]) -> None:
-        """Tells a scan that another task still runs, where what it puts back stands before a page newly in the queue."""
+        """Tells a scan that another task still runs, where what it puts back stands before a page newly in the
+        queue."""
         told = {page.folio for page in self._queue}
         for start, _ in list(self._scans.values()):
             end = start.end and start.end.queue
@@ -352,7 +360,8 @@ class Journalist:
                 self._lose(page, "queued for no reason seen")
 
     def _reorder(self, kernels: List[Page]) -> None:
-        """Two tasks' pages can join in another order than that of their calls' ends: the later one's events go first then."""
+        """Two tasks' pages can join in another order than that of their calls' ends: the later one's events go first
+        then."""
         mine = [page for page in self._queue if page in kernels]
         for i, page in enumerate(kernels):
             other = mine[i]
@@ -416,7 +425,9 @@ class Journalist:
         self._told += back
         self._agree(record.queue)
 
-    def _straight(self, pages: List[Page], folios: List[Optional[Page]], stay: List[Page]) -> Tuple[List[Page], List[Page]]:
+    def _straight(
+        self, pages: List[Page], folios: List[Optional[Page]], stay: List[Page]
+    ) -> Tuple[List[Page], List[Page]]:
         """The pages in the journal's order: those taken, those put back."""
         if len(pages) < len([page for page in self._queue if page in folios]):
             for page in self._queue:

@@ -1,4 +1,5 @@
-"""BPF programs on raw tracepoints: records of what one memory control group's tasks do to huge pages, each with a copy of
+"""BPF programs on raw tracepoints: records of what one memory control group's tasks do to huge pages, each with a
+copy of
 the group's deferred split queue where something ends. Offsets are those of the kernel's types; no tracefs is wanted."""
 
 from __future__ import annotations
@@ -8,7 +9,9 @@ import os
 import struct
 from typing import Callable, List, Tuple
 
-from ..common.bpf import MMAPABLE, Assembler, Helper, MapType, ProgramType, Value, create_map, load_program, open_tracepoint
+from ..common.bpf import (
+    MMAPABLE, Assembler, Helper, MapType, ProgramType, Value, create_map, load_program, open_tracepoint,
+)
 from ..common.errors import Unavailable
 from ..common.kernel_memory import KernelMemory, symbols
 from .records import COUNT_AT, FOLIOS_AT, QUEUE_MOST, SIZE, VALUES_AT, Kind, Record, record_of
@@ -45,7 +48,8 @@ class Tap:
         self._losses = mmap.mmap(self._lost, _HEAD_PAGE, mmap.MAP_SHARED, mmap.PROT_READ)
         self._consumer = mmap.mmap(self._ring, _HEAD_PAGE, mmap.MAP_SHARED, mmap.PROT_READ | mmap.PROT_WRITE, offset=0)
         self._data = mmap.mmap(self._ring, _HEAD_PAGE + 2 * RING, mmap.MAP_SHARED, mmap.PROT_READ, offset=_HEAD_PAGE)
-        self._open = [open_tracepoint(name, load_program(ProgramType.RAW_TRACEPOINT, make())) for name, make in self._taps()]
+        kind = ProgramType.RAW_TRACEPOINT
+        self._open = [open_tracepoint(name, load_program(kind, make())) for name, make in self._taps()]
 
     def _taps(self) -> List[Tuple[str, Callable[[], Assembler]]]:
         return [
@@ -95,7 +99,8 @@ class Tap:
         """Makes the record; `values` are places with code that leaves the value in r1."""
         code.store_number(10, -4, 0, 4).move(2, 10).add(2, -4).map(1, self._scratch).call(Helper.MAP_LOOKUP)
         code.jump("out", "==", 0, 0).move(7, 0)
-        code.store_number(7, 0, int(kind)).call(Helper.KTIME).store(7, 8, 0).call(Helper.CURRENT_PID_TGID).store(7, 16, 0)
+        code.store_number(7, 0, int(kind)).call(Helper.KTIME).store(7, 8, 0)
+        code.call(Helper.CURRENT_PID_TGID).store(7, 16, 0)
         code.call(Helper.CURRENT_TASK).move(3, 0).read_kernel(-8, 8, self._mm).load(1, 10, -8).store(7, 24, 1)
         code.store_number(7, LENGTH_AT, 0).store_number(7, COUNT_AT, 0)
         for i in range(9):
@@ -191,7 +196,8 @@ class Tap:
         return self._short(self._record(code, Kind.FREE, [(0, self._argument(0)), (1, self._argument(1))]))
 
     def _fork(self) -> Assembler:
-        values = [(0, self._through(0, self._mm)), (1, self._through(1, self._mm)), (2, self._through(1, self._tgid, 4))]
+        child = (2, self._through(1, self._tgid, 4))
+        values = [(0, self._through(0, self._mm)), (1, self._through(1, self._mm)), child]
         return self._short(self._record(self._own_only(self._start()), Kind.FORK, values))
 
     def _exit_mmap(self) -> Assembler:
@@ -210,4 +216,5 @@ class Tap:
         return self._with_queue(self._record(code, Kind.SCAN, [(0, self._argument(5)), (1, self._argument(3))]))
 
     def _scan_end(self) -> Assembler:
-        return self._with_queue(self._record(self._of_queue(), Kind.SCANNED, [(0, self._argument(2)), (1, self._argument(5))]))
+        values = [(0, self._argument(2)), (1, self._argument(5))]
+        return self._with_queue(self._record(self._of_queue(), Kind.SCANNED, values))

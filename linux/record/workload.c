@@ -2,7 +2,8 @@
  *
  *   workload THREADS STEPS SEED ORDER [zeros]     `zeros`: most subpages of a page stay zero-filled
  *
- * Each thread has a few places. In each step it makes a page in an empty place, or drops a part of a page, splits its PMD
+ * Each thread has a few places. In each step it makes a page in an empty place, or drops a part of a page, splits its
+ * PMD
  * entry, unmaps it, pins or unpins it, has a child drop a part (with one thread), or sleeps.
  */
 #define _GNU_SOURCE
@@ -79,7 +80,9 @@ static void in_a_child(struct place *place, struct range range)
 static struct range a_range(unsigned *chance)
 {
     size_t size = (size_t)BASE << order;
-    struct range range = { (size_t)BASE * (rand_r(chance) % (1 << order)), (size_t)BASE * (1 + rand_r(chance) % (1 << order)) };
+    struct range range;
+    range.first = (size_t)BASE * (rand_r(chance) % (1 << order));
+    range.length = (size_t)BASE * (1 + rand_r(chance) % (1 << order));
     if (range.length > size - range.first)
         range.length = size - range.first;
     return range;

@@ -31,7 +31,8 @@ NEEDED = ["root", "huge pages", "page sizes", "memory control groups", "frames",
 
 
 def words() -> argparse.Namespace:
-    parser = argparse.ArgumentParser(prog=NAME, description=__doc__, formatter_class=argparse.RawDescriptionHelpFormatter)
+    form = argparse.RawDescriptionHelpFormatter
+    parser = argparse.ArgumentParser(prog=NAME, description=__doc__, formatter_class=form)
     parser.add_argument("script", nargs="*", help="scripts; settings stand in their first line or in SCRIPT.args")
     parser.add_argument("--program", metavar="PATH", help="the thpsplit to compare with")
     for name in ("nodes", "orders", "underused", "blocks"):
@@ -42,7 +43,7 @@ def words() -> argparse.Namespace:
     parser.add_argument("--page-orders", default="9,9,9,2,3,4,5,6,7,8", metavar="LIST", help="and from it")
     parser.add_argument("--thresholds", default="off", metavar="LIST", help="off or numbers, drawn for each script")
     parser.add_argument("--length", type=int, default=40, help="commands of a random script at most")
-    parser.add_argument("--fill", choices=("data", "zeros"), help="what new pages hold; else zeros where thresholds are")
+    parser.add_argument("--fill", choices=("data", "zeros"), help="what new pages hold; else zeros by thresholds")
     parser.add_argument("--keep", metavar="FOLDER", help="write random scripts that differ there")
     parser.add_argument("--store", metavar="FOLDER", help="write what the kernel showed there, a line for each look")
     parser.add_argument("--no-memory", action="store_true", help="leave kernel memory, and so the queues, unread")
@@ -106,9 +107,10 @@ class Sums:
         if self._asked.keep and outcome.result is Result.DIFFERS:
             self._write(self._asked.keep, f"{script.name}.script", script.text)
         if self._asked.store and looks:
-            self._write(self._asked.store, script.name.replace(".script", "") + ".looks", "".join(f"{look.line()}\n" for look in looks))
+            name = script.name.replace(".script", "")
+            self._write(self._asked.store, f"{name}.looks", "".join(f"{look.line()}\n" for look in looks))
             head = "" if script.text.startswith(MARK) else f"{MARK}{' '.join(script.options.words())}\n"
-            self._write(self._asked.store, script.name.replace(".script", "") + ".script", head + script.text)
+            self._write(self._asked.store, f"{name}.script", head + script.text)
 
     def _write(self, folder: str, name: str, text: str) -> None:
         os.makedirs(folder, exist_ok=True)

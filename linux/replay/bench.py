@@ -20,7 +20,8 @@ QUIET = 3600000  # milliseconds between khugepaged's rounds: it collapses nothin
 
 @dataclass(frozen=True)
 class Server:
-    """A node on this kernel: its control group, the process whose forks allocate in it, the group's struct mem_cgroup."""
+    """A node on this kernel: its control group, the process whose forks allocate in it, the group's struct
+    mem_cgroup."""
 
     path: str
     process: Mapper

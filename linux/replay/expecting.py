@@ -28,7 +28,8 @@ def same(what: str, kernel: object, says: object) -> None:
 
 
 class Expecting:
-    """Follows a script on all nodes; `known` gathers the differences that it met, from those of the story on. `small`: nodes
+    """Follows a script on all nodes; `known` gathers the differences that it met, from those of the story on.
+    `small`: nodes
     whose pages aren't queued at their fault (C); at their splits zero-filled subpages go back, as the script says."""
 
     def __init__(self, states: Sequence[NodeState], known: Set[Known], small: Set[int]) -> None:

@@ -146,7 +146,9 @@ class Generator:
 
     def _map(self, page: Sketch) -> None:
         if page.mapped:
-            place = (0, page.subpages) if page.whole else self._chance.choice(list(runs(self._chance.choice(page.parts))))
+            place = (0, page.subpages)
+            if not page.whole:
+                place = self._chance.choice(list(runs(self._chance.choice(page.parts))))
             first, count = self._range(*place)
             page.parts.append(bits_of(first, count))
             page.shared = True

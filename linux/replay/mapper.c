@@ -2,7 +2,8 @@
  *
  *   mapper SOCKET     SOCKET: the abstract address of the tool (unix(7))
  *
- * Each process says `hello ID PID` once, and answers each command by `ok NUMBER` or `error ERRNO`. All end when the tool's
+ * Each process says `hello ID PID` once, and answers each command by `ok NUMBER` or `error ERRNO`. All end when the
+ * tool's
  * end of standard input is closed, so also when the tool is killed.
  *
  *   fork ID           a child that inherits the mapping says hello by this number; pins aren't inherited

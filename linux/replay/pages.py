@@ -47,7 +47,8 @@ class HeldPage:
         return next((mapper for mapper in self.mappers if mapper.whole), None)
 
     def covering(self, bits: int, whole: bool = True) -> Optional[Mapper]:
-        """A process that maps all these subpages: by entries of their own if one does, by a PMD entry only if `whole`."""
+        """A process that maps all these subpages: by entries of their own if one does, by a PMD entry only if
+        `whole`."""
         found = [mapper for mapper in self.mappers if mapper.mapped & bits == bits and (whole or not mapper.whole)]
         return min(found, key=lambda mapper: mapper.whole, default=None)
 

@@ -82,14 +82,16 @@ def quiet(_line: str) -> None:
 
 @dataclass
 class Follower:
-    """Goes through stories. `sums` counts what was done and seen; `tell` hears of each command; `looks` keeps each look."""
+    """Goes through stories. `sums` counts what was done and seen; `tell` hears of each command; `looks` keeps each
+    look."""
 
     sums: Dict[str, int] = field(default_factory=Tallies)
     tell: Callable[[str], None] = quiet
     looks: Optional[List[Seen]] = None
 
     def follow(self, story: Story, zero_filled: bool, kernel: Kernel) -> str:
-        """The letters of the known differences that were met. Differs tells the command at which something else is seen."""
+        """The letters of the known differences that were met. Differs tells the command at which something else is
+        seen."""
         options = story.options
         states = [NodeState(order, switch, zero_filled) for order, switch in zip(options.orders, options.underused)]
         expecting = Expecting(states, story.known, story.small)

@@ -24,7 +24,8 @@ class PageSeen:
 @dataclass(frozen=True)
 class Seen:
     """The kernel at one moment. Counters since the script's start, the PMD splits that only served to map less than
-    a whole page taken off. A queue lists page numbers, oldest first; a frame of no page stands as its negative; None: it
+    a whole page taken off. A queue lists page numbers, oldest first; a frame of no page stands as its negative; None:
+    it
     wasn't read."""
 
     counts: Counts

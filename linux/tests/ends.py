@@ -3,7 +3,8 @@
 
     linux/tests/ends.py COMMAND ARGS..      by default: thpreplay with random scripts
 
-Compared: every file below the kernel's folder of transparent huge pages that is a setting, the memory control groups, and
+Compared: every file below the kernel's folder of transparent huge pages that is a setting, the memory control groups,
+and
 the processes by their names. The last line is `N passed, M failed`; 77 without root.
 """
 
@@ -67,7 +68,8 @@ def main() -> int:
             tool.send_signal(number)
             tool.wait()
             after = settled()
-            changed = [name for name, was, is_now in zip(("settings", "groups", "processes"), before, after) if was != is_now]
+            names = ("settings", "groups", "processes")
+            changed = [name for name, was, is_now in zip(names, before, after) if was != is_now]
             passed, failed = passed + (not changed), failed + bool(changed)
             if changed:
                 print(f"{number.name} after {0.15 + 0.25 * moment:.2f} s: changed: {', '.join(changed)}", flush=True)

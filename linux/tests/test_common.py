@@ -124,7 +124,8 @@ class GroupsTest(unittest.TestCase):
 
 
 class KeeperTest(unittest.TestCase):
-    """Settings are files and a control group is a folder here: the guardian does to them what it does to the kernel's."""
+    """Settings are files and a control group is a folder here: the guardian does to them what it does to the
+    kernel's."""
 
     def setUp(self) -> None:
         made = tempfile.TemporaryDirectory()
@@ -164,6 +165,17 @@ class KeeperTest(unittest.TestCase):
                 time.sleep(0.01)
             self.assertFalse(alive(child), f"its process runs on after signal {number}")
 
+    def test_a_stopped_process_runs_on_at_the_end(self) -> None:
+        child = subprocess.Popen(["sleep", "60"])
+        try:
+            with Keeper(lock=str(self.folder / "lock")) as keeper:
+                keeper.stop(child.pid)
+                self.assertEqual(state_of(child.pid, "T"), "T")
+            self.assertEqual(state_of(child.pid, "S"), "S")
+        finally:
+            child.kill()
+            child.wait()
+
     def test_one_tool_at_a_time(self) -> None:
         with Keeper(lock=str(self.folder / "lock")):
             with self.assertRaisesRegex(Unavailable, "another tool"):
@@ -173,6 +185,15 @@ class KeeperTest(unittest.TestCase):
         with Keeper(lock=str(self.folder / "lock")) as keeper:
             with self.assertRaisesRegex(Unavailable, "nothing/here"):
                 keeper.set(self.folder / "nothing/here", 1)
+
+
+def state_of(number: int, wanted: str) -> str:
+    """A process's state (proc(5)), once it is as wanted or a while has gone."""
+    state, until = "", time.monotonic() + 5
+    while state != wanted and time.monotonic() < until:
+        state = Path(f"/proc/{number}/stat").read_text().rsplit(")", 1)[1].split()[0]
+        time.sleep(0.01)
+    return state
 
 
 def alive(number: int) -> bool:

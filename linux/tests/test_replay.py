@@ -58,8 +58,8 @@ class StoredTest(unittest.TestCase):
 
     def test_each_thing_compared_is_told_by_name(self) -> None:
         for counter in Counter:
-            self.spoilt("first", 4, lambda look, counter=counter: with_counter(look, counter, 1),
-                        f"{counter.value}, kernel .*command 4: scan 0 8" if counter is not Counter.SPLIT_FAILED else "failed")
+            told = "failed" if counter is Counter.SPLIT_FAILED else f"{counter.value}, kernel .*command 4: scan 0 8"
+            self.spoilt("first", 4, lambda look, counter=counter: with_counter(look, counter, 1), told)
 
     def test_a_map_count_is_told_by_subpage(self) -> None:
         def spoil(look: Seen) -> Seen:
@@ -72,7 +72,8 @@ class StoredTest(unittest.TestCase):
     def test_frames_are_told(self) -> None:
         def fewer(look: Seen) -> Seen:
             page = look.pages[0, 0]
-            return dataclasses.replace(look, pages={(0, 0): PageSeen(page.whole, page.counts, page.mapped & ~(1 << 300))})
+            spoilt = PageSeen(page.whole, page.counts, page.mapped & ~(1 << 300))
+            return dataclasses.replace(look, pages={(0, 0): spoilt})
 
         def broken(look: Seen) -> Seen:
             page = look.pages[0, 0]
@@ -108,7 +109,8 @@ class PlantedTest(unittest.TestCase):
             followed(script, looks)
 
     def test_an_unmap_that_is_one_short(self) -> None:
-        self.planted("unmap-short", "first", r"map count of page 0 of node 0, subpage 255, kernel 0, thpsplit 1 \(command 3: unmap")
+        told = r"map count of page 0 of node 0, subpage 255, kernel 0, thpsplit 1 \(command 3: unmap"
+        self.planted("unmap-short", "first", told)
 
     def test_a_put_back_at_the_head(self) -> None:
         self.planted("back-at-head", "pins", r"order of putting back \[0, 1\]")
