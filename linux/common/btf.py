@@ -1,8 +1,7 @@
 """The running kernel's types by BTF: where a field lies, how large it is, what an enumerator is.
 
 Rules: Documentation/bpf/btf.rst of the kernel. No offset is written down in the tools: what isn't there, or is of
-another
-type, is a Missing that names it.
+another type, is a Missing that names it.
 """
 
 from __future__ import annotations

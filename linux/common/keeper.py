@@ -7,8 +7,7 @@
 
 A guardian (guardian.py) holds what is to be put back and does it, so an exception, a signal and SIGKILL of the tool end
 alike. Each change is told to the guardian before it is made. Only where the guardian itself is killed too is nothing
-put
-back.
+put back.
 """
 
 from __future__ import annotations

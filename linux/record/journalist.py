@@ -1,11 +1,9 @@
 """Records made into a journal.
 
 Seen: a huge page allocated in a fault; the queue at each scan's start and end, so what is taken and put back, and in
-which
-order; frames and pages freed. Inferred: mappings by the arguments of system calls, by forks and ends of address spaces;
-pins by what a scan leaves; writes (with the switch on) by the kernel's verdicts. What isn't understood is left out by
-whole
-pages, with a reason. docs/LINUX.md has the table.
+which order; frames and pages freed. Inferred: mappings by the arguments of system calls, by forks and ends of address
+spaces; pins by what a scan leaves; writes (with the switch on) by the kernel's verdicts. What isn't understood is
+left out by whole pages, with a reason. docs/LINUX.md has the table.
 """
 
 from __future__ import annotations
@@ -423,7 +421,24 @@ class Journalist:
             page.join = None
         self._queue += stay
         self._told += back
+        self._tell_later([page for page in found if page], stay)
         self._agree(record.queue)
+
+    def _tell_later(self, kernels: List[Page], stay: List[Page]) -> None:
+        """Pages that joined while the scan ran, and stand behind what it put back, are told after it."""
+        if not stay:
+            return
+        edge, mine = max(map(kernels.index, stay)), self._queue.index(stay[0])
+        later = {page for page in kernels[edge + 1 :] if page in self._queue[:mine]}
+        places = {page: self._place(page) for page in later}
+        if not later or min(places.values()) < 0:
+            return
+        late = [i for i, line in enumerate(self.lines) if line.page in later and i >= places[line.page]]
+        skip = set(late)
+        self.lines = [line for i, line in enumerate(self.lines) if i not in skip] + [self.lines[i] for i in late]
+        for queue in (self._queue, self._told):
+            queue.sort(key=lambda page: page in later)  # stable: the later ones go to the end
+        self.seen["pages that joined while a scan ran, told after it"] += len(later)
 
     def _straight(
         self, pages: List[Page], folios: List[Optional[Page]], stay: List[Page]

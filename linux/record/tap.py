@@ -1,6 +1,6 @@
 """BPF programs on raw tracepoints: records of what one memory control group's tasks do to huge pages, each with a
-copy of
-the group's deferred split queue where something ends. Offsets are those of the kernel's types; no tracefs is wanted."""
+copy of the group's deferred split queue where something ends. Offsets are those of the kernel's types; no tracefs is
+wanted."""
 
 from __future__ import annotations
 

@@ -3,8 +3,7 @@
  *   workload THREADS STEPS SEED ORDER [zeros]     `zeros`: most subpages of a page stay zero-filled
  *
  * Each thread has a few places. In each step it makes a page in an empty place, or drops a part of a page, splits its
- * PMD
- * entry, unmaps it, pins or unpins it, has a child drop a part (with one thread), or sleeps.
+ * PMD entry, unmaps it, pins or unpins it, has a child drop a part (with one thread), or sleeps.
  */
 #define _GNU_SOURCE
 #include <fcntl.h>

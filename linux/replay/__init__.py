@@ -1,8 +1,7 @@
 """Scripts on the running kernel: what the kernel does beside what `thpsplit` says, command by command.
 
     mappers, mapper.c   the processes that map a script's pages
-    states              a node by its journal: map counts, frames, queue, and counters in the model's and the kernel's
-                        way
+    states              a node by its journal: map counts, frames, queue, counters as model and kernel have them
     known               the differences that are known, by letter
     generator           random scripts that a kernel can be asked to do
     sayings             what `thpsplit` says of a script, command by command

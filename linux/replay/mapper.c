@@ -3,8 +3,7 @@
  *   mapper SOCKET     SOCKET: the abstract address of the tool (unix(7))
  *
  * Each process says `hello ID PID` once, and answers each command by `ok NUMBER` or `error ERRNO`. All end when the
- * tool's
- * end of standard input is closed, so also when the tool is killed.
+ * tool's end of standard input is closed, so also when the tool is killed.
  *
  *   fork ID           a child that inherits the mapping says hello by this number; pins aren't inherited
  *   alloc ORDER V     maps an aligned region of one page of this order and touches it (the page is made by that fault),

@@ -59,8 +59,7 @@ class Said:
 @dataclass(frozen=True)
 class Story:
     """What the kernel should do: by commands, under these options; the known differences that the story tells; the
-    nodes
-    whose pages aren't queued at their fault though the script's options say so."""
+    nodes whose pages aren't queued at their fault though the script's options say so."""
 
     said: List[Said]
     options: Options

@@ -25,8 +25,7 @@ class PageSeen:
 class Seen:
     """The kernel at one moment. Counters since the script's start, the PMD splits that only served to map less than
     a whole page taken off. A queue lists page numbers, oldest first; a frame of no page stands as its negative; None:
-    it
-    wasn't read."""
+    it wasn't read."""
 
     counts: Counts
     pages: Dict[PageName, PageSeen]

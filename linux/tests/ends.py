@@ -4,8 +4,7 @@
     linux/tests/ends.py COMMAND ARGS..      by default: thpreplay with random scripts
 
 Compared: every file below the kernel's folder of transparent huge pages that is a setting, the memory control groups,
-and
-the processes by their names. The last line is `N passed, M failed`; 77 without root.
+and the processes by their names. The last line is `N passed, M failed`; 77 without root.
 """
 
 from __future__ import annotations

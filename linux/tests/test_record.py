@@ -163,3 +163,24 @@ class StoredTest(unittest.TestCase):
             found.add(spoil)
             self.assertNotEqual(verdict(spoilt), "legal", spoil)
         self.assertEqual(found, set(Spoil))
+
+
+class ScanTest(unittest.TestCase):
+    def test_a_page_that_joins_while_a_scan_runs_is_told_after_it(self) -> None:
+        """The scan puts a pinned page back; meanwhile another joins at its fault, behind it."""
+        story = Story()
+        first = story.page(0)
+        story.drop(0, 0, 8, [first])
+        scan = [Record(Kind.SCAN, 100, TASK + 1, SPACE, (1, 1, *[0] * 7), [first])]
+        second = folio_of(1)
+        story.records += scan
+        story.page(1)
+        story.add(Kind.EXIT, [MADVISE, 0, 0, 0, 0], [first, second])
+        story.records.append(Record(Kind.SCANNED, 101, TASK + 1, SPACE, (0,) * 9, [first, second]))
+        journalist = Journalist(Settings(9, 100, True))
+        journalist.tell(story.records)
+        self.assertEqual(journalist.seen["queues that differ"], 0)
+        self.assertEqual(journalist.seen["pages that joined while a scan ran, told after it"], 1)
+        words = [line.split(" ", 1)[1] for line in journalist.text().splitlines()[2:-1]]
+        self.assertLess(words.index("back 0"), words.index("alloc 1"))
+        self.assertEqual(verdict(journalist.text()), "legal")
