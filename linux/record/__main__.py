@@ -50,7 +50,7 @@ def words() -> argparse.Namespace:
     parser.add_argument("--straighten", action="store_true", help="tell away E (order of putting back) and B (zeros)")
     parser.add_argument("--out", metavar="FILE", help="write the journal there")
     parser.add_argument("--records", metavar="FILE", help="write the records there, one JSON list a line")
-    parser.add_argument("--tamper", type=int, default=0, metavar="N", help="check N spoilt copies of a legal journal)
+    parser.add_argument("--tamper", type=int, default=0, metavar="N", help="check N spoilt copies of a legal journal")
     parser.add_argument("--least", type=int, default=0, metavar="EVENTS", help="more seeds until so many events")
     parser.add_argument("command", nargs="*")
     return parser.parse_args()

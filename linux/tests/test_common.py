@@ -102,6 +102,31 @@ class TextsTest(unittest.TestCase):
                 options_of(words)
 
 
+class WordsTest(unittest.TestCase):
+    """The tools as they are called; nothing of them wants root."""
+
+    def called(self, *words: str) -> subprocess.CompletedProcess[str]:
+        return subprocess.run([sys.executable, *words], cwd=ROOT, capture_output=True, text=True, timeout=60, check=False)
+
+    def test_help(self) -> None:
+        for tool in ("linux/thpreplay", "linux/thprecord"):
+            done = self.called(tool, "--help")
+            self.assertEqual((done.returncode, done.stderr), (0, ""))
+
+    def test_faults_have_one_line_and_status_2(self) -> None:
+        for words in (["linux/thpreplay"], ["linux/thpreplay", "--random", "3", "--thresholds", "x"],
+                      ["linux/thprecord", "--own", "1,2"], ["linux/thprecord", "--underused", "many"]):
+            done = self.called(*words)
+            self.assertEqual((done.returncode, done.stderr.count("\n"), done.stdout), (2, 1, ""), words)
+
+    def test_without_root_there_is_one_line_and_77(self) -> None:
+        if os.geteuid() == 0:
+            self.skipTest("root")
+        for words in (["linux/thpreplay", "--random", "3"], ["linux/thprecord"]):
+            done = self.called(*words)
+            self.assertEqual((done.returncode, done.stderr.count("\n"), done.stdout), (77, 1, ""), words)
+
+
 class GroupsTest(unittest.TestCase):
     def test_version_1_is_found_below_ones_own_group(self) -> None:
         with tempfile.TemporaryDirectory() as folder:
