@@ -60,18 +60,22 @@ def numbers(text: str, what: str) -> List[int]:
         raise InputFault(f"--{what}: {error}") from error
 
 
-def asked_scripts(asked: argparse.Namespace) -> Iterable[Script]:
+def shape_of(asked: argparse.Namespace) -> Shape:
+    """What random scripts are drawn from."""
+    thresholds = asked.thresholds.split(",")
+    for threshold in thresholds:
+        if threshold != "off":
+            numbers(threshold, "thresholds")
+    return Shape(numbers(asked.node_counts, "node-counts"), numbers(asked.page_orders, "page-orders"), thresholds,
+                 max(asked.length, 8))
+
+
+def asked_scripts(asked: argparse.Namespace, shape: Shape) -> Iterable[Script]:
     """The files' scripts, then the random ones."""
     given = [word for name in ("nodes", "orders", "underused", "blocks") if getattr(asked, name)
              for word in (f"--{name}", getattr(asked, name))]
     for path in asked.script:
         yield read_script(path, given)
-    thresholds = asked.thresholds.split(",")
-    for threshold in thresholds:
-        if threshold != "off":
-            numbers(threshold, "thresholds")
-    shape = Shape(numbers(asked.node_counts, "node-counts"), numbers(asked.page_orders, "page-orders"), thresholds,
-                  max(asked.length, 8))
     yield from scripts(asked.random, asked.seed, shape)
 
 
@@ -125,7 +129,8 @@ class Sums:
 
 
 def replay(asked: argparse.Namespace) -> int:
-    found = list(asked_scripts(asked)) if asked.script and not asked.random else asked_scripts(asked)
+    shape = shape_of(asked)
+    found = list(asked_scripts(asked, shape)) if asked.script and not asked.random else asked_scripts(asked, shape)
     if asked.show:
         for script in found:
             print(script.text)
