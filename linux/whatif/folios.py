@@ -8,8 +8,8 @@ from typing import Any, Dict, Iterator, List, NamedTuple, Optional, Tuple
 
 
 def runs(subset: int) -> Iterator[Tuple[int, int]]:
-    """The maximal runs of a set, ascending, as (first, count): linux.common.subpages.runs in a form that is several times
-    faster on scattered sets, since a snapshot asks it of each page."""
+    """The maximal runs of a set, ascending, as (first, count): linux.common.subpages.runs in a form that is several
+    times faster on scattered sets, since a snapshot asks it of each page."""
     for run in re.finditer("1+", bin(subset)[:1:-1]):
         yield run.start(), run.end() - run.start()
 

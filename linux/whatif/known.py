@@ -41,8 +41,8 @@ class KnownPages:
         return int(count)
 
     def make(self, chance: random.Random, count: int, orders: Sequence[int], look: Callable[[], None]) -> None:
-        """Makes `count` pages of these orders. `look` has the shrinker look at those that are there, so that they leave the
-        queue or are split; it is called at most once."""
+        """Makes `count` pages of these orders. `look` has the shrinker look at those that are there, so that they
+        leave the queue or are split; it is called at most once."""
         until = chance.choice((0, count // 3))
         for number in range(count):
             if number and number == until:

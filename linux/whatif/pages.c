@@ -48,7 +48,8 @@ static uint64_t frame_of(uint64_t entry) {
 static int read_block(struct walk *w, uint64_t block) {
     if (w->block == block) return 0;
     w->block = ~0ul;
-    if (pread(w->flags_file, w->block_flags, sizeof w->block_flags, block * BLOCK * 8) != sizeof w->block_flags) return -1;
+    long got = pread(w->flags_file, w->block_flags, sizeof w->block_flags, block * BLOCK * 8);
+    if (got != sizeof w->block_flags) return -1;
     w->block = block;
     return 0;
 }
@@ -82,8 +83,9 @@ static void take_frames(struct walk *w, uint64_t address, uint64_t frame, long c
             taken = (long)(head + (1ul << order) - frame);
             if (taken > count) taken = count;
             if (w->found < w->most)
-                w->out[w->found] = (struct piece){ address, head, w->block_flags[head % BLOCK], (uint32_t)(frame - head),
-                                                   (uint32_t)taken, (uint32_t)order, (uint32_t)by_pmd };
+                w->out[w->found] = (struct piece){ address, head, w->block_flags[head % BLOCK],
+                                                   (uint32_t)(frame - head), (uint32_t)taken, (uint32_t)order,
+                                                   (uint32_t)by_pmd };
             w->found++;
         }
         address += taken * BASE;
@@ -136,8 +138,8 @@ long walk_process(int pid, int flags_file, struct piece *out, long most, long *o
 
 static const char zero_page[BASE];
 
-/* Sets bit i of `zero` where subpage i of the range at `address` is zero-filled, and bit i of `unread` where it couldn't
- * be read; answers how many couldn't. `memory` is an open /proc/PID/mem; count is at most 512. */
+/* Sets bit i of `zero` where subpage i of the range at `address` is zero-filled, and bit i of `unread` where it
+ * couldn't be read; answers how many couldn't. `memory` is an open /proc/PID/mem; count is at most 512. */
 long count_zeros(int memory, uint64_t address, long count, uint64_t *zero, uint64_t *unread) {
     static __thread char buffer[CHUNK * BASE];
     long lost = 0;

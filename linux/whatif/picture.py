@@ -39,7 +39,8 @@ def picture(rows: Sequence[Row], today: Optional[int]) -> str:
     top = round_up(max([row.mebibytes for row in rows] + [0.0]))
     height, step = HEIGHT - TOP - BOTTOM, (WIDTH - LEFT - RIGHT) / max(1, len(rows))
     out = [
-        f'<svg xmlns="http://www.w3.org/2000/svg" viewBox="0 0 {WIDTH} {HEIGHT}" font-family="sans-serif" font-size="12">',
+        f'<svg xmlns="http://www.w3.org/2000/svg" viewBox="0 0 {WIDTH} {HEIGHT}" '
+        'font-family="sans-serif" font-size="12">',
         f'<rect width="{WIDTH}" height="{HEIGHT}" fill="white"/>',
         text_at(LEFT, 22, "MiB that come back, and huge pages split, by max_ptes_none", "start", ' font-size="14"'),
     ]
@@ -54,7 +55,8 @@ def picture(rows: Sequence[Row], today: Optional[int]) -> str:
         middle = x + step * 0.35
         out.append(text_at(middle, y - 5, f"{row.mebibytes:.1f}"))
         out.append(text_at(middle, HEIGHT - BOTTOM + 16, label(row.threshold)))
-        out.append(text_at(middle, HEIGHT - BOTTOM + 32, f"{row.split} of {row.pages}", extra=' font-size="10" fill="#555"'))
+        small = ' font-size="10" fill="#555"'
+        out.append(text_at(middle, HEIGHT - BOTTOM + 32, f"{row.split} of {row.pages}", extra=small))
         if is_today:
             out.append(text_at(middle, HEIGHT - BOTTOM + 48, "today", extra=f' fill="{TODAY}"'))
     return "\n".join(out + ["</svg>"]) + "\n"

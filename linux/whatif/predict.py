@@ -1,7 +1,7 @@
 """What the shrinker would do, by thpsplit: a run of the scripts for each threshold.
 
-A row of threshold T says what a reclaim that drains the queues would do with max_ptes_none T. `off` is 511, with which the
-kernel takes no page as underused (mm/huge_memory.c: thp_underused) and splits partly mapped pages alone.
+A row of threshold T says what a reclaim that drains the queues would do with max_ptes_none T. `off` is 511, with
+which the kernel takes no page as underused (mm/huge_memory.c: thp_underused) and splits partly mapped pages alone.
 """
 
 from __future__ import annotations
@@ -193,8 +193,8 @@ def sum_of(threshold: int, rows: Sequence[Row]) -> Row:
 
 
 def highest_with(predictor: Predictor, frames: int) -> Optional[int]:
-    """The highest threshold that gives at least so many frames back, found by halving: a lower threshold splits all that
-    a higher one does. None where not even 0 gives so much."""
+    """The highest threshold that gives at least so many frames back, found by halving: a lower threshold splits all
+    that a higher one does. None where not even 0 gives so much."""
     if predictor.run([OFF])[0].frames >= frames:
         return OFF
     low, high = 0, OFF

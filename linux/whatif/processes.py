@@ -189,9 +189,9 @@ class Stopper:
 def held(
     processes: Iterable[int], groups: Iterable[str], wanted: bool, keeper: Optional[Keeper] = None
 ) -> Iterator[int]:
-    """Holds processes still: control groups by their freezer where there is one, other processes by SIGSTOP, but those that
-    are stopped already and our own parents. Gives how many are held. All go on at any end of this program, SIGKILL too;
-    groups that a given keeper froze go on when that one closes."""
+    """Holds processes still: control groups by their freezer where there is one, other processes by SIGSTOP, but
+    those that are stopped already and our own parents. Gives how many are held. All go on at any end of this program,
+    SIGKILL too; groups that a given keeper froze go on when that one closes."""
     if not wanted:
         yield 0
         return

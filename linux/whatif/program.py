@@ -45,7 +45,7 @@ class Words(argparse.ArgumentParser):
 def add_choice(words: argparse.ArgumentParser) -> None:
     """The options that say what is looked at, and how."""
     words.add_argument("--pid", type=int, action="append", default=[], metavar="P", help="a process; may be repeated")
-    words.add_argument("--cgroup", action="append", default=[], metavar="DIR", help="a control group and those below it")
+    words.add_argument("--cgroup", action="append", default=[], metavar="DIR", help="a control group and those below")
     words.add_argument("--all", action="store_true", help="all processes")
     words.add_argument("--freeze", action="store_true", help="hold the processes still meanwhile")
     words.add_argument("--orders", action="store_true", help="huge pages below PMD size, too")
@@ -102,7 +102,7 @@ def add_verify(words: argparse.ArgumentParser) -> None:
     words.add_argument("--seed", type=int, default=1, metavar="S")
     words.add_argument("--pages", type=int, default=40, metavar="N", help="known pages of a trial, at most 4000")
     words.add_argument("--change", type=int, default=0, metavar="MICROS", help="known pages that change so often")
-    words.add_argument("--after", type=float, default=5, metavar="SECONDS", help="how long the command runs before the look")
+    words.add_argument("--after", type=float, default=5, metavar="SECONDS", help="for which the command runs first")
     words.add_argument("--running", action="store_true", help="don't hold the pages still until they are judged")
     words.add_argument("--enabled", choices=("always", "madvise"), help="transparent_hugepage/enabled meanwhile")
     words.add_argument("--no-kernel", action="store_true", help="do without BPF: queues and pins are guessed")
@@ -171,7 +171,8 @@ def left_out_of(scripts: Sequence[Script]) -> Dict[str, int]:
 
 def show(asked: argparse.Namespace, scripts: List[Script], snapshot: Optional[Snapshot], program: Program) -> None:
     """The tables, or the JSON object, of scripts."""
-    today = snapshot.today if snapshot else next((t for t in (script.today() for script in scripts) if t is not None), None)
+    told_today = [snapshot.today] if snapshot else [script.today() for script in scripts]
+    today = next((threshold for threshold in told_today if threshold is not None), None)
     given = thresholds_of(asked.thresholds) if asked.thresholds else DEFAULT
     thresholds = with_today(given, None if asked.thresholds else today)
     predictor = Predictor(scripts, program)
@@ -288,14 +289,16 @@ def command_target(asked: argparse.Namespace) -> int:
     row, shares = predictor.run([threshold])[0], predictor.by_process(threshold)
     if asked.json:
         cost = [share_json(process, names.get(process, "?"), share) for process, share in sorted(shares.items())]
-        print(json.dumps({"asked": asked.mebibytes, "reached": found is not None, "row": row_json(row, None), "cost": cost}, indent=1))
+        told_row = {"asked": asked.mebibytes, "reached": found is not None, "row": row_json(row, None), "cost": cost}
+        print(json.dumps(told_row, indent=1))
         return DONE
     if found is None:
         print(f"no threshold gives back {asked.mebibytes:g} MiB: 0 gives {row.mebibytes:.1f} MiB. What 0 costs:")
     elif found == OFF:
         print(f"{row.mebibytes:.1f} MiB come back with any threshold, also with 511. What that costs:")
     else:
-        print(f"max_ptes_none {found} gives back {row.mebibytes:.1f} MiB and splits {row.split} huge pages. What it costs:")
+        given = f"gives back {row.mebibytes:.1f} MiB and splits {row.split} huge pages"
+        print(f"max_ptes_none {found} {given}. What it costs:")
     print(cost_table(shares, names))
     return DONE
 

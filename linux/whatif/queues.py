@@ -1,7 +1,8 @@
-"""What only the kernel's own structures tell of a huge page: whether it stands in a deferred split queue and where, whether
-it is flagged as partly mapped, how often it is mapped by PMD entries, how often it is pinned.
+"""What only the kernel's own structures tell of a huge page: whether it stands in a deferred split queue and where,
+whether it is flagged as partly mapped, how often it is mapped by PMD entries, how often it is pinned.
 
-Rules: include/linux/mm_types.h (struct folio), include/linux/page-flags.h (PG_partially_mapped of the second page), mm/huge_memory.c (folio_expected_ref_count: a reference for each mapping; any more are pins).
+Rules: include/linux/mm_types.h (struct folio), include/linux/page-flags.h (PG_partially_mapped of the second page),
+mm/huge_memory.c (folio_expected_ref_count: a reference for each mapping; any more are pins).
 """
 
 from __future__ import annotations
@@ -64,8 +65,8 @@ class Queues:
         return references > 0
 
     def places(self, groups: List[int]) -> Dict[int, int]:
-        """The place in its queue of each queued page of these control groups (inodes), by frame. A queue that changes all
-        the time, and a group that has gone, are left out: their pages then stand in no order."""
+        """The place in its queue of each queued page of these control groups (inodes), by frame. A queue that changes
+        all the time, and a group that has gone, are left out: their pages then stand in no order."""
         out: Dict[int, int] = {}
         addresses = self._memory.groups()
         for inode in groups:

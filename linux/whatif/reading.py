@@ -214,7 +214,8 @@ class Reader:
         self.spent["second look"] += time.monotonic() - began
 
     def read_sample_again(self) -> Tuple[int, int]:
-        """Reads some pages a second time; answers how many, and how many had other content or other map counts by then."""
+        """Reads some pages a second time; answers how many, and how many had other content or other map counts by
+        then."""
         began = time.monotonic()
         frames = sorted(self.folios)
         some = [self.folios[frame] for frame in frames[:: max(1, len(frames) // SAMPLE)]]

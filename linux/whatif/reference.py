@@ -1,7 +1,8 @@
 """A plain judge of what a reclaim that drains the queues does to one huge page.
 
-It is a direct reading of the kernel's functions, shares no code with the scripts or with thpsplit, and is what `verify` lays
-beside both: mm/huge_memory.c (deferred_split_scan, thp_underused, split_folio), mm/migrate.c (try_to_map_unused_to_zeropage).
+It is a direct reading of the kernel's functions, shares no code with the scripts or with thpsplit, and is what
+`verify` lays beside both: mm/huge_memory.c (deferred_split_scan, thp_underused, split_folio), mm/migrate.c
+(try_to_map_unused_to_zeropage).
 """
 
 from __future__ import annotations

@@ -1,8 +1,8 @@
 """Lets stopped processes go on when the tool ends, however it ends: SIGKILL included.
 
-processes.py starts this file as a process of its own session. It reads lines `PID TICKS` on standard input, a process and
-when it began (proc(5), stat, field 22), and answers each by `ok`; then the tool stops that process. At the end of standard
-input it sends SIGCONT to those that are still the same. Nothing of the package is imported.
+processes.py starts this file as a process of its own session. It reads lines `PID TICKS` on standard input, a process
+and when it began (proc(5), stat, field 22), and answers each by `ok`; then the tool stops that process. At the end of
+standard input it sends SIGCONT to those that are still the same. Nothing of the package is imported.
 """
 
 from __future__ import annotations

@@ -2,13 +2,13 @@
 
 What the kernel does otherwise than the model is said by the script, too, and not by a correction of numbers:
 
-* A page that stands in no queue (an earlier scan found it in use, it was faulted with shrink_underused off, its order is
-  below 9, it is locked or poisoned) is allocated, filled with data, and scanned before all others: the model finds it in
-  use and drops it, as the kernel did (mm/huge_memory.c: deferred_split_scan, deferred_split_folio).
+* A page that stands in no queue (an earlier scan found it in use, it was faulted with shrink_underused off, its order
+  is below 9, it is locked or poisoned) is allocated, filled with data, and scanned before all others: the model finds
+  it in use and drops it, as the kernel did (mm/huge_memory.c: deferred_split_scan, deferred_split_folio).
 * A split drops zero-filled subpages that are mapped, but those in locked VMAs (mm/migrate.c:
   try_to_map_unused_to_zeropage): on a partly mapped page their zeros are said as data.
-* With max_ptes_none 511 no page counts as underused (mm/huge_memory.c: thp_underused): each page that isn't partly mapped
-  is written before the shrinker runs (`fill`).
+* With max_ptes_none 511 no page counts as underused (mm/huge_memory.c: thp_underused): each page that isn't partly
+  mapped is written before the shrinker runs (`fill`).
 """
 
 from __future__ import annotations

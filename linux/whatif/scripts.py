@@ -1,8 +1,8 @@
 """Huge pages as scripts that thpsplit reads as they are, and such scripts read back.
 
-A node of a script is a memory control group and an order, with at most 4,096 pages; pages beyond that are a further node.
-Beyond 8 nodes or 16 MiB there is a further script. The first line names the options for thpsplit; comments tell where the
-pages come from.
+A node of a script is a memory control group and an order, with at most 4,096 pages; pages beyond that are a further
+node. Beyond 8 nodes or 16 MiB there is a further script. The first line names the options for thpsplit; comments tell
+where the pages come from.
 """
 
 from __future__ import annotations
@@ -56,7 +56,8 @@ class Script:
         return options_of(self.orders, self.blocks)
 
     def filled(self) -> str:
-        """The text with each page in full use before the shrinker runs, but those that are partly mapped (saying.fill)."""
+        """The text with each page in full use before the shrinker runs, but those that are partly mapped
+        (saying.fill)."""
         front, back = self.text.split(f"\n{MARK}\n", 1)
         lines = []
         for found in re.finditer(r"^# page (\d+) (\d+) (.*)$", front, re.MULTILINE):
@@ -175,7 +176,8 @@ def finish(
 ) -> Tuple[Script, List[List[Said]]]:
     """One script of these nodes."""
     nodes = [
-        Node(order, len(pages), names.get(cgroup, f"inode {cgroup}" if cgroup else "none")) for (cgroup, order), pages, _ in part
+        Node(order, len(pages), names.get(cgroup, f"inode {cgroup}" if cgroup else "none"))
+        for (cgroup, order), pages, _ in part
     ]
     blocks = max(node.pages for node in nodes)
     lines = [" ".join(["# thpsplit"] + options_of([node.order for node in nodes], blocks))]

@@ -79,10 +79,11 @@ class Snapshot:
         """The comments of its scripts."""
         lines = [f"snapshot of {self.chosen}: {self.looked_at} processes, {self.at}, {self.kernel}"]
         lines += told(self)
-        lines.append(f"today max_ptes_none {self.today} shrink_underused {int(bool(self.switch))}" if self.today is not None else "")
+        if self.today is not None:
+            lines.append(f"today max_ptes_none {self.today} shrink_underused {int(bool(self.switch))}")
         lines += [f"left out: {count} {why}" for why, count in sorted(self.left_out.items()) if count]
         lines += [f"process {number} {name}" for number, name in sorted(self.processes.items())]
-        return [line for line in lines if line]
+        return lines
 
 
 def from_json(text: str, name: str) -> Snapshot:
@@ -127,8 +128,8 @@ def told(snapshot: Snapshot) -> List[str]:
     size = sum(BASE << folio.order for folio in snapshot.folios)
     sums, lines = snapshot.sums, []
     lines.append(
-        f"{len(snapshot.folios)} huge pages ({len(whole)} of PMD size), {mebibytes(size)} MiB, of {len(snapshot.processes)} "
-        f"processes; {mebibytes(snapshot.others * BASE)} MiB of other anonymous pages"
+        f"{len(snapshot.folios)} huge pages ({len(whole)} of PMD size), {mebibytes(size)} MiB, "
+        f"of {len(snapshot.processes)} processes; {mebibytes(snapshot.others * BASE)} MiB of other anonymous pages"
     )
     lines.append(
         f"mapped by PMD entries: {mebibytes(sums.by_pmd)} MiB, by the kernel's own count (AnonHugePages) "
@@ -136,10 +137,12 @@ def told(snapshot: Snapshot) -> List[str]:
     )
     if sums.machine is not None:
         lines.append(
-            f"whole machine, each page once: {mebibytes(sums.distinct)} MiB, by the kernel's own count {mebibytes(sums.machine)} MiB"
+            f"whole machine, each page once: {mebibytes(sums.distinct)} MiB, "
+            f"by the kernel's own count {mebibytes(sums.machine)} MiB"
         )
     if snapshot.lacking:
-        lines.append(f"queues and pins weren't read ({snapshot.lacking}): a guess, each page is taken as queued and not pinned")
+        guess = "a guess, each page is taken as queued and not pinned"
+        lines.append(f"queues and pins weren't read ({snapshot.lacking}): {guess}")
     else:
         counts = Counter({"queued": 0, "partly mapped": 0, "pinned": 0, "locked": 0})
         for folio in snapshot.folios:

@@ -45,7 +45,8 @@ def process_table(shares: Dict[int, Dict[int, Share]], names: Dict[int, str]) ->
     lines: List[List[object]] = [["process", "name", "pages"] + [label(threshold) for threshold in shares]]
     first = next(iter(shares.values()), {})
     for process in sorted(first, key=lambda number: (-first[number].pages, number)):
-        cells = [f"{each[process].frames / FRAMES_A_MEBIBYTE:.1f}" if process in each else "0.0" for each in shares.values()]
+        frames = [each[process].frames if process in each else 0 for each in shares.values()]
+        cells = [f"{count / FRAMES_A_MEBIBYTE:.1f}" for count in frames]
         lines.append([str(process), names.get(process, "?"), first[process].pages] + cells)
     return "MiB back by process (a shared page counts once):\n" + aligned(lines, 2)
 

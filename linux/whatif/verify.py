@@ -1,8 +1,9 @@
-"""Predictions beside what the kernel's shrinker then does: known pages, or a command's, in a memory control group of its own.
+"""Predictions beside what the kernel's shrinker then does: known pages, or a command's, in a memory control group of
+its own.
 
 A trial makes the pages anew, sets a threshold, looks, asks thpsplit and the plain judge (reference.py), has the kernel
-reclaim in the group, and looks which pages are split and which frames came back. Settings, groups and processes go away at
-any end (linux/common/keeper.py); one tool at a time holds the lock.
+reclaim in the group, and looks which pages are split and which frames came back. Settings, groups and processes go
+away at any end (linux/common/keeper.py); one tool at a time holds the lock.
 """
 
 from __future__ import annotations
@@ -173,9 +174,8 @@ class Bench:
 
     def _said(self, made: Scripts, threshold: int) -> Dict[int, int]:
         predictor = Predictor(made.scripts, self._program)
-        return {
-            made.pages[fate.script][fate.node][fate.number].folio.frame: fate.given for fate in predictor.fates(threshold)
-        }
+        fates = predictor.fates(threshold)
+        return {made.pages[fate.script][fate.node][fate.number].folio.frame: fate.given for fate in fates}
 
     def _result(
         self,
@@ -224,8 +224,9 @@ def remove_group(path: str) -> None:
 
 
 def became(snapshot: Snapshot, frames: Frames) -> Dict[int, int]:
-    """Which frames came back, by page: of those that are no longer whole, each subpage that no process of the snapshot maps
-    where it was. Frames that are a huge page, but nobody's where they were, came back altogether and are in use again."""
+    """Which frames came back, by page: of those that are no longer whole, each subpage that no process of the
+    snapshot maps where it was. Frames that are a huge page, but nobody's where they were, came back altogether and
+    are in use again."""
     out: Dict[int, int] = {}
     maps: Dict[int, NumberFile] = {}
     for folio in snapshot.folios:
@@ -284,18 +285,19 @@ def told_pages(result: Result) -> List[str]:
     lines = []
     for frame in result.differing[:6]:
         folio = result.folios[frame]
-        words = [f"{name} {'whole' if given is None else size(given)}" for name, given in (
-            ("said", result.said.get(frame)), ("judged", result.judged.get(frame)), ("came", result.came.get(frame)))]
+        sets = {"said": result.said, "judged": result.judged, "came": result.came}
+        words = [f"{name} {size(each[frame]) if frame in each else 'whole'}" for name, each in sets.items()]
         lines.append(
-            f"      frame {frame} order {folio.order}: {', '.join(words)}; zero {size(folio.zeros)} queued {folio.is_queued} "
-            f"partly {folio.is_partly} pins {folio.pins} PMD {folio.whole} locked {folio.is_locked} kept {size(folio.kept)} "
-            f"mappings {len(folio.mappings)}"
+            f"      frame {frame} order {folio.order}: {', '.join(words)}; zero {size(folio.zeros)} "
+            f"queued {folio.is_queued} partly {folio.is_partly} pins {folio.pins} PMD {folio.whole} "
+            f"locked {folio.is_locked} kept {size(folio.kept)} mappings {len(folio.mappings)}"
         )
     return lines
 
 
 def verify(task: Task, program: Program) -> int:
-    """Runs all trials; status 1 where one wasn't exact. After TURN seconds another tool may have the lock for a while."""
+    """Runs all trials; status 1 where one wasn't exact. After TURN seconds another tool may have the lock for a
+    while."""
     seen: Counter[str] = Counter()
     todo = [(number, threshold) for number in range(task.rounds) for threshold in task.thresholds]
     print("set meanwhile, and put back: " + ", ".join(task.settings), flush=True)
@@ -316,8 +318,8 @@ def verify(task: Task, program: Program) -> int:
 
 
 def keep(folder: str, name: str, threshold: int, result: Result) -> None:
-    """Writes what was seen before and after a trial, so that it can be judged again: `seen`, a stored snapshot, and `came`,
-    the frames that came back by the page's first frame, as hexadecimal sets."""
+    """Writes what was seen before and after a trial, so that it can be judged again: `seen`, a stored snapshot, and
+    `came`, the frames that came back by the page's first frame, as hexadecimal sets."""
     came = {str(frame): format(given, "x") for frame, given in {**result.came, **result.beside}.items()}
     text = json.dumps({"threshold": threshold, "came": came, "seen": result.snapshot.to_json()})
     try:

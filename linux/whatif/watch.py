@@ -74,8 +74,8 @@ class Look:
 
 
 def watch(look: Callable[[], Look], seconds: float, rounds: int, out: TextIO = sys.stdout) -> Watch:
-    """Looks every so many seconds, `rounds` times (0: until it is interrupted). On a terminal a table is drawn over; else
-    each look is a line, and the table stands at the end."""
+    """Looks every so many seconds, `rounds` times (0: until it is interrupted). On a terminal a table is drawn over;
+    else each look is a line, and the table stands at the end."""
     seen, today = Watch(), None
     draws = out.isatty()
     try:

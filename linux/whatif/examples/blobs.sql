@@ -1,4 +1,4 @@
--- A database in memory under a small load: rows of data and of zeros, a third of them deleted, then looked up for a while.
+-- A database in memory under a small load: rows of data and of zeros, a third of them deleted, then looked up.
 -- GLIBC_TUNABLES=glibc.malloc.hugetlb=1 sqlite3 :memory: < blobs.sql
 create table rows(number integer primary key, body blob);
 with recursive n(i) as (select 1 union all select i + 1 from n where i < 40000)

@@ -1,4 +1,5 @@
-// Something that keeps a C++ compiler busy: GLIBC_TUNABLES=glibc.malloc.hugetlb=1 clang++ -std=c++17 -O2 -c -o /dev/null heavy.cpp
+// Something that keeps a C++ compiler busy:
+// GLIBC_TUNABLES=glibc.malloc.hugetlb=1 clang++ -std=c++17 -O2 -c -o /dev/null heavy.cpp
 #include <algorithm>
 #include <functional>
 #include <map>

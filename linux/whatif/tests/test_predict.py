@@ -114,9 +114,11 @@ class MadeUp(unittest.TestCase):
             self.assertEqual(both.run([threshold])[0].frames, sum(size(given) for given in said.values()))
 
     def test_a_target_is_the_highest_threshold(self) -> None:
-        pages = [folio(number, zero=bits_of(0, number * 7 % 513)) for number in range(200)] + [holed(200, bits_of(0, 500))]
+        zeros = [number * 7 % 513 for number in range(200)]
+        pages = [folio(number, zero=bits_of(0, zero)) for number, zero in enumerate(zeros)]
+        pages.append(holed(200, bits_of(0, 500)))
         each = predictor(pages)
-        plain = {t: 12 + sum(z for z in (n * 7 % 513 for n in range(200)) if z > t and t != OFF) for t in range(OFF + 1)}
+        plain = {t: 12 + sum(zero for zero in zeros if zero > t and t != OFF) for t in range(OFF + 1)}
         for frames in (1, 12, 13, 1000, 20000, 51000, 10**6):
             wanted = [threshold for threshold, given in plain.items() if given >= frames]
             self.assertEqual(highest_with(each, frames), max(wanted) if wanted else None)
@@ -139,7 +141,7 @@ class MadeUp(unittest.TestCase):
 
     def test_by_process(self) -> None:
         shared = folio(0, zero=bits_of(0, 10), whole=3, totals=[3] * 512)
-        shared.mappings = [Mapping(100, 0, shared.full, True), Mapping(90, 0, shared.full, True), Mapping(100, 1 << 30, shared.full, True)]
+        shared.mappings = [Mapping(process, at << 30, shared.full, True) for at, process in enumerate((100, 90, 100))]
         alone = folio(5, zero=bits_of(0, 20))
         shares = predictor([shared, alone]).by_process(0)
         self.assertEqual({p: (s.pages, s.split, s.frames, s.lost) for p, s in shares.items()},
@@ -169,4 +171,5 @@ class Trials(unittest.TestCase):
             self.assertEqual(judged([one for one in snapshot.folios if one.frame in said], threshold), own, path.name)
             if PROGRAM:
                 fates = Predictor(made.scripts, PROGRAM).fates(threshold)
-                self.assertEqual({made.pages[f.script][f.node][f.number].folio.frame: f.given for f in fates}, own, path.name)
+                given = {made.pages[f.script][f.node][f.number].folio.frame: f.given for f in fates}
+                self.assertEqual(given, own, path.name)

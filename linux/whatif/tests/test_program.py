@@ -17,7 +17,9 @@ ROOT = HERE.parent.parent.parent
 NEEDS = unittest.skipUnless(program(), "there is no thpsplit (make run, or THPSPLIT=PATH)")
 
 
-def run(*words: str, user: int = -1, launcher: bool = False, env: Sequence[str] = ()) -> subprocess.CompletedProcess[str]:
+def run(
+    *words: str, user: int = -1, launcher: bool = False, env: Sequence[str] = ()
+) -> subprocess.CompletedProcess[str]:
     """thpwhatif with these words."""
     command = [str(HERE.parent / "thpwhatif")] if launcher else [sys.executable, "-m", "linux.whatif"]
     given = dict(os.environ, **dict(pair.split("=", 1) for pair in env))
@@ -48,7 +50,7 @@ class Program(unittest.TestCase):
             if done.returncode == 2:
                 self.expect(done, 2, told)
 
-    @unittest.skipUnless(os.geteuid() or shutil.which("setpriv"), "there is no setpriv, by which root becomes another user")
+    @unittest.skipUnless(os.geteuid() or shutil.which("setpriv"), "there is no setpriv, by which root is another user")
     def test_another_user_is_told_in_one_line(self) -> None:
         for words in (("snapshot", "--all"), ("watch", "1", "--all"), ("verify",)):
             done = run(*words, user=65534)
@@ -63,12 +65,14 @@ class Program(unittest.TestCase):
     @NEEDS
     def test_scripts_and_stored_snapshots_say_the_same(self) -> None:
         for name in ("known", "forks"):
-            both = [run("what-if", str(HERE / "stored" / end), "--by-process", launcher=True) for end in (f"{name}.json", f"{name}.1.script")]
+            files = [str(HERE / "stored" / f"{name}.{end}") for end in ("json", "1.script")]
+            both = [run("what-if", file, "--by-process", launcher=True) for file in files]
             self.assertEqual(both[0].stdout, both[1].stdout)
             self.assertIn("<- today", both[0].stdout)
 
     @NEEDS
     def test_a_target_from_a_script(self) -> None:
-        done = run("target", "10", str(HERE / "stored" / "known.1.script"))
+        script = str(HERE / "stored" / "known.1.script")
+        done = run("target", "10", script)
         self.assertIn("max_ptes_none 409 gives back 10.1 MiB and splits 6 huge pages", done.stdout)
-        self.assertIn("no threshold gives back 99 MiB: 0 gives 15.0 MiB", run("target", "99", str(HERE / "stored" / "known.1.script")).stdout)
+        self.assertIn("no threshold gives back 99 MiB: 0 gives 15.0 MiB", run("target", "99", script).stdout)

@@ -67,13 +67,15 @@ class Scripts(unittest.TestCase):
         self.assertEqual(after, "\nscan 0 128\n")
 
     def test_read_back(self) -> None:
-        made, _ = next(write_scripts(pages(5, 2), ["left out: 3 huge pages", "process 100 a b", "today max_ptes_none 64 x"], {}))
+        head = ["left out: 3 huge pages", "process 100 a b", "today max_ptes_none 64 x"]
+        made, _ = next(write_scripts(pages(5, 2), head, {}))
         back = read_script(made.text, "x")
         self.assertEqual((back.blocks, back.nodes), (made.blocks, made.nodes))
         self.assertEqual(back.left_out(), {"huge pages": 3})
         self.assertEqual(back.processes(), {100: "a b"})
         self.assertEqual(back.today(), 64)
-        self.assertEqual([[page.by for page in node] for node in back.pages()], [[{100: 1}, {102: 1}, {104: 1}], [{101: 1}, {103: 1}]])
+        wanted = [[{100: 1}, {102: 1}, {104: 1}], [{101: 1}, {103: 1}]]
+        self.assertEqual([[page.by for page in node] for node in back.pages()], wanted)
 
     def test_spoilt_scripts_are_named(self) -> None:
         text = next(write_scripts(pages(5, 2), [], {}))[0].text

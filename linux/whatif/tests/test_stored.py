@@ -1,4 +1,5 @@
-"""Scripts and tables of stored snapshots, byte by byte. With REWRITE=1 the stored ones are made anew: look at what changed."""
+"""Scripts and tables of stored snapshots, byte by byte. With REWRITE=1 the stored ones are made anew: look at what
+changed."""
 
 from __future__ import annotations
 
@@ -68,7 +69,8 @@ class Stored(unittest.TestCase):
 
     def test_spoilt_snapshots_are_named(self) -> None:
         good = json.loads((STORED / f"{NAMES[0]}.json").read_text())
-        spoilt = [dict(good, version=9), {k: v for k, v in good.items() if k != "folios"}, dict(good, folios=[{}]), [], 5]
+        cut = {key: value for key, value in good.items() if key != "folios"}
+        spoilt = [dict(good, version=9), cut, dict(good, folios=[{}]), [], 5]
         for text in [json.dumps(value) for value in spoilt] + ["", "{"]:
             with self.assertRaisesRegex(InputFault, "^name: "):
                 from_json(text, "name")

@@ -31,7 +31,8 @@ class Tables(unittest.TestCase):
 
     def test_costs_leave_out_those_that_lose_nothing(self) -> None:
         text = cost_table({1: Share(5, 0, 0, 0), 2: Share(5, 3, 256, 4), 3: Share(0, 0, 0, 9)}, {2: "two"})
-        self.assertEqual([line.split() for line in text.splitlines()[1:]], [["3", "?", "9", "0", "0.0"], ["2", "two", "4", "3", "1.0"]])
+        rows = [line.split() for line in text.splitlines()[1:]]
+        self.assertEqual(rows, [["3", "?", "9", "0", "0.0"], ["2", "two", "4", "3", "1.0"]])
 
     def test_left_out(self) -> None:
         self.assertEqual(last_line({"a": 0}), "left out: nothing")
@@ -55,7 +56,8 @@ class Watching(unittest.TestCase):
         seen = Watch()
         for frames in (512, 256, 1024):
             seen.add([Row(0, 4, 1, 1, 0, frames)])
-        self.assertEqual(seen.table(0).splitlines()[2].split(), ["0", "4.0", "+2.0", "1.0", "4.0", "2.3", "<-", "today"])
+        row = seen.table(0).splitlines()[2].split()
+        self.assertEqual(row, ["0", "4.0", "+2.0", "1.0", "4.0", "2.3", "<-", "today"])
 
     def test_rounds_and_lines(self) -> None:
         out, looks = io.StringIO(), iter([512, 256])
@@ -65,7 +67,8 @@ class Watching(unittest.TestCase):
 
         watch(look, 0.01, 2, out)
         lines: List[str] = out.getvalue().splitlines()
-        self.assertEqual([line[9:] for line in lines[:2]], [f"4 pages; MiB back: 0 {m}; a note" for m in ("2.0", "1.0")])
+        wanted = [f"4 pages; MiB back: 0 {mebibytes}; a note" for mebibytes in ("2.0", "1.0")]
+        self.assertEqual([line[9:] for line in lines[:2]], wanted)
         self.assertEqual(lines[2], "look 2")
 
     def test_line_without_pages(self) -> None:
