@@ -6,11 +6,15 @@ import signal
 import sys
 from typing import Callable, NoReturn
 
-DONE, DIFFERS, USAGE, SKIPPED = 0, 1, 2, 77
+DONE, DIFFERS, USAGE, FAILED, SKIPPED = 0, 1, 2, 3, 77
 
 
 class Unavailable(Exception):
     """This machine, its kernel or the caller's rights lack what is named."""
+
+
+class RunFailed(Exception):
+    """A run that had begun can't go on; what was told until then stands."""
 
 
 class InputFault(Exception):
@@ -38,6 +42,9 @@ def run_tool(name: str, main: Callable[[], int]) -> NoReturn:
     except InputFault as fault:
         print(f"{name}: {fault}", file=sys.stderr)
         status = USAGE
+    except RunFailed as failure:
+        print(f"{name}: {failure}", file=sys.stderr)
+        status = FAILED
     except KeyboardInterrupt:
         print(f"{name}: interrupted", file=sys.stderr)
         status = 128 + signal.SIGINT

@@ -22,7 +22,7 @@ from pathlib import Path
 from types import TracebackType
 from typing import Dict, Optional, Type
 
-from .errors import Unavailable
+from .errors import RunFailed, Unavailable
 from .files import PathText, chosen, read, write
 from .guardian import start_of
 
@@ -121,11 +121,11 @@ class Keeper:
     def _tell(self, order: Dict[str, object]) -> None:
         guardian = self._guardian
         if guardian is None or not guardian.stdin or not guardian.stdout:
-            raise Unavailable("the guardian has ended: nothing may be changed any more")
+            raise RunFailed("the guardian has ended: nothing may be changed any more")
         try:
             guardian.stdin.write(json.dumps(order) + "\n")
             answer = guardian.stdout.readline().strip()
         except OSError as error:
-            raise Unavailable("the guardian has ended: nothing may be changed any more") from error
+            raise RunFailed("the guardian has ended: nothing may be changed any more") from error
         if answer != "ok":
-            raise Unavailable(answer or "the guardian has ended: nothing may be changed any more")
+            raise RunFailed(answer or "the guardian has ended: nothing may be changed any more")

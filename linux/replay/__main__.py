@@ -2,7 +2,7 @@
 
 A line for each script: `agrees`, `agrees (but for A F)`, `differs: WHAT, kernel N, thpsplit M (command)` or
 `skipped: why`. docs/LINUX.md tells the letters. Wants root. Status 0: nothing differs; 1: something does; 2: a fault
-in the words; 77: nothing could be compared.
+in the words; 3: the run could not go on; 77: nothing could be compared.
 """
 
 from __future__ import annotations

@@ -8,7 +8,7 @@ import subprocess
 from dataclasses import dataclass, field
 from typing import List, Optional, Tuple
 
-from ..common.errors import Unavailable
+from ..common.errors import RunFailed, Unavailable
 from ..common.helpers import helper
 from ..common.keeper import Keeper
 from ..common.page_files import frames_at
@@ -36,19 +36,22 @@ class Mappers:
             raise Unavailable("the mapping process doesn't begin")
         self.root = Mapper(self, int(words[2]), address)
 
+    def _send(self, text: str, address: bytes) -> None:
+        try:
+            self._socket.sendto(text.encode(), address)
+        except OSError as error:
+            raise RunFailed(f"a mapping process has ended: {error.strerror}") from error
+
     def _hear(self) -> Tuple[List[str], bytes]:
         try:
             text, address = self._socket.recvfrom(256)
         except socket.timeout as error:
-            raise Unavailable(f"a mapping process is silent for {PATIENCE:.0f} s") from error
+            raise RunFailed(f"a mapping process is silent for {PATIENCE:.0f} s") from error
         return text.decode().split(), address
 
     def ask(self, address: bytes, text: str) -> int:
         """The number that a process answers to a command."""
-        try:
-            self._socket.sendto(text.encode(), address)
-        except OSError as error:
-            raise Unavailable(f"a mapping process has ended: {error.strerror}") from error
+        self._send(text, address)
         words, _ = self._hear()
         if words[0] != "ok":
             raise Refusal(f"{text}: {os.strerror(int(words[1]))}")
@@ -56,7 +59,7 @@ class Mappers:
 
     def fork(self, address: bytes) -> Tuple[int, bytes]:
         """The number of a new child, and its address."""
-        self._socket.sendto(f"fork {self._next}".encode(), address)
+        self._send(f"fork {self._next}", address)
         self._next += 1
         child: Optional[Tuple[int, bytes]] = None
         for _ in range(2):  # the child's hello and the parent's answer, in any order
