@@ -194,7 +194,7 @@ class Bench:
             if back is not None:
                 judged[frame] = sum(1 << i for i, is_back in enumerate(back) if is_back)
         own = {frame: given for frame, given in came.items() if frame in folios}
-        differing = [frame for frame in folios if not said.get(frame) == own.get(frame) == judged.get(frame)]
+        differing = [frame for frame in folios if said.get(frame) != own.get(frame)]
         return Result(snapshot, folios, said, judged, own, beside, added, differing)
 
 
