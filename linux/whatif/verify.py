@@ -73,6 +73,7 @@ class Result:
 
     snapshot: Snapshot
     folios: Dict[int, Folio]  # those that a script says
+    partly: Set[int]  # of these, what is said as partly mapped
     said: Dict[int, int]
     judged: Dict[int, int]
     came: Dict[int, int]
@@ -83,7 +84,7 @@ class Result:
     def statistics(self) -> Dict[Statistic, int]:
         """The two counters that the prediction says: pages of PMD size split, and those of them as underused."""
         large = [frame for frame in self.said if self.folios[frame].order == PMD_ORDER]
-        under = [frame for frame in self.said if not self.folios[frame].is_partly]
+        under = [frame for frame in self.said if frame not in self.partly]
         return {Statistic.SPLIT: len(large), Statistic.UNDERUSED: len(under)}
 
     @property
@@ -186,7 +187,9 @@ class Bench:
         added: Dict[Statistic, int],
         threshold: int,
     ) -> Result:
-        folios = {said.folio.frame: said.folio for script in made.pages for node in script for said in node}
+        pages = [one for script in made.pages for node in script for one in node]
+        folios = {one.folio.frame: one.folio for one in pages}
+        partly = {one.folio.frame for one in pages if one.is_partly}
         beside = {frame: given for frame, given in came.items() if frame not in folios}
         judged = {}
         for frame, folio in folios.items():
@@ -195,7 +198,7 @@ class Bench:
                 judged[frame] = sum(1 << i for i, is_back in enumerate(back) if is_back)
         own = {frame: given for frame, given in came.items() if frame in folios}
         differing = [frame for frame in folios if said.get(frame) != own.get(frame)]
-        return Result(snapshot, folios, said, judged, own, beside, added, differing)
+        return Result(snapshot, folios, partly, said, judged, own, beside, added, differing)
 
 
 def end_process(process: subprocess.Popen[str]) -> None:
