@@ -324,8 +324,15 @@ class Journalist:
         if self._scans:
             return
         for page in list(self._queue):
-            busy = any(asked.space in page.maps for asked in self._pending.values())
-            if page.folio not in queue and page not in self._joining.values() and not busy:
+            if page.folio in queue or page in self._joining.values() or page not in self._queue:
+                continue
+            tasks = [task for task, asked in self._pending.items() if asked.space in page.maps]
+            reaching = [task for task in tasks if self._reaches(self._pending[task], page)]
+            if reaching:  # a call that still runs has freed it
+                page.freed = True
+                self._apply(self._pending.pop(reaching[0]), queue)
+                self.seen["calls told before their end"] += 1
+            elif not tasks:
                 self._lose(page, "left the queue unseen: khugepaged took it (K), or its process ends")
                 self._leaves(page)
         for page in self._joining.values():
@@ -342,6 +349,14 @@ class Journalist:
             kernels = [page for page in found if page and not page.lost and page not in skip]
             self.seen["queues compared"] += 1
             self.seen["queues that differ"] += mine != kernels
+
+    def _reaches(self, asked: Record, page: Page) -> bool:
+        """Whether a call takes mappings of a page away."""
+        number, start, length, advice = asked.values[:4]
+        mapping = page.maps[asked.space]
+        first, end = mapping.base, mapping.base + page.subpages * BASE
+        takes = number == MUNMAP or (number == MADVISE and advice == DONTNEED)
+        return takes and start < end and start + length > first
 
     def _tell_early(self, queue: List[int]) -> None:
         told = {page.folio for page in self._queue}
