@@ -420,6 +420,8 @@ class Journalist:
         pages = [page for page in folios[:total] if page and page in self._queue]
         found = [self._at.get(folio) for folio in record.queue]
         stay = [page for page in found if page and page in pages]
+        for page in stay:
+            self._partly_by_now(page, record.queue)
         if len(stay) > 1 and stay == [page for page in reversed(pages) if page in stay]:
             self.seen["scans that put back two pages or more, turned around (E)"] += 1
         taken, back = pages, stay
@@ -438,6 +440,13 @@ class Journalist:
         self._told += back
         self._tell_later([page for page in found if page], stay)
         self._agree(record.queue)
+
+    def _partly_by_now(self, page: Page, queue: Optional[List[int]]) -> None:
+        """What is put back is partly mapped: where nothing told so yet, a call that still runs did it."""
+        for task, asked in list(self._pending.items()):
+            if not page.partly and asked.space in page.maps and self._reaches(asked, page):
+                self._apply(self._pending.pop(task), queue)
+                self.seen["calls told before their end"] += 1
 
     def _tell_later(self, kernels: List[Page], stay: List[Page]) -> None:
         """Pages that joined while the scan ran, and stand behind what it put back, are told after it."""
