@@ -279,7 +279,8 @@ def told(threshold: int, result: Result) -> str:
     counted = ", ".join(f"{name.value} {result.added[name]} of {names[name]}" for name in names)
     return (
         f"{label(threshold):>4}: {len(result.folios)} pages; split {len(result.came)} of {len(result.said)} said; "
-        f"frames {came} of {said} said; {counted}: {verdict}"
+        f"frames {came} of {said} said; {counted}, "
+        f"{Statistic.SPLIT_FAILED.value} {result.added[Statistic.SPLIT_FAILED]}: {verdict}"
     )
 
 
