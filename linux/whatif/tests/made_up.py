@@ -3,7 +3,7 @@
 from __future__ import annotations
 
 import random
-from typing import Any, List, Optional
+from typing import Any, Optional
 
 from ...common.errors import Unavailable
 from ...common.program import Program
@@ -62,8 +62,3 @@ def program() -> Optional[Program]:
         return Program()
     except Unavailable:
         return None
-
-
-def wanted(folios: List[Folio]) -> int:
-    """How many subpages these pages have."""
-    return sum(one.size for one in folios)

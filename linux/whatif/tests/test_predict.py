@@ -6,7 +6,7 @@ import json
 import random
 import unittest
 from pathlib import Path
-from typing import Dict, List, Optional
+from typing import Dict, List
 
 from ...common.errors import InputFault
 from ...common.subpages import bits_of, size
