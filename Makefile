@@ -9,6 +9,8 @@
 # make fuzz:    random scripts, journals and words on the built program and on a plain reading of the model in Python:
 #               CASES=n SEED=s; ends in a table of what was covered
 # make memory:  each growth of memory and each start of a thread refused in turn (wants Python 3 and a C compiler)
+# make linux:   random scripts on the running kernel and on the built program: CASES=n SEED=s PROGRAM=path (wants root;
+#               status 77 where this machine can't compare anything)
 # make bench:   times on large scripts, of single calls and of texts (docs/PROOFS.md has the figures)
 # How long each takes: README.md, "First minutes".
 PREFIX ?= /usr/local
@@ -17,7 +19,7 @@ SCRIPT = examples/first.script
 CASES ?= 2000
 SEED ?= 1
 
-.PHONY: try run install put uninstall test outside toolchain fuzz memory bench
+.PHONY: try run install put uninstall test outside toolchain fuzz memory linux bench
 
 # tells by a line where another toolchain is installed than everything was proved with
 toolchain:
@@ -68,6 +70,9 @@ fuzz: run
 memory: run
 	@cd crates/tests_spoilt && rt test
 	@python3 tests/memory.py $(PROGRAM) crates/tests_spoilt/out/tests_spoilt_tests:memory::
+
+linux:
+	@python3 -m linux.replay --program $(PROGRAM) --random $(CASES) --seed $(SEED) --quiet
 
 bench:
 	@bash bench/run

@@ -1,0 +1,162 @@
+"""The running kernel's types by BTF: where a field lies, how large it is, what an enumerator is.
+
+Rules: Documentation/bpf/btf.rst of the kernel. No offset is written down in the tools: what isn't there, or is of
+another type, is a Missing that names it.
+"""
+
+from __future__ import annotations
+
+import struct
+from dataclasses import dataclass
+from typing import Dict, Iterator, List, Optional, Tuple
+
+from .errors import Unavailable
+
+VMLINUX = "/sys/kernel/btf/vmlinux"
+_INT, _PTR, _ARRAY, _STRUCT, _UNION, _ENUM, _TYPEDEF = 1, 2, 3, 4, 5, 6, 8
+_WRAPPERS = (_TYPEDEF, 9, 10, 11, 18)  # and volatile, const, restrict, type tag
+_EXTRA = {_INT: 4, _ARRAY: 12, 14: 4, 17: 4}  # bytes after the head of a type
+_EACH = {_STRUCT: 12, _UNION: 12, _ENUM: 8, 13: 8, 15: 12, 19: 12}  # bytes for each member
+_HEAD = struct.Struct("<III")
+_MAGIC = 0xEB9F
+
+
+class Missing(Unavailable):
+    """A type, field or enumerator that this kernel doesn't have as it is wanted."""
+
+
+@dataclass(frozen=True)
+class Field:
+    """Where a field lies in its struct, its bytes, and its type in words (`struct list_head`, `pointer`, `int`, ..)."""
+
+    offset: int
+    size: int
+    kind: str
+
+
+class Types:
+    """The types of a BTF text, by default those of the running kernel."""
+
+    def __init__(self, raw: Optional[bytes] = None) -> None:
+        if raw is None:
+            try:
+                with open(VMLINUX, "rb") as file:
+                    raw = file.read()
+            except OSError as error:
+                raise Unavailable(f"no type information: {VMLINUX}: {error.strerror} (DEBUG_INFO_BTF)") from error
+        if len(raw) < 24 or struct.unpack_from("<H", raw)[0] != _MAGIC:
+            raise Unavailable("the type information isn't BTF of this byte order")
+        head, types, length, strings = struct.unpack_from("<IIII", raw, 4)
+        self._raw, self._strings = raw, head + strings
+        self._at: List[int] = [0]
+        self._named: Dict[Tuple[int, str], int] = {}
+        self._enums: List[int] = []
+        self._index(head + types, head + types + length)
+
+    def _index(self, at: int, end: int) -> None:
+        unpack, raw, named = _HEAD.unpack_from, self._raw, (_STRUCT, _UNION, _ENUM)
+        while at < end:
+            name, info, _ = unpack(raw, at)
+            kind = info >> 24 & 31
+            if kind in named:
+                self._named.setdefault((kind, self._name(name)), len(self._at))
+                if kind == _ENUM:
+                    self._enums.append(at)
+            self._at.append(at)
+            at += 12 + _EXTRA.get(kind, 0) + _EACH.get(kind, 0) * (info & 0xFFFF)
+
+    def _name(self, offset: int) -> str:
+        start = self._strings + offset
+        return self._raw[start : self._raw.index(b"\0", start)].decode()
+
+    def _head(self, number: int) -> Tuple[int, int, int]:
+        """(name, info, size or type) of a type; all 0 for void."""
+        return _HEAD.unpack_from(self._raw, self._at[number]) if number else (0, 0, 0)
+
+    def _plain(self, number: int) -> int:
+        while number:
+            _, info, reference = self._head(number)
+            if info >> 24 & 31 not in _WRAPPERS:
+                break
+            number = reference
+        return number
+
+    def _size(self, number: int) -> int:
+        number = self._plain(number)
+        _, info, size = self._head(number)
+        kind = info >> 24 & 31
+        if kind == _PTR:
+            return 8
+        if kind == _ARRAY:
+            element, _, count = _HEAD.unpack_from(self._raw, self._at[number] + 12)
+            return self._size(element) * count
+        return size
+
+    def _kind(self, number: int) -> str:
+        number = self._plain(number)
+        name, info, _ = self._head(number)
+        words = {_PTR: "pointer", _ARRAY: "array", _INT: self._name(name)}
+        named = {_STRUCT: "struct", _UNION: "union", _ENUM: "enum"}
+        kind = info >> 24 & 31
+        return words[kind] if kind in words else f"{named.get(kind, 'other')} {self._name(name)}".strip()
+
+    def _members(self, number: int) -> Iterator[Tuple[str, int, int, int]]:
+        """(name, type, offset in bits, bits of a bit field or 0)"""
+        _, info, _ = self._head(number)
+        for i in range(info & 0xFFFF):
+            name, kind, place = _HEAD.unpack_from(self._raw, self._at[number] + 12 + 12 * i)
+            packed = bool(info >> 31)
+            yield self._name(name), kind, place & 0xFFFFFF if packed else place, place >> 24 if packed else 0
+
+    def _find(self, number: int, wanted: str) -> Optional[Tuple[int, int, int]]:
+        """(type, offset in bits, bits) of a member, looked for in unnamed structs and unions too."""
+        for name, kind, place, bits in self._members(number):
+            if name == wanted:
+                return kind, place, bits
+            inner = self._plain(kind)
+            if name == "" and self._head(inner)[1] >> 24 & 31 in (_STRUCT, _UNION):
+                found = self._find(inner, wanted)
+                if found:
+                    return found[0], found[1] + place, found[2]
+        return None
+
+    def struct_size(self, of: str) -> int:
+        """The bytes of a struct."""
+        if (_STRUCT, of) not in self._named:
+            raise Missing(f"this kernel has no struct {of}")
+        return self._head(self._named[_STRUCT, of])[2]
+
+    def field(self, of: str, path: str, kind: str = "", size: int = 0) -> Field:
+        """The field at a path (`deferred_split_queue.split_queue`) of a struct; of this kind and size where they are
+        given."""
+        if (_STRUCT, of) not in self._named:
+            raise Missing(f"this kernel has no struct {of}")
+        number, total, bits = self._named[_STRUCT, of], 0, 0
+        for word in path.split("."):
+            found = self._find(self._plain(number), word)
+            if not found:
+                raise Missing(f"this kernel has no field {of}.{path}")
+            number, place, bits = found
+            total += place
+        if bits or total % 8:
+            raise Missing(f"{of}.{path} is a bit field in this kernel")
+        field = Field(total // 8, self._size(number), self._kind(number))
+        if kind and field.kind != kind:
+            raise Missing(f"{of}.{path} is {field.kind} in this kernel, not {kind}")
+        if size and field.size != size:
+            raise Missing(f"{of}.{path} has {field.size} bytes in this kernel, not {size}")
+        return field
+
+    def offset(self, of: str, path: str, kind: str = "", size: int = 0) -> int:
+        """Where a field lies, in bytes."""
+        return self.field(of, path, kind, size).offset
+
+    def enumerator(self, name: str) -> int:
+        """The value of an enumerator."""
+        for at in self._enums:
+            _, info, _ = _HEAD.unpack_from(self._raw, at)
+            for i in range(info & 0xFFFF):
+                text, value = struct.unpack_from("<Ii", self._raw, at + 12 + 8 * i)
+                if self._name(text) == name:
+                    return value
+        raise Missing(f"this kernel has no enumerator {name}")

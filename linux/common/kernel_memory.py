@@ -1,0 +1,259 @@
+"""Kernel memory read by BPF programs, and what the tools find in it: control groups, deferred split queues, struct page.
+
+Wants root (CAP_BPF, CAP_PERFMON), BPF_SYSCALL and DEBUG_INFO_BTF. Works where lockdown allows BPF to read (integrity).
+A queue is copied by one program run, without its lock: a copy that changed meanwhile may miss its end, and is then made
+again; it is whole where the walk ends at the queue's head.
+"""
+
+from __future__ import annotations
+
+import ctypes
+import mmap
+import os
+import struct
+from dataclasses import dataclass
+from typing import Dict, List, Optional, Tuple
+
+from .bpf import MMAPABLE, SLEEPABLE, Assembler, Command, Helper, MapType, ProgramType, bpf, create_map, load_program
+from .btf import Types
+from .errors import Unavailable
+from .files import BASE, read
+from .page_files import frames_at
+
+WINDOW = 65536  # bytes that one call reads at most
+LINKS = 2048  # list links that one call follows
+TRIES = 20  # walks of a list that changes
+
+
+class Changing(Unavailable):
+    """A list changed during each of the walks."""
+
+
+@dataclass(frozen=True)
+class Queue:
+    """A deferred split queue at one moment."""
+
+    folios: List[int]  # addresses of struct folio, oldest first
+    length: int  # as the kernel counts it (split_queue_len)
+
+
+@dataclass(frozen=True)
+class GroupFields:
+    """Where the tools find control groups."""
+
+    task: int  # task_struct.cgroups
+    css: int  # css_set.subsys[memory]
+    children: int
+    sibling: int
+    cgroup: int
+    parent: int
+    node: int
+    number: int
+
+    @staticmethod
+    def of(types: Types) -> GroupFields:
+        state, link = "cgroup_subsys_state", "struct list_head"
+        memory = types.enumerator("memory_cgrp_id")
+        types.field("mem_cgroup", "css", "struct cgroup_subsys_state")
+        if types.offset("mem_cgroup", "css") != 0:
+            raise Unavailable("mem_cgroup.css isn't the first field in this kernel")
+        return GroupFields(
+            types.offset("task_struct", "cgroups", "pointer"),
+            types.offset("css_set", "subsys", "array") + 8 * memory,
+            types.offset(state, "children", link),
+            types.offset(state, "sibling", link),
+            types.offset(state, "cgroup", "pointer"),
+            types.offset(state, "parent", "pointer"),
+            types.offset("cgroup", "kn", "pointer"),
+            types.offset("kernfs_node", "id", size=8),
+        )
+
+
+@dataclass(frozen=True)
+class QueueFields:
+    """Where a control group's deferred split queue is (mm/huge_memory.c: struct deferred_split)."""
+
+    head: int
+    length: int
+    link: int
+
+    @staticmethod
+    def of(types: Types) -> QueueFields:
+        link = "struct list_head"
+        return QueueFields(
+            types.offset("mem_cgroup", "deferred_split_queue.split_queue", link),
+            types.offset("mem_cgroup", "deferred_split_queue.split_queue_len", size=8),
+            types.offset("folio", "_deferred_list", link),
+        )
+
+
+class KernelMemory:
+    """The running kernel's memory and types."""
+
+    def __init__(self, types: Optional[Types] = None) -> None:
+        if os.geteuid() != 0:
+            raise Unavailable("kernel memory isn't read: not root")
+        self.types = types or Types()
+        descriptor = create_map(MapType.ARRAY, 4, WINDOW, 1, MMAPABLE)
+        self._window = mmap.mmap(descriptor, WINDOW, mmap.MAP_SHARED, mmap.PROT_READ)
+        self._reader = load_program(ProgramType.SYSCALL, _reader(descriptor), SLEEPABLE)
+        self._walker = load_program(ProgramType.SYSCALL, _walker(descriptor), SLEEPABLE)
+        self._context = ctypes.create_string_buffer(16)
+        self._vmemmap: Optional[int] = None
+        self._groups: Optional[GroupFields] = None
+        self._queues: Optional[QueueFields] = None
+
+    # memory
+
+    def _run(self, program: int, first: int, second: int) -> int:
+        struct.pack_into("<QQ", self._context, 0, first, second)
+        attributes = struct.pack("<IIIIQQIIII", program, 0, 0, 0, 0, 0, 0, 0, 16, 0)
+        attributes += struct.pack("<QQ", ctypes.addressof(self._context), 0)
+        return struct.unpack_from("<i", bpf(Command.PROG_TEST_RUN, attributes)[1], 4)[0]
+
+    def read(self, address: int, size: int) -> bytes:
+        """`size` bytes (up to WINDOW) at a kernel address."""
+        if address == 0 or self._run(self._reader, address, size):
+            raise Unavailable(f"kernel memory at {address:#x} can't be read")
+        return self._window[:size]
+
+    def word(self, address: int) -> int:
+        """The 64-bit number at a kernel address."""
+        return struct.unpack("<Q", self.read(address, 8))[0]
+
+    def task(self) -> int:
+        """The address of the caller's own struct task_struct."""
+        self._run(self._reader, 0, 0)
+        return struct.unpack("<Q", self._window[:8])[0]
+
+    def links(self, head: int, limit: int = 1 << 20) -> List[int]:
+        """The addresses of a list's links, without its head (struct list_head)."""
+        for _ in range(TRIES):
+            out, at = [], head
+            while len(out) < limit:
+                if self._run(self._walker, at, head):
+                    break
+                count, at = struct.unpack("<QQ", self._window[:16])
+                out += struct.unpack(f"<{count}Q", self._window[16 : 16 + 8 * count])
+                if at == head:
+                    return out
+        raise Changing(f"the list at {head:#x} changes all the time")
+
+    # control groups and queues
+
+    def group_fields(self) -> GroupFields:
+        if self._groups is None:
+            self._groups = GroupFields.of(self.types)
+        return self._groups
+
+    def queue_fields(self) -> QueueFields:
+        if self._queues is None:
+            self._queues = QueueFields.of(self.types)
+        return self._queues
+
+    def groups(self) -> Dict[int, int]:
+        """The addresses of all struct mem_cgroup by the inode numbers of their folders."""
+        at = self.group_fields()
+        css = self.word(self.word(self.task() + at.task) + at.css)
+        while self.word(css + at.parent):
+            css = self.word(css + at.parent)
+        todo, out = [css], {}
+        while todo:
+            css = todo.pop()
+            out[self.word(self.word(self.word(css + at.cgroup) + at.node) + at.number)] = css
+            todo += [link - at.sibling for link in self.links(css + at.children)]
+        return out
+
+    def group(self, path: str) -> int:
+        """The address of the struct mem_cgroup whose folder is `path`."""
+        found = self.groups().get(os.stat(path).st_ino)
+        if found is None:
+            raise Unavailable(f"no memory control group at {path}")
+        return found
+
+    def queue(self, group: int) -> Queue:
+        """The deferred split queue of the struct mem_cgroup at this address."""
+        at = self.queue_fields()
+        links = self.links(group + at.head)
+        return Queue([link - at.link for link in links], self.word(group + at.length))
+
+    # struct page
+
+    def vmemmap(self) -> Tuple[int, int]:
+        """Where struct page of frame 0 is, and the bytes of a struct page: by a page of our own, known both ways."""
+        size = self.types.struct_size("page")
+        if self._vmemmap is None:
+            self._vmemmap = self._find_vmemmap(size)
+        return self._vmemmap, size
+
+    def frame(self, folio: int) -> int:
+        """The frame whose struct page is at this address."""
+        start, size = self.vmemmap()
+        return (folio - start) // size
+
+    def folio(self, frame: int) -> int:
+        """The address of the struct page of a frame."""
+        start, size = self.vmemmap()
+        return start + size * frame
+
+    def queue_frames(self, group: int) -> List[int]:
+        """The first frames of the pages in a control group's queue, oldest first."""
+        return [self.frame(folio) for folio in self.queue(group).folios]
+
+    def _find_vmemmap(self, size: int) -> int:
+        offset = self.types.offset
+        descriptor = os.memfd_create("thpsplit", 0)
+        try:
+            os.ftruncate(descriptor, BASE)
+            memory = mmap.mmap(descriptor, BASE)
+            memory[0] = 1
+            view = ctypes.c_char.from_buffer(memory)
+            frame = frames_at(os.getpid(), ctypes.addressof(view), 1)[0]
+            del view
+            files = self.word(self.task() + offset("task_struct", "files", "pointer"))
+            table = self.word(self.word(files + offset("files_struct", "fdt")) + offset("fdtable", "fd", "pointer"))
+            mapping = self.word(self.word(table + 8 * descriptor) + offset("file", "f_mapping", "pointer"))
+            page = self.word(mapping + offset("address_space", "i_pages.xa_head", "pointer"))
+            memory.close()
+        finally:
+            os.close(descriptor)
+        start = page - size * (frame or 0)
+        if not frame or page & 3 or start & (BASE - 1):
+            raise Unavailable("struct page isn't found: the kernel's memory map isn't one array (SPARSEMEM_VMEMMAP)")
+        return start
+
+
+def symbols() -> Dict[str, int]:
+    """The addresses of the kernel's functions and variables by name (/proc/kallsyms)."""
+    out: Dict[str, int] = {}
+    for line in read("/proc/kallsyms").splitlines():
+        address, _, name = line.split()[:3]
+        out.setdefault(name, int(address, 16))
+    return out
+
+
+def _begin(window: int) -> Assembler:
+    """r6, r7: the two numbers of the context; r9: the window. Goes to `out` where there is none."""
+    code = Assembler().load(6, 1, 0).load(7, 1, 8)
+    code.store_number(10, -4, 0, 4).move(2, 10).add(2, -4).map(1, window).call(Helper.MAP_LOOKUP)
+    return code.jump("out", "==", 0, 0).move(9, 0)
+
+
+def _reader(window: int) -> Assembler:
+    """Copies r7 bytes at r6 into the window; with r6 = 0 the address of the caller's task."""
+    code = _begin(window).set(0, 1).jump("out", ">", 7, WINDOW)
+    code.move(1, 9).move(2, 7).move(3, 6).jump("task", "==", 6, 0)
+    code.call(Helper.PROBE_READ_KERNEL).label("out").exit()
+    return code.label("task").call(Helper.CURRENT_TASK).store(9, 0, 0).set(0, 0).exit()
+
+
+def _walker(window: int) -> Assembler:
+    """Follows links from r6 on until r7 or LINKS of them: into the window the count, the last link's next, the
+    links."""
+    code = _begin(window).set(8, 0)
+    code.move(3, 6).read_kernel(-16, 8).load(6, 10, -16).jump("out", "!=", 0, 0)
+    code.label("next").jump("end", "==", 6, right=7).jump("full", ">=", 8, LINKS)
+    code.move(1, 8).shift_left(1, 3).add_register(1, 9).store(1, 16, 6).add(8, 1)
+    code.move(3, 6).read_kernel(-16, 8).jump("out", "!=", 0, 0).load(6, 10, -16).jump("next")
+    code.label("full").load(6, 9, 16 + 8 * (LINKS - 1))  # the last link stored: the next run goes on from it
+    return code.label("end").store(9, 0, 8).store(9, 8, 6).set(0, 0).label("out").exit()

@@ -1,0 +1,133 @@
+"""What this machine can run, and why not: a table that the tools print at their start."""
+
+from __future__ import annotations
+
+import os
+from dataclasses import dataclass
+from typing import Callable, List, Optional, Tuple
+
+from .errors import Unavailable
+from .files import PMD_ORDER, PTES_NONE, SWITCH, THP, chosen, read, size_folder
+from .groups import find_hierarchy
+from .kernel_memory import KernelMemory
+from .page_files import Frames
+
+
+@dataclass(frozen=True)
+class Part:
+    """One thing that a tool wants: whether it is here, and how or why not."""
+
+    name: str
+    here: bool
+    text: str
+
+
+def part(name: str, look: Callable[[], str]) -> Part:
+    """A part by a function that tells how it is here, or raises Unavailable."""
+    try:
+        return Part(name, True, look())
+    except (Unavailable, OSError) as lacking:
+        return Part(name, False, str(lacking).splitlines()[0])
+
+
+def table(parts: List[Part]) -> str:
+    """One line for each part."""
+    width = max(len(each.name) for each in parts)
+    return "\n".join(f"{each.name:{width}}  {'yes' if each.here else 'no '}  {each.text}" for each in parts)
+
+
+def kernel() -> str:
+    """The kernel's version."""
+    return f"Linux {os.uname().release}, {os.uname().machine}"
+
+
+def privileged() -> str:
+    if os.geteuid() != 0:
+        raise Unavailable("not root")
+    return "root"
+
+
+def huge_pages() -> str:
+    if not os.path.isdir(THP):
+        raise Unavailable("this kernel has no transparent huge pages (TRANSPARENT_HUGEPAGE)")
+    mode = chosen(read(f"{THP}/enabled"))
+    if mode == "never":
+        raise Unavailable(f"transparent huge pages are switched off ({THP}/enabled: never)")
+    return f"enabled: {mode}"
+
+
+def orders() -> List[int]:
+    """The orders of which this kernel has pages with settings of their own."""
+    return [order for order in range(2, PMD_ORDER + 1) if os.path.isdir(size_folder(order))]
+
+
+def sizes() -> str:
+    if not orders():
+        raise Unavailable("no sizes with settings of their own (before Linux 6.8)")
+    return "orders " + ", ".join(map(str, orders()))
+
+
+def underused() -> str:
+    for path in (SWITCH, PTES_NONE):
+        if not os.path.exists(path):
+            raise Unavailable(f"no {path} (before Linux 6.12)")
+    return f"shrink_underused {read(SWITCH).strip()}, max_ptes_none {read(PTES_NONE).strip()}"
+
+
+def groups() -> str:
+    found = find_hierarchy()
+    return f"version {found.version}, below {found.top}"
+
+
+def counters() -> str:
+    if "thp_deferred_split_page" not in read("/proc/vmstat"):
+        raise Unavailable("no thp_deferred_split_page in /proc/vmstat")
+    return "/proc/vmstat" + (", hugepages-*kB/stats" if os.path.isdir(f"{size_folder(PMD_ORDER)}/stats") else "")
+
+
+def frames() -> str:
+    Frames().close()
+    return "/proc/kpageflags, /proc/kpagecount"
+
+
+def memory() -> Tuple[Optional[KernelMemory], List[Part]]:
+    """Kernel memory where it can be read, and what of it: memory, control groups, queues, struct page."""
+    try:
+        found = KernelMemory()
+    except (Unavailable, OSError) as lacking:
+        return None, [Part("kernel memory", False, str(lacking).splitlines()[0])]
+
+    def located() -> str:
+        found.group_fields()
+        return f"{len(found.groups())} control groups"
+
+    def queued() -> str:
+        found.queue_fields()
+        return "mem_cgroup.deferred_split_queue, folio._deferred_list"
+
+    def mapped() -> str:
+        return f"struct page of {found.vmemmap()[1]} bytes"
+
+    parts = [Part("kernel memory", True, "BPF, BTF"), part("control groups in it", located)]
+    return found, [*parts, part("queues in it", queued), part("struct page in it", mapped)]
+
+
+def common_parts() -> List[Part]:
+    """What every tool wants."""
+    looks: List[Tuple[str, Callable[[], str]]] = [
+        ("root", privileged),
+        ("huge pages", huge_pages),
+        ("page sizes", sizes),
+        ("underused pages", underused),
+        ("memory control groups", groups),
+        ("frames", frames),
+        ("counters", counters),
+    ]
+    return [part(name, look) for name, look in looks]
+
+
+def demand(parts: List[Part], names: List[str]) -> None:
+    """Unavailable, with the reason of the first of these parts that isn't here."""
+    for each in parts:
+        if each.name in names and not each.here:
+            raise Unavailable(f"{each.name}: {each.text}")

@@ -1,0 +1,94 @@
+"""The kernel's files of pages: what a process maps, and flags and map counts by frame.
+
+Rules: Documentation/admin-guide/mm/pagemap.rst and include/uapi/linux/kernel-page-flags.h of the kernel. All files hold
+one 64-bit number for each base page; frames are counted from 0.
+"""
+
+from __future__ import annotations
+
+import enum
+import os
+import struct
+from types import TracebackType
+from typing import List, Optional, Tuple, Type
+
+from .errors import Unavailable
+from .files import BASE
+
+_PRESENT = 1 << 63
+_FRAME = (1 << 55) - 1
+
+
+class PageFlag(enum.IntFlag):
+    """Bits of /proc/kpageflags that the tools use."""
+
+    ANON = 1 << 12
+    COMPOUND_HEAD = 1 << 15
+    COMPOUND_TAIL = 1 << 16
+    HWPOISON = 1 << 19
+    THP = 1 << 22
+    MLOCKED = 1 << 33
+
+
+class NumberFile:
+    """A file of 64-bit numbers, open until `close` or the end of a `with`."""
+
+    def __init__(self, path: str) -> None:
+        try:
+            self._file = open(path, "rb", 0)
+        except OSError as error:
+            raise Unavailable(f"{path} can't be read: {error.strerror} (PROC_PAGE_MONITOR, root)") from error
+        self.path = path
+
+    def at(self, first: int, count: int) -> Tuple[int, ...]:
+        """`count` numbers from place `first` on; a short read (a process that ended) is an OSError."""
+        raw = os.pread(self._file.fileno(), 8 * count, 8 * first)
+        if len(raw) != 8 * count:
+            raise OSError(0, f"{self.path} ends early", self.path)
+        return struct.unpack(f"<{count}Q", raw)
+
+    def close(self) -> None:
+        self._file.close()
+
+    def __enter__(self) -> NumberFile:
+        return self
+
+    def __exit__(
+        self, kind: Optional[Type[BaseException]], error: Optional[BaseException], trace: Optional[TracebackType]
+    ) -> None:
+        self.close()
+
+
+def frame_of_entry(entry: int) -> Optional[int]:
+    """The frame of a pagemap entry, or None where nothing is present."""
+    return entry & _FRAME if entry & _PRESENT else None
+
+
+def frames_at(process: int, address: int, count: int) -> List[Optional[int]]:
+    """The frames that a process maps at `count` base pages from an address on; None where none is present."""
+    with NumberFile(f"/proc/{process}/pagemap") as pagemap:
+        return [frame_of_entry(entry) for entry in pagemap.at(address // BASE, count)]
+
+
+class Frames:
+    """Flags, map counts and control groups by frame."""
+
+    def __init__(self) -> None:
+        self._flags, self._counts = NumberFile("/proc/kpageflags"), NumberFile("/proc/kpagecount")
+
+    def flags(self, first: int, count: int) -> Tuple[int, ...]:
+        """The flags (PageFlag) of `count` frames."""
+        return self._flags.at(first, count)
+
+    def counts(self, first: int, count: int) -> Tuple[int, ...]:
+        """How often each of `count` frames is mapped."""
+        return self._counts.at(first, count)
+
+    def whole(self, first: int, count: int) -> int:
+        """How many of these frames are still parts of one compound page that begins at the first."""
+        wanted = [PageFlag.COMPOUND_HEAD] + [PageFlag.COMPOUND_TAIL] * (count - 1)
+        return sum(bool(flags & part) for flags, part in zip(self.flags(first, count), wanted))
+
+    def close(self) -> None:
+        self._flags.close()
+        self._counts.close()

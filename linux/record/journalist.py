@@ -1,0 +1,522 @@
+"""Records made into a journal.
+
+Seen: a huge page allocated in a fault; the queue at each scan's start and end, so what is taken and put back, and in
+which order; frames and pages freed. Inferred: mappings by the arguments of system calls, by forks and ends of address
+spaces; pins by what a scan leaves; writes (with the switch on) by the kernel's verdicts. What isn't understood is
+left out by whole pages, with a reason. docs/LINUX.md has the table.
+"""
+
+from __future__ import annotations
+
+from collections import Counter as Tallies
+from collections import defaultdict
+from dataclasses import dataclass, replace
+from typing import Callable, Dict, List, Optional, Tuple
+
+from ..common.files import BASE, PMD_ORDER
+from ..common.journal import Event, NodeJournal, journal_text
+from ..common.subpages import bits_of, runs
+from .folios import Line, Mapping, Page
+from .records import Kind, Record, lines_with_ends
+from .tap import MADVISE, MPROTECT, MREMAP, MUNMAP
+
+DONTNEED = 4
+CUTTING = (10, 11, 12, 13, 14, 15, 16, 17, 18, 19)  # advice that cuts an area in two
+LOSING = (8, 9, 20, 21, 25)  # MADV_FREE and its like: not followed
+BATCH = 128  # pages that a scan takes at most
+MOST_BLOCKS, CALLERS = 4096, 64
+WRITTEN = 3  # bits of a fault's error code: present, written
+
+
+@dataclass(frozen=True)
+class Settings:
+    """What was recorded: the pages' order, the threshold (None: the switch is off). `straighten`: tell put-backs in the
+    order of taking (E), and at splits no mapped frames while the switch is off (B)."""
+
+    order: int
+    threshold: Optional[int]
+    straighten: bool
+    page_size: int = 64  # bytes of struct page
+
+
+class Journalist:
+    """Makes events of records."""
+
+    def __init__(self, settings: Settings) -> None:
+        self._settings = settings
+        self.lines: List[Line] = []
+        self.seen: Dict[str, int] = Tallies()
+        self._pages: List[Page] = []
+        self._queue: List[Page] = []  # the kernel's, oldest first
+        self._told: List[Page] = []  # the journal's, which differs where it is straightened
+        self._at: Dict[int, Page] = {}
+        self._spaces: Dict[int, Dict[Page, Mapping]] = defaultdict(dict)
+        self._callers: Dict[int, int] = {}
+        self._faults: Dict[int, Record] = {}
+        self._pending: Dict[int, Record] = {}
+        self._scans: Dict[int, Tuple[Record, List[Optional[Page]]]] = {}
+        self._joining: Dict[int, Page] = {}
+        self._live = self._most = 0
+
+    # what comes out
+
+    def text(self) -> str:
+        """The journal, without the pages that are left out; a page that goes takes its number with it."""
+        numbers: Dict[Page, int] = {}
+        events = [replace(line.event, page=numbers.setdefault(line.page, len(numbers)))
+                  for line in self.lines if not line.page.lost]
+        blocks = min(MOST_BLOCKS, self._most + 8)
+        return journal_text([NodeJournal(blocks, self._settings.order, self._settings.threshold, events)])
+
+    def lost_pages(self) -> int:
+        return sum(bool(page.lost) for page in self._pages)
+
+    def pages(self) -> int:
+        return len(self._pages)
+
+    # small steps
+
+    def _say(
+        self, task: int, page: Page, word: str, first: int = 0, count: int = 0, outcome: str = "", given: int = 0
+    ) -> None:
+        caller = self._callers.setdefault(task, len(self._callers) % CALLERS)
+        self.lines.append(Line(page, Event(caller, word, page.number, first, count, outcome, given)))
+        self.seen[f"events {word}"] += 1
+
+    def _joins(self, page: Page) -> None:
+        self._queue.append(page)
+        self._told.append(page)
+        page.join = self.lines[-1] if self.lines else None
+
+    def _leaves(self, page: Page) -> None:
+        for queue in (self._queue, self._told):
+            if page in queue:
+                queue.remove(page)
+
+    def _lose(self, page: Page, why: str) -> None:
+        if not page.lost:
+            page.lost = why
+            self.seen[f"pages left out: {why}"] += 1
+
+    def _gone(self, page: Page) -> None:
+        page.live, page.held = False, 0
+        self._live -= 1
+        if self._at.get(page.folio) is page:  # another page may have the folio already
+            del self._at[page.folio]
+        self._leaves(page)
+        for space in page.maps:
+            self._spaces[space].pop(page, None)
+
+    # records
+
+    def tell(self, records: List[Record]) -> None:
+        """Takes all records of a run."""
+        lines_with_ends(records)
+        steps: Dict[Kind, Callable[[Record], None]] = {
+            Kind.ENTER: self._enter, Kind.EXIT: self._exit, Kind.FAULT: self._fault, Kind.ALLOC: self._alloc,
+            Kind.FREE: self._free, Kind.FORK: self._fork, Kind.EXIT_MMAP: self._exit_mmap, Kind.SCAN: self._scan,
+            Kind.SCANNED: self._scanned, Kind.COPY: self._copy,
+        }
+        for record in records:
+            if record.kind is not Kind.FREE:  # an interrupt frees in any task's name
+                self._joining.pop(record.task, None)
+            if not record.done:
+                steps[record.kind](record)
+
+    def _enter(self, record: Record) -> None:
+        self._pending[record.task] = record
+
+    def _fault(self, record: Record) -> None:
+        self._faults[record.task] = record
+
+    def _alloc(self, record: Record) -> None:
+        folio, order = record.values[:2]
+        fault = self._faults.get(record.task)
+        if order != self._settings.order:
+            self.seen[f"pages of order {order}, not followed"] += 1
+            return
+        if not fault or fault.space != record.space:
+            self.seen["allocations without a fault, not followed"] += 1
+            return
+        page = Page.new(len(self._pages), folio, order)
+        self._pages.append(page)
+        self._at[folio] = page
+        size = BASE << order
+        page.maps[record.space] = Mapping(fault.values[0] // size * size, True, page.every)
+        self._spaces[record.space][page] = page.maps[record.space]
+        self._live += 1
+        self._most = max(self._most, self._live)
+        self._say(record.task, page, "alloc")
+        if self._settings.threshold is not None and order == PMD_ORDER:
+            self._joins(page)
+            self._joining[record.task] = page  # it joins between this record and the task's next one
+
+    def _copy(self, record: Record) -> None:
+        """A base page allocated in a fault on a subpage that is mapped: a copy on write took that mapping away."""
+        fault = self._faults.get(record.task)
+        if not fault or fault.space != record.space or fault.values[1] & WRITTEN != WRITTEN:
+            return
+        for page, mapping in self._spaces[record.space].items():
+            i = (fault.values[0] - mapping.base) // BASE
+            if 0 <= i < page.subpages and mapping.bits >> i & 1:
+                self._unmap(record, page, mapping, bits_of(i, 1), None)
+                break
+        del self._faults[record.task]
+
+    def _free(self, record: Record) -> None:
+        block = self._settings.page_size << self._settings.order
+        page = self._at.get(record.values[0] & -block)
+        if not page:
+            return
+        if record.values[1] == self._settings.order and record.values[0] == page.folio:
+            page.freed = True
+            if not page.used():  # the last pin went
+                if not page.pins:
+                    self._say(record.task, page, "pin")
+                self._say(record.task, page, "unpin", outcome="freed", given=page.held)
+                self._gone(page)
+        elif record.values[1] == 0:
+            page.freed_frames |= 1 << (record.values[0] - page.folio) // self._settings.page_size
+
+    def _fork(self, record: Record) -> None:
+        parent, child = record.values[:2]
+        if parent == child:
+            return
+        for page, mapping in list(self._spaces[parent].items()):
+            copy = page.maps[child] = self._spaces[child][page] = Mapping(mapping.base, mapping.whole, mapping.bits)
+            if mapping.whole:
+                page.whole += 1
+                self._say(record.task, page, "mapwhole")
+                continue
+            copy.bits &= page.held  # zero-filled subpages that a split gave back aren't the page's
+            for first, count in runs(copy.bits):
+                self._say(record.task, page, "mapsub", first, count)
+                for i in range(first, first + count):
+                    page.own[i] += 1
+
+    def _exit(self, record: Record) -> None:
+        asked = self._pending.pop(record.task, None)
+        if asked and record.values[4] == 0:
+            self._end_scans_before(record.queue)
+            self._apply(asked, record.queue)
+        self._agree(record.queue)
+
+    def _exit_mmap(self, record: Record) -> None:
+        space = record.values[0]
+        record.space = space
+        for page, mapping in sorted(self._spaces.pop(space, {}).items(), key=lambda each: each[1].base):
+            self._unmap(record, page, mapping, page.every, record.queue)
+        self._agree(record.queue)
+
+    # system calls
+
+    def _apply(self, record: Record, queue: Optional[List[int]]) -> None:
+        """What a system call did to the pages that it reaches."""
+        number, start, length, advice = record.values[:4]
+        end = start + (length + BASE - 1) // BASE * BASE
+        for page, mapping in sorted(self._spaces[record.space].items(), key=lambda each: each[1].base):
+            low, high = max(start, mapping.base), min(end, mapping.base + page.subpages * BASE)
+            if low >= high:
+                continue
+            bits = bits_of((low - mapping.base) // BASE, (high - low) // BASE)
+            if number == MUNMAP or (number == MADVISE and advice == DONTNEED):
+                self._unmap(record, page, mapping, bits, queue)
+            elif number == MREMAP or (number == MADVISE and advice in LOSING):
+                self._lose(page, "mremap, or advice that isn't followed")
+            elif mapping.whole and bits != page.every and (number == MPROTECT or advice in CUTTING):
+                self._split_pmd(record, page, mapping)
+
+    def _split_pmd(self, record: Record, page: Page, mapping: Mapping) -> None:
+        mapping.whole = False
+        page.whole -= 1
+        page.own = [own + 1 for own in page.own]
+        self._say(record.task, page, "splitpmd")
+
+    def _unmap(self, record: Record, page: Page, mapping: Mapping, bits: int, queue: Optional[List[int]]) -> None:
+        """Takes one address space's mappings of these subpages away; `queue`: the kernel's right after, if it was
+        seen."""
+        steps: List[Optional[Tuple[int, int]]] = [None]
+        if not mapping.whole or bits != page.every:
+            if mapping.whole:
+                self._split_pmd(record, page, mapping)
+            steps = list(runs(mapping.bits & bits))
+        for step in steps:
+            before = page.used()
+            if step is None:
+                page.whole, mapping.whole, mapping.bits = page.whole - 1, False, 0
+            else:
+                for i in range(step[0], step[0] + step[1]):
+                    page.own[i] -= 1
+                mapping.bits &= ~bits_of(*step)
+            outcome, given = self._outcome(record, page, before, queue, step is steps[-1])
+            if step is None:
+                self._say(record.task, page, "unmapwhole", outcome=outcome, given=given)
+            else:
+                self._say(record.task, page, "unmapsub", step[0], step[1], outcome, given)
+            if outcome == "queued":
+                self._joins(page)
+            elif outcome == "freed":
+                self._gone(page)
+        if not mapping.bits:
+            for space in [space for space, other in page.maps.items() if other is mapping]:
+                del page.maps[space]
+                self._spaces[space].pop(page, None)
+
+    def _outcome(
+        self, record: Record, page: Page, before: int, queue: Optional[List[int]], last: bool
+    ) -> Tuple[str, int]:
+        """What became of a page by an unmap, and the frames given back."""
+        after = page.used()
+        if page.split:
+            given = before & ~after & page.held
+            if last and given & ~page.freed_frames:
+                self._lose(page, "a base page was held after the split")
+            page.held &= ~given
+            return ("stays" if after else "freed"), given
+        if last and after and page.freed:
+            self._lose(page, "its folio was freed: khugepaged took it (K)")
+            self._leaves(page)
+            return "stays", 0
+        if not after:
+            return self._last_unmap(record, page)
+        newly = before != after
+        page.partly |= newly
+        seen = queue is not None and page.folio in queue
+        if newly and page not in self._queue and (queue is None or seen or not last or page.freed):
+            self.seen["queued, seen" if seen else "queued, inferred"] += 1
+            return "queued", 0
+        return "stays", 0
+
+    def _last_unmap(self, record: Record, page: Page) -> Tuple[str, int]:
+        if not page.freed and not page.pins and any(page in pages for _, pages in self._scans.values()):
+            self.seen["last unmaps while a scan held the page (R)"] += 1
+            return "freed", page.held
+        if not page.freed:  # something else holds it
+            if not page.pins:
+                self._say(record.task, page, "pin")
+                page.pins = 1
+            return "stays", 0
+        if page.pins:
+            self._say(record.task, page, "unpin", outcome="stays")
+            page.pins = 0
+        return "freed", page.held
+
+    # several tasks: the kernel's queue tells the order
+
+    def _end_scans_before(self, queue: Optional[List[int]]) -> None:
+        """Tells a scan that another task still runs, where what it puts back stands before a page newly in the
+        queue."""
+        told = {page.folio for page in self._queue}
+        for start, _ in list(self._scans.values()):
+            end = start.end and start.end.queue
+            if not start.end or not end or not start.queue or queue is None:
+                continue
+            back = [folio for folio in end if folio in start.queue]
+            if any(f in end and back and end.index(back[0]) < end.index(f) for f in queue if f not in told):
+                start.end.done = True
+                self._scanned(start.end)
+
+    def _agree(self, queue: Optional[List[int]]) -> None:
+        """Looks for pages that stand in the kernel's queue for a reason not yet told: a call that still runs."""
+        if queue is None:
+            return
+        self._tell_early(queue)
+        if self._scans:
+            return
+        for page in list(self._queue):
+            if page.folio in queue or page in self._joining.values() or page not in self._queue:
+                continue
+            tasks = [task for task, asked in self._pending.items() if asked.space in page.maps]
+            reaching = [task for task in tasks if self._reaches(self._pending[task], page)]
+            if reaching:  # a call that still runs has freed it
+                page.freed = True
+                self._apply(self._pending.pop(reaching[0]), queue)
+                self.seen["calls told before their end"] += 1
+            elif not tasks:
+                self._lose(page, "left the queue unseen: khugepaged took it (K), or its process ends")
+                self._leaves(page)
+        for page in self._joining.values():
+            if page.folio not in queue and page in self._queue and page.join and not page.freed:
+                self.lines = [line for line in self.lines if line is not page.join] + [page.join]  # it joins later
+                for told in (self._queue, self._told):
+                    told.remove(page)
+                    told.append(page)
+        found = [self._at.get(folio) for folio in queue]
+        self._reorder([page for page in found if page and page in self._queue])
+        if not self._pending:
+            skip = set(self._joining.values())
+            mine = [page for page in self._queue if not page.lost and page not in skip]
+            kernels = [page for page in found if page and not page.lost and page not in skip]
+            self.seen["queues compared"] += 1
+            self.seen["queues that differ"] += mine != kernels
+
+    def _reaches(self, asked: Record, page: Page) -> bool:
+        """Whether a call takes mappings of a page away."""
+        number, start, length, advice = asked.values[:4]
+        mapping = page.maps[asked.space]
+        first, end = mapping.base, mapping.base + page.subpages * BASE
+        takes = number == MUNMAP or (number == MADVISE and advice == DONTNEED)
+        return takes and start < end and start + length > first
+
+    def _tell_early(self, queue: List[int]) -> None:
+        told = {page.folio for page in self._queue}
+        for folio in queue:
+            page = self._at.get(folio)
+            if not page or folio in told:
+                continue
+            for task, asked in list(self._pending.items()):
+                if page in self._spaces[asked.space] and page not in self._queue:
+                    del self._pending[task]
+                    self._apply(asked, queue)
+                    self.seen["calls told before their end"] += 1
+            if page not in self._queue and page.live:
+                self._lose(page, "queued for no reason seen")
+
+    def _reorder(self, kernels: List[Page]) -> None:
+        """Two tasks' pages can join in another order than that of their calls' ends: the later one's events go first
+        then."""
+        mine = [page for page in self._queue if page in kernels]
+        for i, page in enumerate(kernels):
+            other = mine[i]
+            if other is page:
+                continue
+            places = [self._place(other), self._place(page)]
+            if min(places) < 0 or places[0] > places[1]:
+                return
+            window = self.lines[places[0] : places[1] + 1]
+            own = [line for line in window if line.page is page]
+            self.lines[places[0] : places[1] + 1] = own + [line for line in window if line.page is not page]
+            for queue in (self._queue, self._told):
+                queue.remove(page)
+                queue.insert(queue.index(other), page)
+            mine.remove(page)
+            mine.insert(i, page)
+            self.seen["pages whose order the kernel's queue told"] += 1
+
+    def _place(self, page: Page) -> int:
+        for at in range(len(self.lines) - 1, -1, -1):
+            if self.lines[at] is page.join:
+                return at
+        return -1
+
+    # scans
+
+    def _scan(self, record: Record) -> None:
+        self._agree(record.queue)
+        self._scans[record.task] = (record, [self._at.get(folio) for folio in record.queue or ()])
+
+    def _scanned(self, record: Record) -> None:
+        start, folios = self._scans.pop(record.task, (None, []))
+        if not start:
+            return
+        total, freeable = start.values[:2]
+        if total < min(freeable, BATCH) or not start.queue:
+            self._agree(record.queue)
+            return
+        if record.queue is None or len(start.queue) > BATCH:
+            self.seen["scans not followed"] += 1
+            return
+        self.seen["scans"] += 1
+        pages = [page for page in folios[:total] if page and page in self._queue]
+        found = [self._at.get(folio) for folio in record.queue]
+        stay = [page for page in found if page and page in pages]
+        for page in stay:
+            self._partly_by_now(page, record.queue)
+        if len(stay) > 1 and stay == [page for page in reversed(pages) if page in stay]:
+            self.seen["scans that put back two pages or more, turned around (E)"] += 1
+        taken, back = pages, stay
+        if self._settings.straighten:
+            taken, back = self._straight(pages, folios, stay)
+        for page in taken:
+            self._say(record.task, page, "taken")
+        for page in pages:
+            self._leaves(page)
+        for page in reversed(pages):  # the kernel tries the newest first
+            self._tried(record, page, page in stay)
+        for page in back:
+            self._say(record.task, page, "back")
+            page.join = None
+        self._queue += stay
+        self._told += back
+        self._tell_later([page for page in found if page], stay)
+        self._agree(record.queue)
+
+    def _partly_by_now(self, page: Page, queue: Optional[List[int]]) -> None:
+        """What is put back is partly mapped: where nothing told so yet, a call that still runs did it."""
+        for task, asked in list(self._pending.items()):
+            if not page.partly and asked.space in page.maps and self._reaches(asked, page):
+                self._apply(self._pending.pop(task), queue)
+                self.seen["calls told before their end"] += 1
+
+    def _tell_later(self, kernels: List[Page], stay: List[Page]) -> None:
+        """Pages that joined while the scan ran, and stand behind what it put back, are told after it."""
+        if not stay:
+            return
+        edge, mine = max(map(kernels.index, stay)), self._queue.index(stay[0])
+        later = {page for page in kernels[edge + 1 :] if page in self._queue[:mine]}
+        places = {page: self._place(page) for page in later}
+        if not later or min(places.values()) < 0:
+            return
+        late = [i for i, line in enumerate(self.lines) if line.page in later and i >= places[line.page]]
+        skip = set(late)
+        self.lines = [line for i, line in enumerate(self.lines) if i not in skip] + [self.lines[i] for i in late]
+        for queue in (self._queue, self._told):
+            queue.sort(key=lambda page: page in later)  # stable: the later ones go to the end
+        self.seen["pages that joined while a scan ran, told after it"] += len(later)
+
+    def _straight(
+        self, pages: List[Page], folios: List[Optional[Page]], stay: List[Page]
+    ) -> Tuple[List[Page], List[Page]]:
+        """The pages in the journal's order: those taken, those put back."""
+        if len(pages) < len([page for page in self._queue if page in folios]):
+            for page in self._queue:
+                self._lose(page, "a scan of a part of the queue")
+        taken = [page for page in self._told if page in pages]
+        return taken, [page for page in taken if page in stay]
+
+    def _tried(self, record: Record, page: Page, stays: bool) -> None:
+        if stays:
+            if not page.pins:
+                page.pins = 1
+                self._say(record.task, page, "pin")
+            self._say(record.task, page, "pinned")
+        elif page.freed:
+            pass  # its last unmap tells it
+        elif page.partly or page.freed_frames:
+            self._split(record, page)
+        else:
+            self._written(record, page, page.used())
+            self._say(record.task, page, "used")
+
+    def _written(self, record: Record, page: Page, bits: int) -> None:
+        """Nothing tells of writes; those are told that the kernel's verdict implies."""
+        if self._settings.threshold is not None:
+            for first, count in runs(bits & ~page.written):
+                self._say(record.task, page, "write", first, count)
+            page.written |= bits
+
+    def _split(self, record: Record, page: Page) -> None:
+        given, used = page.freed_frames & page.held, page.used()
+        if not used:  # only the scan held it any more: the model frees it by its last unmap
+            self.seen["last unmaps while a scan held the page (R)"] += 1
+            self._say(record.task, page, "unpin", outcome="freed", given=page.held)
+            self._gone(page)
+            return
+        if page.held & ~used & ~given:
+            self._lose(page, "a frame was held beyond the split")
+        zeros = given & used
+        if self._settings.threshold is not None:
+            for first, count in runs(zeros & page.written):
+                self._say(record.task, page, "zero", first, count)
+            self._written(record, page, used & ~given)
+        elif zeros:
+            self.seen["splits that gave mapped zero-filled subpages back with the switch off (B)"] += 1
+            given &= ~used if self._settings.straighten else -1
+        if page.pins:
+            self._say(record.task, page, "unpin", outcome="stays")
+            page.pins = 0
+        self._say(record.task, page, "split", given=given)
+        page.held &= ~given
+        page.own, page.whole, page.split = [own + page.whole for own in page.own], 0, True
+        for mapping in page.maps.values():
+            mapping.whole = False

@@ -1,0 +1,78 @@
+"""What runs of scripts need on this kernel: settings, a control group and a server process for each node."""
+
+from __future__ import annotations
+
+import os
+from dataclasses import dataclass
+from typing import Iterable, List, Optional
+
+from ..common.files import COLLAPSE_SLEEP, PMD_ORDER, PTES_NONE, SWITCH, size_folder
+from ..common.groups import Groups
+from ..common.keeper import Keeper
+from ..common.kernel_memory import KernelMemory
+from ..common.page_files import Frames
+from ..common.script import Options
+from .mappers import Mapper, Mappers
+from .sayings import Unsayable
+
+QUIET = 3600000  # milliseconds between khugepaged's rounds: it collapses nothing meanwhile
+
+
+@dataclass(frozen=True)
+class Server:
+    """A node on this kernel: its control group, the process whose forks allocate in it, the group's struct
+    mem_cgroup."""
+
+    path: str
+    process: Mapper
+    group: Optional[int]
+
+
+class Bench:
+    """Made once; prepared for each script."""
+
+    def __init__(self, keeper: Keeper, memory: Optional[KernelMemory]) -> None:
+        self._keeper = keeper
+        self.memory = memory
+        keeper.set(COLLAPSE_SLEEP, QUIET)
+        self.frames = Frames()
+        self.groups = Groups(keeper, "thpreplay")
+        self.mappers = Mappers(keeper)
+        self.servers: List[Server] = []
+
+    def prepare(self, options: Options) -> None:
+        """Settings and nodes for a script. Unsayable where a kernel can't have such settings."""
+        large = {switch for order, switch in zip(options.orders, options.underused) if order == PMD_ORDER}
+        if None in large and len(large) > 1:
+            raise Unsayable("underused pages are split on some nodes only: the kernel has one switch")
+        if len(large) > 1:
+            raise Unsayable("thresholds differ by node: the kernel has one")
+        small = [switch for switch in options.underused if switch is not None]  # these pages aren't looked at (C)
+        threshold = large.pop() if large else next(iter(small), None)
+        if os.path.exists(SWITCH):
+            self._keeper.set(SWITCH, int(threshold is not None))
+        elif threshold is not None:
+            raise Unsayable("this kernel has no shrink_underused")
+        if threshold is not None:
+            self._keeper.set(PTES_NONE, threshold)
+        for order in sorted(set(options.orders)):
+            if not os.path.isdir(size_folder(order)):
+                raise Unsayable(f"this kernel has no pages of order {order}")
+            self._keeper.set(f"{size_folder(order)}/enabled", "madvise")
+        self._serve(options.nodes)
+
+    def _serve(self, nodes: int) -> None:
+        while len(self.servers) < nodes:
+            path = self.groups.add(f"node{len(self.servers)}")
+            process = self.mappers.root.fork()
+            self.groups.enter(path, process.process)
+            self.servers.append(Server(path, process, self.memory.group(path) if self.memory else None))
+
+    def queue(self, node: int) -> Optional[Iterable[int]]:
+        """The first frames of the pages in a node's queue, oldest first; None where queues aren't read."""
+        group = self.servers[node].group
+        return self.memory.queue_frames(group) if self.memory and group is not None else None
+
+    def close(self) -> None:
+        self.mappers.close()
+        self.frames.close()

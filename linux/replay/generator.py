@@ -1,0 +1,219 @@
+"""Random scripts that a kernel can be asked to do, by seed."""
+
+from __future__ import annotations
+
+import random
+from dataclasses import dataclass, field
+from typing import Callable, Dict, Iterator, List, Optional, Sequence, Tuple
+
+from ..common.files import PMD_ORDER
+from ..common.script import Options, Script, script_of
+from ..common.subpages import bits_of, runs
+
+MOST_PAGES = 12  # live pages of a node, 2 MiB each
+OFF = "off"
+
+
+@dataclass(frozen=True)
+class Shape:
+    """What scripts are drawn from."""
+
+    nodes: Sequence[int] = (1, 1, 1, 2, 4)
+    orders: Sequence[int] = (9, 9, 9, 2, 3, 4, 5, 6, 7, 8)
+    thresholds: Sequence[str] = (OFF,)
+    length: int = 40  # commands at most, a few more where one step is several
+
+
+@dataclass
+class Sketch:
+    """A page as the generator sees it: the sets that its PTE mappings have, so that most commands can be done."""
+
+    subpages: int
+    whole: int = 1
+    parts: List[int] = field(default_factory=list)
+    pins: int = 0
+    shared: bool = False
+    split: bool = False
+
+    @property
+    def every(self) -> int:
+        return bits_of(0, self.subpages)
+
+    @property
+    def mapped(self) -> bool:
+        return bool(self.whole or self.parts)
+
+
+class Generator:
+    """One script."""
+
+    def __init__(self, chance: random.Random, shape: Shape) -> None:
+        self._chance = chance
+        self._nodes = chance.choice(shape.nodes)
+        self._orders = [chance.choice(shape.orders) for _ in range(self._nodes)]
+        switch = chance.choice(shape.thresholds)
+        if switch != OFF and int(switch) >= min(1 << order for order in self._orders):
+            self._orders = [PMD_ORDER] * self._nodes
+        self._threshold: Optional[int] = None if switch == OFF else int(switch)
+        self._pages: List[List[Optional[Sketch]]] = [[] for _ in range(self._nodes)]
+        self._lines: List[str] = []
+        self._length = chance.randint(8, shape.length)
+        self._node = self._number = 0
+        self._kinds: Dict[str, Tuple[float, Callable[[Sketch], None]]] = {
+            "partly": (5, self._partly),
+            "splitpmd": (3, self._splitpmd),
+            "unmap": (5, self._unmap),
+            "unmapwhole": (1, self._unmapwhole),
+            "mapwhole": (1, self._mapwhole),
+            "map": (2, self._map),
+            "pin": (2, self._pin),
+            "unpin": (1, self._unpin),
+            "scan": (2, self._scan),
+            "batch": (0.3, self._batch),
+            "write": (1.5, lambda page: self._fill(page, "write")),
+            "zero": (0.5, lambda page: self._fill(page, "zero")),
+            "count": (0.5, lambda page: self._say("count", page=False)),
+            "odd": (0.5, self._odd),
+        }
+
+    def script(self, name: str) -> Script:
+        weights = [weight for weight, _ in self._kinds.values()]
+        for _ in range(self._length):
+            self._node = self._chance.randrange(self._nodes)
+            pages = self._pages[self._node]
+            live = [(i, page) for i, page in enumerate(pages) if page]
+            fresh = self._chance.random() < 4 / (4 + sum(weights)) and len(live) < 8
+            if fresh or not live:
+                if len(live) < MOST_PAGES:
+                    pages.append(Sketch(1 << self._orders[self._node]))
+                    self._say("alloc", page=False)
+                continue
+            self._number, page = self._chance.choice(live)
+            kind = self._chance.choices(list(self._kinds), weights)[0]
+            self._kinds[kind][1](page)
+            if not page.mapped and not page.pins:
+                pages[self._number] = None
+        return self._finished(name)
+
+    def _finished(self, name: str) -> Script:
+        switches = (self._threshold,) * self._nodes
+        options = Options(self._nodes, 16, 1, tuple(self._orders), switches)
+        text = "\n".join([f"# thpsplit {' '.join(options.words())}", "setup", *self._lines])
+        return script_of(name, text + "\n")
+
+    def _say(self, word: str, *operands: int, page: bool = True) -> None:
+        self._lines.append(" ".join(map(str, [word, self._node, *([self._number] if page else []), *operands])))
+
+    def _range(self, low: int, count: int) -> Tuple[int, int]:
+        """A range inside the one given, often one that touches an end or has a round size."""
+        chance = self._chance
+        size = chance.choice([1, count // 2 or 1, count, chance.randint(1, count)])
+        return chance.choice([low, low + count - size, chance.randint(low, low + count - size)]), size
+
+    def _partly(self, page: Sketch) -> None:
+        if page.whole != 1 or page.parts:
+            return
+        first, count = self._range(0, page.subpages)
+        if count == page.subpages:
+            first, count = 1, count - 1
+        page.whole, page.parts = 0, [page.every & ~bits_of(first, count)]
+        self._say("splitpmd")
+        self._say("unmap", first, count)
+
+    def _splitpmd(self, page: Sketch) -> None:
+        if page.whole:
+            page.whole -= 1
+            page.parts.append(page.every)
+            self._say("splitpmd")
+
+    def _unmapwhole(self, page: Sketch) -> None:
+        if page.whole:
+            page.whole -= 1
+            self._say("unmapwhole")
+
+    def _mapwhole(self, page: Sketch) -> None:
+        if page.whole and not page.split:
+            page.whole, page.shared = page.whole + 1, True
+            self._say("mapwhole")
+
+    def _unmap(self, page: Sketch) -> None:
+        if page.parts:
+            part = self._chance.randrange(len(page.parts))
+            first, count = self._range(*self._chance.choice(list(runs(page.parts[part]))))
+            page.parts[part] &= ~bits_of(first, count)
+            page.parts = [bits for bits in page.parts if bits]
+            self._say("unmap", first, count)
+
+    def _map(self, page: Sketch) -> None:
+        if page.mapped:
+            place = (0, page.subpages)
+            if not page.whole:
+                place = self._chance.choice(list(runs(self._chance.choice(page.parts))))
+            first, count = self._range(*place)
+            page.parts.append(bits_of(first, count))
+            page.shared = True
+            self._say("map", first, count)
+
+    def _pin(self, page: Sketch) -> None:
+        if page.mapped and page.pins < 3:
+            page.pins += 1
+            self._say("pin")
+
+    def _unpin(self, page: Sketch) -> None:
+        if page.pins:
+            page.pins -= 1
+            self._say("unpin")
+
+    def _fill(self, page: Sketch, word: str) -> None:
+        if page.mapped and not page.shared:
+            place = (0, page.subpages) if page.whole else self._chance.choice(list(runs(page.parts[0])))
+            self._say(word, *self._range(*place))
+
+    def _shrunk(self) -> None:
+        """What a scan splits has no whole mapping any more; the sketch needn't know better."""
+        for page in self._pages[self._node]:
+            if page and not page.pins and not page.whole:
+                union = 0
+                for bits in page.parts:
+                    union |= bits
+                page.split = page.split or union != page.every
+
+    def _scan(self, _page: Sketch) -> None:
+        self._say("scan", self._chance.choice([MOST_PAGES, 64, 128]), page=False)
+        self._shrunk()
+
+    def _batch(self, _page: Sketch) -> None:
+        self._say("take", 128, page=False)
+        for _ in range(MOST_PAGES + 1):
+            self._say("splitnext", page=False)
+        self._say("putback", page=False)
+        self._shrunk()
+
+    def _odd(self, page: Sketch) -> None:
+        """Often refused, and then nothing is done."""
+        kind = self._chance.randrange(5)
+        if kind == 0:
+            self._say("unpin")
+            page.pins -= bool(page.pins)
+        elif kind == 1:
+            self._say("splitpmd")
+            if page.whole:
+                page.whole -= 1
+                page.parts.append(page.every)
+        elif kind == 2:
+            self._say("unmap", 0, page.subpages + 1)
+        elif kind == 3:
+            self._lines.append(f"unmap {self._node} {len(self._pages[self._node])} 0 1")
+        else:
+            self._say("unmap", 0, 1)
+            for part, bits in enumerate(page.parts):
+                if bits & 1:
+                    page.parts[part] &= ~1
+                    break
+            page.parts = [bits for bits in page.parts if bits]
+
+
+def scripts(count: int, seed: int, shape: Shape) -> Iterator[Script]:
+    """`count` scripts; script k of a seed is the same whatever the count."""
+    for k in range(count):
+        yield Generator(random.Random(f"{seed}-{k}"), shape).script(f"random-{seed}-{k}")

@@ -1,0 +1,257 @@
+"""A script's commands on the running kernel, done by processes that map its pages.
+
+    alloc             a fork of the node's server touches an aligned region with MADV_HUGEPAGE
+    mapwhole          a fork of a process that maps the page whole
+    map               a fork that splits its PMD entry and drops the other subpages
+    unmap, unmapwhole MADV_DONTNEED in a process that maps the range
+    splitpmd          a border of two areas inside the page (MADV_DONTDUMP of half), taken away again
+    pin, unpin        vmsplice into a pipe, read of its byte
+    write, zero       memset
+    scan              reclaim in the node's control group
+"""
+
+from __future__ import annotations
+
+from dataclasses import dataclass
+from typing import Dict, List, Optional, Sequence, Tuple
+
+from ..common.counters import Counter, Counts, counts
+from ..common.files import PMD_ORDER
+from ..common.page_files import PageFlag
+from ..common.script import Options
+from ..common.subpages import bits_of, runs
+from .bench import Bench
+from .mappers import Mapper, Refusal
+from .sayings import Said, Unsayable
+from .seen import PageName, PageSeen, Seen
+from .states import NodeState, PageState
+
+DATA = 90  # the byte that subpages with data are filled with
+
+
+@dataclass
+class HeldPage:
+    """A page on this kernel: its first frame, and the processes that map it."""
+
+    mappers: List[Mapper]
+    order: int
+    frame: int
+    shared: bool = False  # some fork has mapped it, so that a write may copy
+
+    @property
+    def subpages(self) -> int:
+        return 1 << self.order
+
+    def by_pmd(self) -> Optional[Mapper]:
+        """A process that maps it whole."""
+        return next((mapper for mapper in self.mappers if mapper.whole), None)
+
+    def covering(self, bits: int, whole: bool = True) -> Optional[Mapper]:
+        """A process that maps all these subpages: by entries of their own if one does, by a PMD entry only if
+        `whole`."""
+        found = [mapper for mapper in self.mappers if mapper.mapped & bits == bits and (whole or not mapper.whole)]
+        return min(found, key=lambda mapper: mapper.whole, default=None)
+
+    def pieces(self, bits: int, whole: bool) -> List[Tuple[Mapper, int, int]]:
+        """Processes with a first and a count that cover these subpages together; none where nobody maps one of them."""
+        alone = self.covering(bits, whole)
+        if alone:
+            return [(alone, *next(runs(bits)))]
+        out = []
+        while bits:
+            low = (bits & -bits).bit_length() - 1
+            best: Optional[Mapper] = None
+            most = 0
+            for mapper in sorted(self.mappers, key=lambda mapper: mapper.whole):
+                first, count = next(runs(mapper.mapped >> low & bits >> low), (1, 0))
+                if (whole or not mapper.whole) and first == 0 and count > most:
+                    best, most = mapper, count
+            if best is None:
+                return []
+            out.append((best, low, most))
+            bits &= ~bits_of(low, most)
+        return out
+
+
+class KernelPages:
+    """One script's pages on a bench. `fill`: the byte that new pages are filled with; 0: they stay zero-filled."""
+
+    def __init__(self, bench: Bench, options: Options, fill: int) -> None:
+        self._bench, self._options, self._fill = bench, options, fill
+        self._pages: List[List[HeldPage]] = [[] for _ in range(options.nodes)]
+        self._orders = sorted(set(options.orders))
+        self._own_splits = 0
+        self._before = counts(self._orders)
+        self._started: List[Mapper] = []
+
+    def do(self, said: Said, state: NodeState) -> None:
+        """Does a command that wasn't refused, the node's state being that before it. Unsayable: nothing was done."""
+        word, operands = said.words[0], [int(text) for text in said.words[2:]]
+        try:
+            getattr(self, f"_{word}")(said.node, state, *operands)
+        except Refusal as refusal:
+            raise Unsayable(str(refusal)) from refusal
+
+    def close(self) -> None:
+        """Ends the script's processes; their pages go with them."""
+        for mapper in self._started:
+            mapper.exit()
+
+    # what the kernel shows
+
+    def look(self, states: Sequence[NodeState]) -> Seen:
+        """The kernel now: counters, each live page, each queue."""
+        since = counts(self._orders).since(self._before)
+        splits = since.machine[Counter.SPLIT_PMD]
+        machine = {**since.machine, Counter.SPLIT_PMD: None if splits is None else splits - self._own_splits}
+        pages: Dict[PageName, PageSeen] = {}
+        for node, state in enumerate(states):
+            for number, page in enumerate(state.pages):
+                if page.live:
+                    pages[node, number] = self._look_at(self._pages[node][number], page)
+        queues = [self._queue(node, state) for node, state in enumerate(states)]
+        return Seen(Counts(machine, since.sizes), pages, queues)
+
+    def _look_at(self, held: HeldPage, page: PageState) -> PageSeen:
+        frames = self._bench.frames
+        mapped = 0
+        if page.split:
+            for mapper in held.mappers:
+                if mapper.mapped:
+                    for i, frame in enumerate(mapper.frames(held.subpages)):
+                        mapped |= (frame == held.frame + i) << i
+        whole = 0 if page.split else frames.whole(held.frame, held.subpages)
+        return PageSeen(whole, frames.counts(held.frame, held.subpages), mapped)
+
+    def _queue(self, node: int, state: NodeState) -> Optional[List[int]]:
+        frames = self._bench.queue(node)
+        if frames is None:
+            return None
+        numbers = {held.frame: i for i, held in enumerate(self._pages[node]) if state.pages[i].live}
+        return [numbers.get(frame, -frame) for frame in frames]
+
+    # the commands
+
+    def _alloc(self, node: int, state: NodeState) -> None:
+        mapper = self._fork(self._bench.servers[node].process)
+        mapper.at = mapper.tell(f"alloc {state.order} {self._fill}")
+        frames = mapper.frames(1 << state.order)
+        first = frames[0]
+        if first is None or first % len(frames) or frames != list(range(first, first + len(frames))):
+            raise Unsayable(f"no huge page of order {state.order} to be had")
+        flags = self._bench.frames.flags(first, 2)
+        if not (flags[0] & PageFlag.COMPOUND_HEAD and flags[1] & PageFlag.COMPOUND_TAIL):
+            raise Unsayable(f"no huge page of order {state.order} to be had")
+        mapper.whole, mapper.mapped = True, bits_of(0, len(frames))
+        self._pages[node].append(HeldPage([mapper], state.order, first))
+
+    def _fork(self, of: Mapper) -> Mapper:
+        child = of.fork()
+        self._started.append(child)
+        return child
+
+    def _mapwhole(self, node: int, _state: NodeState, number: int) -> None:
+        page = self._pages[node][number]
+        source = page.by_pmd()
+        if source is None:
+            raise Unsayable("mapwhole where no PMD entry is left to be copied")
+        page.mappers.append(self._fork(source))
+        page.shared = True
+
+    def _unmapwhole(self, node: int, _state: NodeState, number: int) -> None:
+        page = self._pages[node][number]
+        mapper = page.by_pmd()
+        if mapper is None:
+            raise Unsayable("unmapwhole where nothing maps the page whole")
+        mapper.tell(f"unmap 0 {page.subpages}")
+        mapper.whole, mapper.mapped = False, 0
+
+    def _map(self, node: int, _state: NodeState, number: int, first: int, count: int) -> None:
+        page = self._pages[node][number]
+        pieces = page.pieces(bits_of(first, count), True)
+        if not pieces:
+            raise Unsayable("map of a subpage that nothing maps")
+        for source, low, length in pieces:
+            child = self._fork(source)
+            page.mappers.append(child)
+            if child.whole:
+                self._divide(child, page)
+                self._own_splits += page.order == PMD_ORDER
+            self._drop(child, child.mapped & ~bits_of(low, length))
+        page.shared = True
+
+    def _drop(self, mapper: Mapper, bits: int) -> None:
+        for first, count in runs(bits):
+            mapper.tell(f"unmap {first} {count}")
+        mapper.mapped &= ~bits
+
+    def _divide(self, mapper: Mapper, page: HeldPage) -> None:
+        if page.order == PMD_ORDER:  # smaller pages are always mapped by PTEs
+            mapper.tell("splitpmd")
+        mapper.whole = False
+
+    def _unmap(self, node: int, state: NodeState, number: int, first: int, count: int) -> None:
+        page, before = self._pages[node][number], state.pages[number]
+        pieces = page.pieces(bits_of(first, count), False)
+        if not pieces:
+            raise Unsayable("unmap of subpages that only whole mappings have")
+        left = before.own[:]
+        for i in range(first, first + count):
+            left[i] -= 1
+        frees = not before.whole and not any(left)
+        if len(pieces) > 1 and frees and not before.split and not before.partly:
+            raise Unsayable("the last mappings lie in several processes: the kernel would see the page partly mapped")
+        for mapper, low, length in pieces:
+            self._drop(mapper, bits_of(low, length))
+
+    def _splitpmd(self, node: int, _state: NodeState, number: int) -> None:
+        page = self._pages[node][number]
+        mapper = page.by_pmd()
+        if mapper is None:
+            raise Unsayable("splitpmd where nothing maps the page whole")
+        self._divide(mapper, page)
+
+    def _pin(self, node: int, _state: NodeState, number: int) -> None:
+        mapper = next((mapper for mapper in self._pages[node][number].mappers if mapper.mapped), None)
+        if mapper is None:
+            raise Unsayable("pin of a page that nothing maps")
+        mapper.tell(f"pin {next(runs(mapper.mapped))[0]}")
+        mapper.pins += 1
+
+    def _unpin(self, node: int, _state: NodeState, number: int) -> None:
+        mapper = next((mapper for mapper in self._pages[node][number].mappers if mapper.pins), None)
+        if mapper is None:
+            raise Unsayable("unpin where no process holds a pin")
+        mapper.tell("unpin")
+        mapper.pins -= 1
+
+    def _write(self, node: int, _state: NodeState, number: int, first: int, count: int, byte: int = DATA) -> None:
+        page = self._pages[node][number]
+        mapper = page.covering(bits_of(first, count))
+        if page.shared or mapper is None:
+            raise Unsayable("a write to a page that was shared: the kernel may copy it")
+        mapper.tell(f"fill {first} {count} {byte}")
+
+    def _zero(self, node: int, state: NodeState, number: int, first: int, count: int) -> None:
+        self._write(node, state, number, first, count, 0)
+
+    def _scan(self, node: int, state: NodeState, most: int) -> None:
+        if most < len(state.queue):
+            raise Unsayable("a scan of less than the whole queue: a reclaim takes all")
+        self._bench.groups.reclaim(self._bench.servers[node].path)
+
+    def split_now(self, node: int, number: int) -> None:
+        """The page was split: all its mappings are by PTEs."""
+        for mapper in self._pages[node][number].mappers:
+            mapper.whole = False
+
+    def _count(self, _node: int, _state: NodeState) -> None:
+        pass
+
+    def _take(self, *_operands: object) -> None:
+        raise Unsayable("take, splitnext and putback by themselves: the kernel does them as one")
+
+    _splitnext = _putback = _take
+
+    def _close(self, *_operands: object) -> None:
+        raise Unsayable("close: a kernel's queue isn't closed")

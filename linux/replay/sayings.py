@@ -1,0 +1,198 @@
+"""What `thpsplit` says of a script, command by command, out of its answers and its journal.
+
+Two known differences change what becomes of pages, so that the kernel has another story from there on. That story is
+told by `thpsplit` too, of a script changed so that it says the kernel's rule:
+
+    C   a page below PMD size isn't queued at its fault: the nodes of such pages get `off`
+    D   at threshold 511 no page is underused: of a page that is all zero one subpage is written before each scan, and
+        filled with zeros after it
+"""
+
+from __future__ import annotations
+
+from dataclasses import dataclass, replace
+from typing import Dict, List, Sequence, Set, Tuple
+
+from ..common.errors import InputFault
+from ..common.files import PMD_ORDER
+from ..common.journal import Event
+from ..common.program import Program
+from ..common.script import Options, Script
+from .known import Known
+from .states import NodeState
+
+NEVER = 511  # max_ptes_none at which no page is underused (mm/huge_memory.c: thp_underused)
+INSERTED = 0  # the place of a command that only tells D
+
+
+class Unsayable(Exception):
+    """What this kernel, or any kernel, can't be asked to do; the text is the reason."""
+
+
+@dataclass(frozen=True)
+class Step:
+    """A command: its place in the script from 1, its section, its words."""
+
+    place: int
+    section: int
+    words: Sequence[str]
+
+
+@dataclass(frozen=True)
+class Said:
+    """One command, its answer, and the events that it recorded on its node."""
+
+    place: int
+    words: Sequence[str]
+    answer: str
+    events: Tuple[Event, ...]
+
+    @property
+    def refused(self) -> bool:
+        return self.answer.startswith("refused ")
+
+    @property
+    def node(self) -> int:
+        return int(self.words[1])
+
+
+@dataclass(frozen=True)
+class Story:
+    """What the kernel should do: by commands, under these options; the known differences that the story tells; the
+    nodes whose pages aren't queued at their fault though the script's options say so."""
+
+    said: List[Said]
+    options: Options
+    known: Set[Known]
+    small: Set[int]
+
+
+def events_of(words: Sequence[str], answer: str) -> int:
+    """How many events a command recorded, by its answer (docs/FORMATS.md)."""
+    if answer.startswith("refused ") or words[0] == "count" or answer in ("done", "no-batch"):
+        return 0
+    if words[0] in ("scan", "take", "putback"):
+        told = answer.split()
+        numbers: Dict[str, int] = dict(zip(told[::2], map(int, told[1::2])))
+        tried = numbers["taken"] if words[0] == "scan" else 0
+        return numbers.get("taken", 0) + tried + numbers.get("back", 0) + numbers.get("dropped", 0)
+    return 1
+
+
+def said_of(steps: Sequence[Step], text: str, options: Options, program: Program) -> List[Said]:
+    """The program's answers and events of the steps that a text says."""
+    answers = program.answers(text, options.words())
+    if len(answers) != len(steps):
+        raise InputFault(f"{program.path} gives {len(answers)} answers to {len(steps)} commands")
+    rest = [list(node.events) for node in program.journal(text, options.words())]
+    out = []
+    for step, answer in zip(steps, answers):
+        node, count = int(step.words[1]), events_of(step.words, answer.text)
+        if len(rest) <= node or len(rest[node]) < count:
+            raise InputFault(f"{program.path} says fewer events than answers tell (command {step.place})")
+        out.append(Said(step.place, step.words, answer.text, tuple(rest[node][:count])))
+        del rest[node][:count]
+    return out
+
+
+def story_of(script: Script, program: Program) -> Story:
+    """The kernel's story of a script. Unsayable where workers share a node; Refused where the script has a fault."""
+    steps = [Step(i, command.section, command.words) for i, command in enumerate(script.commands(), 1)]
+    owners: Dict[int, int] = {}
+    for step in steps:
+        if step.section and owners.setdefault(int(step.words[1]), step.section) != step.section:
+            raise Unsayable("workers share a node: the kernel has no such schedule")
+    options, known = script.options, set()
+    said = said_of(steps, script.text, options, program)
+    small = {n for n, order in enumerate(options.orders) if order < PMD_ORDER and options.underused[n] is not None}
+    if small:
+        switches = tuple(None if n in small else switch for n, switch in enumerate(options.underused))
+        options, before = replace(options, underused=switches), said
+        said = said_of(steps, script.text, options, program)
+        if [(each.answer, each.events) for each in said] != [(each.answer, each.events) for each in before]:
+            known.add(Known.C)
+    while True:
+        more = _without_underused(steps, said, options)
+        if len(more) == len(steps):
+            break
+        steps = more
+        said = said_of(steps, _text(steps), options, program)
+        known.add(Known.D)
+    told = [each for each in said if each.place != INSERTED]
+    return Story(fold_batches(told), options, known, small)
+
+
+def _text(steps: Sequence[Step]) -> str:
+    lines, section = [], -1
+    for step in steps:
+        if step.section != section:
+            section = step.section
+            lines.append(f"worker {section}" if section else "setup")
+        lines.append(" ".join(step.words))
+    return "\n".join(lines) + "\n"
+
+
+def _without_underused(steps: Sequence[Step], said: Sequence[Said], options: Options) -> List[Step]:
+    """The steps, with one subpage written around the first command that splits or tries an underused page at 511.
+
+    A page that only a pin holds can't be written: the program tries it once, the kernel doesn't (expecting.py).
+    """
+    states = [NodeState(order, switch, True) for order, switch in zip(options.orders, options.underused)]
+    out = list(steps)
+    for at, each in enumerate(said):
+        state = states[each.node]
+        if state.threshold == NEVER and each.words[0] in ("scan", "take") and not each.refused:
+            taken = [event.page for event in each.events if event.word == "taken" and event.page is not None]
+            pages = [(number, state.pages[number]) for number in taken]
+            hit = [n for n, page in pages if not page.partly and page.zero == page.every and page.used()]
+            if hit:
+                return out[:at] + _around(out[at:], hit, each)
+        for event in each.events:
+            state.apply(event)
+    return out
+
+
+def _around(steps: List[Step], pages: List[int], said: Said) -> List[Step]:
+    """The steps from a scan or take on; after it (or its putback) the subpage is zero again."""
+    node, section = said.words[1], steps[0].section
+    end = 1
+    if said.words[0] == "take":
+        end = next((i + 1 for i, step in enumerate(steps) if list(step.words) == ["putback", node]), 1)
+    writes = [Step(INSERTED, section, ("write", node, str(page), "0", "1")) for page in pages]
+    zeros = [Step(INSERTED, section, ("zero", node, str(page), "0", "1")) for page in pages]
+    return writes + steps[:end] + zeros + steps[end:]
+
+
+def fold_batches(said: List[Said]) -> List[Said]:
+    """A batch that is taken, tried to its end and put back with nothing in between is what a scan does: told as one."""
+    out: List[Said] = []
+    at = 0
+    while at < len(said):
+        end = _end_of_batch(said, at)
+        batch = said[at:end]
+        at = max(end, at + 1)
+        if not batch:
+            out.append(said[at - 1])
+            continue
+        events = tuple(event for each in batch for event in each.events)
+        words = ("scan", batch[0].words[1], batch[0].words[2])
+        out.append(Said(batch[0].place, words, f"{batch[0].answer}, tried to the end, {batch[-1].answer}", events))
+    return out
+
+
+def _end_of_batch(said: List[Said], start: int) -> int:
+    """The place after the putback of the batch that begins here, or `start` where no such batch begins."""
+    first = said[start]
+    if first.words[0] != "take" or first.refused:
+        return start
+    done = False
+    for at in range(start + 1, len(said)):
+        each = said[at]
+        if each.words[1] != first.words[1]:
+            return start
+        if each.words[0] == "putback" and done:
+            return at + 1
+        if each.words[0] != "splitnext":
+            return start
+        done = done or each.answer == "done"
+    return start

@@ -1,0 +1,155 @@
+"""A node by its journal: map counts, frames, the queue, and what is counted in the model's way and in the kernel's.
+
+The model's rules are those of docs/MODEL.md; the kernel's are told where a field needs them (mm/rmap.c and
+mm/huge_memory.c of the kernel).
+"""
+
+from __future__ import annotations
+
+from dataclasses import dataclass, field
+from typing import List, Optional, Tuple
+
+from ..common.journal import Event
+from ..common.subpages import bits_of
+
+
+@dataclass
+class Tally:
+    """What was counted on a node."""
+
+    split: int = 0
+    failed: int = 0
+    queued: int = 0  # pages that an unmap queued: the model's thp_deferred_split_page
+    first_partly: int = 0  # pages that first became partly mapped by an unmap: the kernel's
+    partly_by_split: int = 0  # underused pages that their own split makes partly mapped (known difference G)
+    perhaps_partly: int = 0  # the same where PMD and PTE mappings are mixed: which goes first decides
+    split_pmd: int = 0
+    underused: int = 0
+
+
+@dataclass
+class PageState:
+    """A page; sets of subpages are numbers."""
+
+    subpages: int
+    own: List[int]
+    zero: int
+    whole: int = 1
+    pins: int = 0
+    held: int = 0
+    live: bool = True
+    split: bool = False
+    partly: bool = False
+    dropped_zero: int = 0  # mapped zero-filled subpages that the kernel gave back at the split (B)
+
+    @staticmethod
+    def new(order: int, zero_filled: bool) -> PageState:
+        subpages = 1 << order
+        every = bits_of(0, subpages)
+        return PageState(subpages, [0] * subpages, every if zero_filled else 0, held=every)
+
+    @property
+    def every(self) -> int:
+        return bits_of(0, self.subpages)
+
+    def totals(self) -> Tuple[int, ...]:
+        """The map count of each subpage."""
+        return tuple(self.whole + own for own in self.own)
+
+    def used(self) -> int:
+        """The subpages that are mapped."""
+        if self.whole:
+            return self.every
+        return sum(1 << i for i, own in enumerate(self.own) if own)
+
+
+@dataclass
+class NodeState:
+    """A node with its pages by number and its queue in the model's order."""
+
+    order: int
+    threshold: Optional[int]
+    zero_filled: bool  # what a new page holds
+    pages: List[PageState] = field(default_factory=list)
+    queue: List[int] = field(default_factory=list)
+    flight: List[int] = field(default_factory=list)
+    tally: Tally = field(default_factory=Tally)
+
+    @property
+    def splits_underused(self) -> bool:
+        return self.threshold is not None
+
+    def apply(self, event: Event) -> None:
+        """Does one event of the journal."""
+        if event.word == "close":
+            return
+        assert event.page is not None
+        if event.word == "alloc":
+            self.pages.append(PageState.new(self.order, self.zero_filled))
+            if self.splits_underused:
+                self.queue.append(event.page)
+            return
+        page = self.pages[event.page]
+        self._mappings(event, page)
+        self._places(event, page)
+        if event.outcome or event.word == "split":
+            page.held &= ~event.given
+        if event.outcome == "queued":
+            self.queue.append(event.page)
+            self.tally.queued += 1
+        elif event.outcome == "freed":
+            page.live = False
+            self.queue = [other for other in self.queue if other != event.page]
+
+    def _mappings(self, event: Event, page: PageState) -> None:
+        span = range(event.first, event.first + event.count)
+        before = page.used() if event.word in ("unmapwhole", "unmapsub") else 0
+        if event.word == "mapwhole":
+            page.whole += 1
+        elif event.word == "unmapwhole":
+            page.whole -= 1
+        elif event.word == "mapsub":
+            for i in span:
+                page.own[i] += 1
+        elif event.word == "unmapsub":
+            for i in span:
+                page.own[i] -= 1
+        elif event.word == "splitpmd":
+            page.whole -= 1
+            page.own = [own + 1 for own in page.own]
+            self.tally.split_pmd += 1
+        elif event.word in ("pin", "unpin"):
+            page.pins += 1 if event.word == "pin" else -1
+        elif event.word in ("write", "zero"):
+            bits = bits_of(event.first, event.count)
+            page.zero = page.zero & ~bits | (bits if event.word == "zero" else 0)
+        after = page.used() if before else 0
+        if after and after != before and not page.partly:
+            page.partly = True
+            self.tally.first_partly += not page.split
+
+    def _places(self, event: Event, page: PageState) -> None:
+        number = event.page
+        assert number is not None
+        if event.word == "taken":
+            self.queue.remove(number)
+            self.flight.append(number)
+        elif event.word == "pinned":
+            self.tally.failed += 1
+        elif event.word in ("split", "used", "back", "dropped"):
+            self.flight.remove(number)
+            if event.word == "back":
+                self.queue.append(number)
+            elif event.word == "split":
+                self._split(page)
+
+    def _split(self, page: PageState) -> None:
+        tally = self.tally
+        tally.split += 1
+        tally.underused += not page.partly
+        if not page.partly and any(page.own):  # the kernel unmaps PTE by PTE: the page becomes partly mapped on the way
+            tally.perhaps_partly += bool(page.whole)
+            tally.partly_by_split += not page.whole
+        tally.split_pmd += page.whole
+        page.dropped_zero = 0 if self.splits_underused else page.zero & page.used()
+        page.own, page.whole, page.split = list(page.totals()), 0, True

@@ -1,0 +1,102 @@
+#!/usr/bin/env python3
+"""A stand-in for `thpsplit`: the plain reading of the model in tests/model.py. $PLAIN_BUG plants a bug in it.
+
+    unmap-short       a range unmapped is one subpage short
+    back-at-head      what is put back stands at the queue's head
+    splits-pinned     a pinned page is split
+    forgets-free      a freed page stays in the queue
+"""
+
+from __future__ import annotations
+
+import os
+import sys
+from pathlib import Path
+from typing import Callable, Dict, List
+
+ROOT = Path(__file__).resolve().parent.parent.parent
+sys.path[:0] = [str(ROOT / "tests"), str(ROOT)]
+sys.dont_write_bytecode = True
+
+from model import Node  # noqa: E402  (the second opinion of tests/)
+from script import RANGE_CALLS, Run, first_illegal  # noqa: E402
+
+from linux.common.script import options_of  # noqa: E402
+
+
+class UnmapShort(Node):
+    def unmap_sub(self, caller: int, number: int, first: int, count: int) -> str:
+        return Node.unmap_sub(self, caller, number, first, max(count - 1, 1))
+
+
+class BackAtHead(Node):
+    def scan(self, caller: int, most: int) -> str:
+        """Each page put back goes to the head, so several come out turned around."""
+        kept: Callable[[int], str] = super().returned
+
+        def returned(caller: int) -> str:
+            self.flight(caller).insert(0, self.flight(caller).pop())
+            return kept(caller)
+
+        self.returned = returned  # type: ignore[method-assign]
+        return super().scan(caller, most)
+
+
+class SplitsPinned(Node):
+    def tried(self, caller: int, number: int) -> str:
+        page = self.live[number]
+        pins, page.pins = page.pins, 0
+        try:
+            return super().tried(caller, number)
+        finally:
+            page.pins = pins
+
+
+class ForgetsFree(Node):
+    def lost(self, caller: int, number: int, held: set, used: set, *words: object) -> str:
+        """A page that its last unmap frees only says that it stays."""
+        answer = super().lost(caller, number, held, used, *words)
+        self.journal[-1] = self.journal[-1].replace(" freed ", " stays ")
+        return answer.replace("freed ", "stays ")
+
+
+BUGS: Dict[str, type] = {
+    "unmap-short": UnmapShort, "back-at-head": BackAtHead, "splits-pinned": SplitsPinned, "forgets-free": ForgetsFree,
+}
+
+
+def run_of(text: str, words: List[str]) -> Run:
+    options = options_of(words)
+    run = Run([(options.blocks, order, switch) for order, switch in zip(options.orders, options.underused)])
+    kind = BUGS.get(os.environ.get("PLAIN_BUG", ""))
+    if kind:
+        run.nodes = [kind(node.blocks, node.order, node.underused) for node in run.nodes]
+        RANGE_CALLS["unmap"] = kind.unmap_sub
+    sections: List[tuple] = []
+    for line in text.splitlines():
+        if line and not line.startswith("#"):
+            words = line.split()
+            if words[0] in ("setup", "worker"):
+                sections.append((int(words[1]) if words[0] == "worker" else 0, []))
+            else:
+                sections[-1][1].append(line)
+    for section, lines in sections:
+        run.section(section, lines)
+    return run
+
+
+def main() -> int:
+    text, words = sys.stdin.read(), sys.argv[1:]
+    if "--check" in words:
+        line = first_illegal(text.splitlines())
+        print("legal" if line is None else f"illegal line {line}")
+        return int(line is not None)
+    kind = words[words.index("--report") + 1] if "--report" in words else "totals"
+    run = run_of(text, words)
+    lines = {"totals": run.totals, "answers": lambda: run.answers, "journal": run.journal}[kind]()
+    print("\n".join(lines))
+    return 0
+
+
+if __name__ == "__main__":
+    sys.exit(main())

@@ -1,0 +1,229 @@
+"""What the tools share: types, sets, journals, control groups by their files, and everything put back at any end."""
+
+from __future__ import annotations
+
+import os
+import signal
+import subprocess
+import sys
+import tempfile
+import time
+import unittest
+from pathlib import Path
+
+from ..common.btf import Missing, Types
+from ..common.errors import InputFault, Unavailable
+from ..common.files import chosen
+from ..common.groups import find_hierarchy
+from ..common.journal import journal_of, journal_text
+from ..common.keeper import Keeper
+from ..common.kernel_memory import QueueFields
+from ..common.script import options_of, read_script, script_of
+from ..common.subpages import bits_of, runs, set_of, set_text
+from .made_types import queue_types
+
+ROOT = Path(__file__).resolve().parent.parent.parent
+
+KILLED_TOOL = """
+import os, signal, sys, time
+from linux.common.keeper import Keeper
+folder, number = sys.argv[1], int(sys.argv[2])
+with Keeper(lock=folder + "/lock") as keeper:
+    keeper.set(folder + "/setting", "new")
+    keeper.set(folder + "/choice", "madvise")
+    keeper.make_group(folder + "/group")
+    child = os.spawnlp(os.P_NOWAIT, "sleep", "sleep", "60")
+    keeper.own(child)
+    print(child, flush=True)
+    os.kill(os.getpid(), number)
+    time.sleep(10)
+"""
+
+
+class TypesTest(unittest.TestCase):
+    def test_fields_are_found_in_unnamed_structs(self) -> None:
+        fields = QueueFields.of(Types(queue_types()))
+        self.assertEqual((fields.head, fields.length, fields.link), (1536, 1552, 144))
+
+    def test_a_field_that_moved_is_found_where_it_is(self) -> None:
+        self.assertEqual(QueueFields.of(Types(queue_types(link_at=160))).link, 160)
+
+    def test_a_field_taken_away_is_named(self) -> None:
+        with self.assertRaisesRegex(Missing, r"no field folio\._deferred_list"):
+            QueueFields.of(Types(queue_types(link_name="_other_list")))
+
+    def test_a_field_of_another_size_is_named(self) -> None:
+        with self.assertRaisesRegex(Missing, r"split_queue_len has 4 bytes in this kernel, not 8"):
+            QueueFields.of(Types(queue_types(length_size=4)))
+
+    def test_a_field_of_another_type_is_named(self) -> None:
+        types = Types(queue_types())
+        with self.assertRaisesRegex(Missing, "folio.flags is long unsigned int in this kernel, not pointer"):
+            types.field("folio", "flags", "pointer")
+
+    def test_a_struct_or_enumerator_that_is_missing_is_named(self) -> None:
+        types = Types(queue_types())
+        self.assertEqual(types.enumerator("memory_cgrp_id"), 4)
+        with self.assertRaisesRegex(Missing, "no enumerator hugetlb_cgrp_id"):
+            types.enumerator("hugetlb_cgrp_id")
+        with self.assertRaisesRegex(Missing, "no struct page"):
+            types.struct_size("page")
+
+    def test_what_is_no_type_information_is_said(self) -> None:
+        with self.assertRaises(Unavailable):
+            Types(b"\x7fELF" + bytes(60))
+
+
+class SetsTest(unittest.TestCase):
+    def test_text_and_back(self) -> None:
+        for text, bits in (("-", 0), ("0", 1), ("0-3,5,510-511", 0b101111 | 3 << 510)):
+            self.assertEqual((set_text(bits), set_of(text)), (text, bits))
+
+    def test_runs(self) -> None:
+        self.assertEqual(list(runs(bits_of(3, 4) | bits_of(9, 1))), [(3, 4), (9, 1)])
+
+
+class TextsTest(unittest.TestCase):
+    def test_journals_are_read_and_written_as_they_were(self) -> None:
+        for name in ("two_workers.journal", "illegal.journal"):
+            text = (ROOT / "examples" / name).read_text()
+            self.assertEqual(journal_text(journal_of(text)), text)
+
+    def test_a_cut_journal_is_named(self) -> None:
+        with self.assertRaises(InputFault):
+            journal_of("thp-journal 1\nnode 0 blocks 4\n")
+
+    def test_settings_beside_and_in_a_script(self) -> None:
+        script = read_script(str(ROOT / "examples/orders_and_underused.script"))
+        self.assertEqual((script.options.orders, script.options.underused), ((4, 9), (None, 100)))
+        self.assertEqual(script_of("x", "# thpsplit --nodes 3\nsetup\n").options.orders, (9, 9, 9))
+        for words in (["--nodes", "two"], ["--orders", "9,9"], ["--surprise"]):
+            with self.assertRaises(InputFault):
+                options_of(words)
+
+
+class WordsTest(unittest.TestCase):
+    """The tools as they are called; nothing of them wants root."""
+
+    def called(self, *words: str) -> subprocess.CompletedProcess[str]:
+        return subprocess.run([sys.executable, *words], cwd=ROOT, capture_output=True, text=True, timeout=60, check=False)
+
+    def test_help(self) -> None:
+        for tool in ("linux/thpreplay", "linux/thprecord"):
+            done = self.called(tool, "--help")
+            self.assertEqual((done.returncode, done.stderr), (0, ""))
+
+    def test_faults_have_one_line_and_status_2(self) -> None:
+        for words in (["linux/thpreplay"], ["linux/thpreplay", "--random", "3", "--thresholds", "x"],
+                      ["linux/thprecord", "--own", "1,2"], ["linux/thprecord", "--underused", "many"]):
+            done = self.called(*words)
+            self.assertEqual((done.returncode, done.stderr.count("\n"), done.stdout), (2, 1, ""), words)
+
+    def test_without_root_there_is_one_line_and_77(self) -> None:
+        if os.geteuid() == 0:
+            self.skipTest("root")
+        for words in (["linux/thpreplay", "--random", "3"], ["linux/thprecord"]):
+            done = self.called(*words)
+            self.assertEqual((done.returncode, done.stderr.count("\n"), done.stdout), (77, 1, ""), words)
+
+
+class GroupsTest(unittest.TestCase):
+    def test_version_1_is_found_below_ones_own_group(self) -> None:
+        with tempfile.TemporaryDirectory() as folder:
+            os.makedirs(f"{folder}/own")
+            mounts = f"cgroup2 /none cgroup2 rw 0 0\ncgroup {folder} cgroup rw,memory 0 0\n"
+            found = find_hierarchy(mounts, "5:cpu:/other\n4:memory:/own\n0::/\n")
+        self.assertEqual((found.version, found.top), (1, f"{folder}/own"))
+
+    def test_version_2_wants_the_memory_controller(self) -> None:
+        with tempfile.TemporaryDirectory() as folder:
+            controllers = Path(folder, "cgroup.controllers")
+            controllers.write_text("hugetlb\n")
+            mounts = f"cgroup2 {folder} cgroup2 rw 0 0\n"
+            with self.assertRaisesRegex(Unavailable, "no memory controller"):
+                find_hierarchy(mounts, "0::/\n")
+            controllers.write_text("cpu memory\n")
+            self.assertEqual(find_hierarchy(mounts, "0::/\n").version, 2)
+        with self.assertRaisesRegex(Unavailable, "no hierarchy"):
+            find_hierarchy("proc /proc proc rw 0 0\n", "0::/\n")
+
+
+class KeeperTest(unittest.TestCase):
+    """Settings are files and a control group is a folder here: the guardian does to them what it does to the
+    kernel's."""
+
+    def setUp(self) -> None:
+        made = tempfile.TemporaryDirectory()
+        self.addCleanup(made.cleanup)
+        self.folder = Path(made.name)
+        (self.folder / "setting").write_text("old\n")
+        (self.folder / "choice").write_text("always [defer] never\n")
+
+    def assert_as_before(self) -> None:
+        texts = [(self.folder / name).read_text().strip() for name in ("setting", "choice")]
+        self.assertEqual([*texts, (self.folder / "group").exists()], ["old", "defer", False])
+
+    def test_chosen(self) -> None:
+        self.assertEqual((chosen("a [b] c\n"), chosen("12\n")), ("b", "12"))
+
+    def test_an_exception_puts_back(self) -> None:
+        with self.assertRaises(ZeroDivisionError):
+            with Keeper(lock=str(self.folder / "lock")) as keeper:
+                keeper.set(self.folder / "setting", "new")
+                keeper.set(self.folder / "setting", "newer")
+                keeper.set(self.folder / "choice", "madvise")
+                keeper.make_group(self.folder / "group")
+                self.assertEqual((self.folder / "setting").read_text(), "newer")
+                raise ZeroDivisionError
+        self.assert_as_before()
+
+    def test_signals_put_back_and_end_processes(self) -> None:
+        for number in (signal.SIGKILL, signal.SIGTERM, signal.SIGINT):
+            tool = subprocess.run([sys.executable, "-c", KILLED_TOOL, str(self.folder), str(int(number))],
+                                  cwd=ROOT, capture_output=True, text=True, timeout=60, check=False)
+            self.assertNotEqual(tool.returncode, 0)
+            with Keeper(lock=str(self.folder / "lock")):  # waits until the guardian has let the lock go
+                self.assert_as_before()
+            child = int(tool.stdout.split()[0])
+            until = time.monotonic() + 5
+            while alive(child) and time.monotonic() < until:
+                time.sleep(0.01)
+            self.assertFalse(alive(child), f"its process runs on after signal {number}")
+
+    def test_a_stopped_process_runs_on_at_the_end(self) -> None:
+        child = subprocess.Popen(["sleep", "60"])
+        try:
+            with Keeper(lock=str(self.folder / "lock")) as keeper:
+                keeper.stop(child.pid)
+                self.assertEqual(state_of(child.pid, "T"), "T")
+            self.assertEqual(state_of(child.pid, "S"), "S")
+        finally:
+            child.kill()
+            child.wait()
+
+    def test_one_tool_at_a_time(self) -> None:
+        with Keeper(lock=str(self.folder / "lock")):
+            with self.assertRaisesRegex(Unavailable, "another tool"):
+                Keeper(wait=False, lock=str(self.folder / "lock"))
+
+    def test_a_setting_that_is_not_there_is_named(self) -> None:
+        with Keeper(lock=str(self.folder / "lock")) as keeper:
+            with self.assertRaisesRegex(Unavailable, "nothing/here"):
+                keeper.set(self.folder / "nothing/here", 1)
+
+
+def state_of(number: int, wanted: str) -> str:
+    """A process's state (proc(5)), once it is as wanted or a while has gone."""
+    state, until = "", time.monotonic() + 5
+    while state != wanted and time.monotonic() < until:
+        state = Path(f"/proc/{number}/stat").read_text().rsplit(")", 1)[1].split()[0]
+        time.sleep(0.01)
+    return state
+
+
+def alive(number: int) -> bool:
+    try:
+        text = Path(f"/proc/{number}/stat").read_text()
+    except OSError:
+        return False
+    return text.rsplit(")", 1)[1].split()[0] not in ("Z", "X")

@@ -1,0 +1,178 @@
+"""Scripts on the kernel, by stored recordings of one: the generator, the comparison, planted bugs told by name."""
+
+from __future__ import annotations
+
+import dataclasses
+import os
+import random
+import unittest
+from pathlib import Path
+from typing import Callable, List, Tuple
+from unittest import mock
+
+from ..common.counters import Counter, Counts
+from ..common.program import Program, Refused
+from ..common.script import Script, read_script, script_of
+from ..replay.expecting import Differs
+from ..replay.generator import Generator, Shape, scripts
+from ..replay.known import Known
+from ..replay.running import Follower, StoredKernel
+from ..replay.sayings import Unsayable, story_of
+from ..replay.seen import PageSeen, Seen, seen_of
+
+HERE = Path(__file__).resolve().parent
+PLAIN = str(HERE / "plain_program.py")
+
+
+def stored(name: str) -> Tuple[Script, List[Seen]]:
+    script = read_script(str(HERE / f"stored/{name}.script"))
+    return script, [seen_of(line) for line in (HERE / f"stored/{name}.looks").read_text().splitlines()]
+
+
+def followed(script: Script, looks: List[Seen]) -> str:
+    zeros = any(switch is not None for switch in script.options.underused)
+    return Follower().follow(story_of(script, Program(PLAIN)), zeros, StoredKernel(looks))
+
+
+def with_counter(look: Seen, counter: Counter, more: int) -> Seen:
+    machine = {**look.counts.machine, counter: (look.counts.machine[counter] or 0) + more}
+    return dataclasses.replace(look, counts=Counts(machine, look.counts.sizes))
+
+
+class StoredTest(unittest.TestCase):
+    def test_recordings_agree_but_for_the_letters_that_they_show(self) -> None:
+        wanted = {"first": "", "fork": "W", "pins": "F", "underused": "AC", "never": "D", "two_workers": ""}
+        for name, letters in wanted.items():
+            with self.subTest(name):
+                self.assertEqual(followed(*stored(name)), letters)
+
+    def test_looks_are_read_as_they_were_written(self) -> None:
+        for look in stored("fork")[1]:
+            self.assertEqual(seen_of(look.line()), look)
+
+    def spoilt(self, name: str, at: int, spoil: Callable[[Seen], Seen], told: str) -> None:
+        script, looks = stored(name)
+        looks[at] = spoil(looks[at])
+        with self.assertRaisesRegex(Differs, told):
+            followed(script, looks)
+
+    def test_each_thing_compared_is_told_by_name(self) -> None:
+        for counter in Counter:
+            told = "failed" if counter is Counter.SPLIT_FAILED else f"{counter.value}, kernel .*command 4: scan 0 8"
+            self.spoilt("first", 4, lambda look, counter=counter: with_counter(look, counter, 1), told)
+
+    def test_a_map_count_is_told_by_subpage(self) -> None:
+        def spoil(look: Seen) -> Seen:
+            page = look.pages[0, 0]
+            counts = (*page.counts[:300], 2, *page.counts[301:])
+            return dataclasses.replace(look, pages={(0, 0): PageSeen(page.whole, counts, page.mapped)})
+
+        self.spoilt("first", 3, spoil, "map count of page 0 of node 0, subpage 300, kernel 2, thpsplit 1")
+
+    def test_frames_are_told(self) -> None:
+        def fewer(look: Seen) -> Seen:
+            page = look.pages[0, 0]
+            spoilt = PageSeen(page.whole, page.counts, page.mapped & ~(1 << 300))
+            return dataclasses.replace(look, pages={(0, 0): spoilt})
+
+        def broken(look: Seen) -> Seen:
+            page = look.pages[0, 0]
+            return dataclasses.replace(look, pages={(0, 0): PageSeen(511, page.counts, page.mapped)})
+
+        self.spoilt("first", 4, fewer, "frames of page 0 of node 0, kernel 256-299,301-511, thpsplit 256-511")
+        self.spoilt("first", 2, broken, "frames of page 0 of node 0, kernel 511, thpsplit 512")
+
+    def test_the_order_of_a_queue_is_told(self) -> None:
+        script, looks = stored("pins")
+        at = next(i for i, look in enumerate(looks) if len(look.queues[0] or []) == 3)
+        self.spoilt("pins", at, lambda look: dataclasses.replace(look, queues=[(look.queues[0] or [])[::-1]]),
+                    r"queue of node 0, kernel \[2, 1, 0\], thpsplit \[0, 1, 2\]")
+
+    def test_a_strange_frame_in_a_queue_is_told(self) -> None:
+        self.spoilt("first", 3, lambda look: dataclasses.replace(look, queues=[[0, -4096]]), "frame 0x1000")
+
+    def test_queues_that_were_not_read_are_not_compared(self) -> None:
+        script, looks = stored("pins")
+        looks = [dataclasses.replace(look, queues=[None]) for look in looks]
+        self.assertEqual(followed(script, looks), "F")
+
+    def test_statistics_that_a_kernel_lacks_are_not_compared(self) -> None:
+        script, looks = stored("fork")
+        none = Counts({key: None for key in Counter}, {key: None for key in looks[0].counts.sizes})
+        self.assertEqual(followed(script, [dataclasses.replace(look, counts=none) for look in looks]), "W")
+
+
+class PlantedTest(unittest.TestCase):
+    def planted(self, bug: str, name: str, told: str) -> None:
+        script, looks = stored(name)
+        with mock.patch.dict(os.environ, {"PLAIN_BUG": bug}), self.assertRaisesRegex(Differs, told):
+            followed(script, looks)
+
+    def test_an_unmap_that_is_one_short(self) -> None:
+        told = r"map count of page 0 of node 0, subpage 255, kernel 0, thpsplit 1 \(command 3: unmap"
+        self.planted("unmap-short", "first", told)
+
+    def test_a_put_back_at_the_head(self) -> None:
+        self.planted("back-at-head", "pins", r"order of putting back \[0, 1\]")
+
+    def test_a_pinned_page_that_is_split(self) -> None:
+        self.planted("splits-pinned", "pins", "split_failed of a scan")
+
+
+class StoryTest(unittest.TestCase):
+    def setUp(self) -> None:
+        self.program = Program(PLAIN)
+
+    def story(self, text: str) -> Tuple[set, List[str]]:
+        told = story_of(script_of("x", text), self.program)
+        return told.known, [said.answer for said in told.said]
+
+    def test_small_pages_are_not_queued_at_their_fault(self) -> None:
+        known, answers = self.story("# thpsplit --orders 4 --underused 3\nsetup\nalloc 0\ncount 0\nscan 0 8\n")
+        self.assertEqual((known, answers[1]), ({Known.C}, "count 0"))
+
+    def test_511_is_never_and_leaves_the_page_as_it_was(self) -> None:
+        known, answers = self.story("# thpsplit --underused 511\nsetup\nalloc 0\nscan 0 8\ncount 0\nsplitpmd 0 0\n")
+        self.assertEqual(known, {Known.D})
+        self.assertEqual(answers[1:], ["taken 1 split 0 pinned 0 back 0 dropped 0 used 1", "count 0", "ok"])
+
+    def test_a_page_that_only_a_pin_holds_ends_too(self) -> None:
+        self.story("# thpsplit --underused 511\nsetup\nalloc 0\npin 0 0\nunmapwhole 0 0\nscan 0 8\n")
+
+    def test_a_batch_tried_to_its_end_is_a_scan(self) -> None:
+        text = "setup\nalloc 0\nsplitpmd 0 0\nunmap 0 0 0 8\ntake 0 8\nsplitnext 0\nsplitnext 0\nputback 0\n"
+        told = story_of(script_of("x", text), self.program).said
+        self.assertEqual([said.words[0] for said in told], ["alloc", "splitpmd", "unmap", "scan"])
+        open_batch = story_of(script_of("x", text.replace("splitnext 0\nputback 0\n", "count 0\n")), self.program).said
+        self.assertIn("take", [said.words[0] for said in open_batch])
+
+    def test_workers_that_share_a_node_are_not_said(self) -> None:
+        with self.assertRaisesRegex(Unsayable, "share a node"):
+            self.story("# thpsplit --workers 2\nsetup\nalloc 0\nworker 1\ncount 0\nworker 2\ncount 0\n")
+
+    def test_a_fault_is_told_by_the_program(self) -> None:
+        program = mock.Mock(path="x")
+        program.answers.side_effect = Refused("thpsplit: line 2: bad-count")
+        with self.assertRaisesRegex(Refused, "bad-count"):
+            story_of(script_of("x", "setup\nalloc\n"), program)
+
+
+class GeneratorTest(unittest.TestCase):
+    def test_a_seed_has_its_scripts_whatever_the_count(self) -> None:
+        shape = Shape(thresholds=("off", "100"))
+        few, many = list(scripts(3, 9, shape)), list(scripts(6, 9, shape))
+        self.assertEqual([script.text for script in few], [script.text for script in many[:3]])
+        self.assertEqual(len({script.text for script in many}), 6)
+
+    def test_most_commands_can_be_done(self) -> None:
+        done = refused = 0
+        for k in range(8):
+            script = Generator(random.Random(k), Shape(orders=(4, 5), length=30)).script("x")
+            for said in story_of(script, Program(PLAIN)).said:
+                done, refused = done + (not said.refused), refused + said.refused
+        self.assertGreater(done, 5 * refused)
+
+    def test_every_command_is_drawn(self) -> None:
+        words = {line.split()[0] for script in scripts(60, 1, Shape()) for line in script.text.splitlines()[2:]}
+        self.assertEqual(words, {"alloc", "mapwhole", "unmapwhole", "map", "unmap", "splitpmd", "pin", "unpin", "write",
+                                 "zero", "scan", "count", "take", "splitnext", "putback"})

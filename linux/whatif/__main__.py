@@ -1,0 +1,5 @@
+"""python3 -m linux.whatif"""
+
+from .program import main
+
+main()

@@ -1,0 +1,79 @@
+"""What only the kernel's own structures tell of a huge page: whether it stands in a deferred split queue and where,
+whether it is flagged as partly mapped, how often it is mapped by PMD entries, how often it is pinned.
+
+Rules: include/linux/mm_types.h (struct folio), include/linux/page-flags.h (PG_partially_mapped of the second page),
+mm/huge_memory.c (folio_expected_ref_count: a reference for each mapping; any more are pins).
+"""
+
+from __future__ import annotations
+
+import struct
+from dataclasses import dataclass
+from typing import Dict, List
+
+from ..common.btf import Types
+from ..common.errors import Unavailable
+from ..common.kernel_memory import KernelMemory
+from .folios import Folio
+
+HEADS = 4  # struct pages that a struct folio lies over
+
+
+@dataclass(frozen=True)
+class FolioFields:
+    """Offsets in struct folio, and the bit of the flags of its second page."""
+
+    references: int
+    flags: int
+    entire: int
+    large: int
+    link: int
+    partly: int
+
+    @staticmethod
+    def of(types: Types) -> FolioFields:
+        """By this kernel's types. Raises Unavailable where a field is missing (before Linux 6.12)."""
+        return FolioFields(
+            types.offset("folio", "_refcount"),
+            types.offset("folio", "_flags_1"),
+            types.offset("folio", "_entire_mapcount"),
+            types.offset("folio", "_large_mapcount"),
+            types.offset("folio", "_deferred_list", "struct list_head"),
+            1 << types.enumerator("PG_partially_mapped"),
+        )
+
+
+class Queues:
+    """Reads the kernel's structures. Raises Unavailable where this machine doesn't let one."""
+
+    def __init__(self, memory: KernelMemory) -> None:
+        self._memory = memory
+        self._fields = FolioFields.of(memory.types)
+        memory.queue_fields()
+        self._start, self._size = memory.vmemmap()
+
+    def look(self, folio: Folio) -> bool:
+        """Fills in what the structures say of a page; answers whether it is still in use."""
+        address, at = self._start + self._size * folio.frame, self._fields
+        raw = self._memory.read(address, HEADS * self._size)
+        references, entire, large = (struct.unpack_from("<i", raw, o)[0] for o in (at.references, at.entire, at.large))
+        flags, following = (struct.unpack_from("<Q", raw, o)[0] for o in (at.flags, at.link))
+        folio.is_queued = folio.order > 1 and following != address + at.link
+        folio.is_partly = bool(flags & at.partly)
+        folio.whole = entire + 1
+        folio.pins = references - (large + 1) - (folio.size if folio.is_swap_cached else 0)
+        return references > 0
+
+    def places(self, groups: List[int]) -> Dict[int, int]:
+        """The place in its queue of each queued page of these control groups (inodes), by frame. A queue that changes
+        all the time, and a group that has gone, are left out: their pages then stand in no order."""
+        out: Dict[int, int] = {}
+        addresses = self._memory.groups()
+        for inode in groups:
+            if inode in addresses:
+                try:
+                    frames = self._memory.queue_frames(addresses[inode])
+                except Unavailable:
+                    continue
+                out.update({frame: place for place, frame in enumerate(frames)})
+        return out

@@ -1,0 +1,30 @@
+"""A plain judge of what a reclaim that drains the queues does to one huge page.
+
+It is a direct reading of the kernel's functions, shares no code with the scripts or with thpsplit, and is what
+`verify` lays beside both: mm/huge_memory.c (deferred_split_scan, thp_underused, split_folio), mm/migrate.c
+(try_to_map_unused_to_zeropage).
+"""
+
+from __future__ import annotations
+
+from typing import List, Optional
+
+from .folios import Folio
+
+
+def given_back(folio: Folio, max_ptes_none: int) -> Optional[List[bool]]:
+    """For each subpage whether its frame comes back; None where the page isn't split."""
+    size = 2**folio.order
+    is_zero = [bool(folio.zero >> i & folio.known >> i & 1) for i in range(size)]
+    is_kept = [bool(folio.kept >> i & 1) or folio.is_locked for i in range(size)]
+    is_mapped = [total > 0 for total in folio.totals]
+    if not any(is_mapped):
+        return None
+    if not folio.is_partly:
+        if not folio.is_queued or folio.is_locked or folio.is_poisoned:
+            return None
+        if max_ptes_none == 511 or sum(is_zero) <= max_ptes_none:
+            return None
+    if folio.pins:
+        return None
+    return [not is_mapped[i] or (is_zero[i] and not is_kept[i]) for i in range(size)]

@@ -1,0 +1,163 @@
+"""Says a huge page as commands of a script, so that the model's page is then what the kernel's page is.
+
+What the kernel does otherwise than the model is said by the script, too, and not by a correction of numbers:
+
+* A page that stands in no queue (an earlier scan found it in use, it was faulted with shrink_underused off, its order
+  is below 9, it is locked or poisoned) is allocated, filled with data, and scanned before all others: the model finds
+  it in use and drops it, as the kernel did (mm/huge_memory.c: deferred_split_scan, deferred_split_folio).
+* A split drops zero-filled subpages that are mapped, but those in locked VMAs (mm/migrate.c:
+  try_to_map_unused_to_zeropage): on a partly mapped page their zeros are said as data.
+* With max_ptes_none 511 no page counts as underused (mm/huge_memory.c: thp_underused): each page that isn't partly
+  mapped is written before the shrinker runs (`fill`).
+"""
+
+from __future__ import annotations
+
+import enum
+from dataclasses import dataclass
+from typing import List
+
+from ..common.files import PMD_ORDER
+from ..common.subpages import size
+from .folios import Folio, runs
+
+LEVELS = 32  # map counts and pins beyond this are said as this many: more change no answer
+
+
+class Reason(enum.Enum):
+    """Why no script says a page."""
+
+    HOLES_UNFLAGGED = "huge pages with an unmapped subpage that the kernel has not as partly mapped"
+    UNMAPPED = "huge pages that were no longer mapped"
+    ZEROS_STAY = "underused huge pages in locked areas: their zeros count, and a split leaves them"
+
+
+class Unsayable(Exception):
+    """No script says this page."""
+
+    def __init__(self, reason: Reason) -> None:
+        super().__init__(reason.value)
+        self.reason = reason
+
+
+@dataclass
+class Said:
+    """A page with what a script says of it."""
+
+    folio: Folio
+    whole: int  # PMD mappings
+    levels: List[int]  # the subpages with at least 1, 2, .. PTE mappings
+    is_partly: bool
+    has_holes: bool
+    is_standing: bool  # in the queue
+    is_capped: bool  # counts beyond LEVELS
+
+
+def prepare(folio: Folio) -> Said:
+    """What is to be said of a page. Raises Unsayable."""
+    whole = folio.whole_seen if folio.whole is None else folio.whole
+    highest = max(folio.totals) - whole
+    levels = levels_of(folio.totals, whole, min(highest, LEVELS))
+    if not whole and not levels:
+        raise Unsayable(Reason.UNMAPPED)
+    has_holes = not whole and levels[0] != folio.full
+    is_partly = has_holes if folio.is_partly is None else folio.is_partly
+    if has_holes and not is_partly:
+        raise Unsayable(Reason.HOLES_UNFLAGGED)
+    is_queued = folio.order == PMD_ORDER if folio.is_queued is None else folio.is_queued
+    is_standing = is_partly or (is_queued and not folio.is_locked and not folio.is_poisoned)
+    if is_standing and not is_partly and folio.zeros & folio.kept:
+        raise Unsayable(Reason.ZEROS_STAY)
+    is_capped = max(highest, whole, folio.pins or 0) > LEVELS
+    return Said(folio, min(whole, LEVELS), levels, is_partly, has_holes, is_standing, is_capped)
+
+
+def levels_of(totals: List[int], whole: int, highest: int) -> List[int]:
+    """For 1 to `highest` the subpages that are mapped at least so often beside `whole` PMD mappings."""
+    if min(totals) == max(totals):
+        return [(1 << len(totals)) - 1] * max(highest, 0)
+    digits = [
+        "".join("1" if total - whole >= level else "0" for total in reversed(totals)) for level in range(1, highest + 1)
+    ]
+    return [int(digit, 2) for digit in digits]
+
+
+def ranges(word: str, node: int, page: int, subset: int) -> List[str]:
+    """One command for each run of a set."""
+    return [f"{word} {node} {page} {first} {count}" for first, count in runs(subset)]
+
+
+def begin(said: Said, node: int, page: int) -> List[str]:
+    """The commands of a page that stands in no queue, before the scan that drops it."""
+    return [f"alloc {node}", f"write {node} {page} 0 {said.folio.size}"]
+
+
+def content(said: Said, node: int, page: int) -> List[str]:
+    """Which subpages are zero-filled; for a page that stands in the queue its allocation too."""
+    zero = said.folio.zeros
+    if said.is_partly:
+        zero = 0 if said.folio.is_locked else zero & ~said.folio.kept
+    if not said.is_standing:
+        return ranges("zero", node, page, zero)
+    return [f"alloc {node}"] + ranges("write", node, page, said.folio.full & ~zero)
+
+
+def mappings(said: Said, node: int, page: int) -> List[str]:
+    """Map counts, from the one PMD mapping that an allocation has. What is unmapped comes last."""
+    out: List[str] = []
+    pages, by_ptes = said.folio.size, 0  # how often each subpage is mapped by PTEs so far
+    if said.is_partly and not said.has_holes:  # it was partly mapped once, and is mapped whole again
+        out += [f"splitpmd {node} {page}", f"unmap {node} {page} 0 1", f"map {node} {page} 0 1"]
+        by_ptes = 1
+        if said.whole:
+            out += [f"mapwhole {node} {page}", f"unmap {node} {page} 0 {pages}"]
+            by_ptes = 0
+    elif not said.whole:
+        out.append(f"splitpmd {node} {page}")
+        by_ptes = 1
+    out += [f"mapwhole {node} {page}"] * (said.whole - 1)
+    for subset in said.levels[by_ptes:]:
+        out += ranges("map", node, page, subset)
+    if by_ptes:
+        out += ranges("unmap", node, page, said.folio.full & ~said.levels[0])
+    return out
+
+
+def pins(said: Said, node: int, page: int) -> List[str]:
+    """The pins, of which one alone keeps a page from being split."""
+    return [f"pin {node} {page}"] * min(max(said.folio.pins or 0, 0), LEVELS)
+
+
+def state(said: Said, node: int, page: int) -> List[str]:
+    """A page's comment line and all its commands, but those of `begin`."""
+    return [tell(said, node, page)] + content(said, node, page) + mappings(said, node, page) + pins(said, node, page)
+
+
+def tell(said: Said, node: int, page: int) -> str:
+    """The comment line of a page. `by`: processes with how many PMD mappings each has of it."""
+    folio = said.folio
+    words = [f"# page {node} {page} frame {folio.frame} zero {size(folio.zeros)} pmd {said.whole}"]
+    if said.has_holes:
+        words.append(f"unmapped {folio.size - size(said.levels[0] if said.levels else 0)}")
+    if folio.known != folio.full:
+        words.append(f"unread {folio.size - size(folio.known)}")
+    if folio.pins:
+        words.append(f"pins {folio.pins}")
+    by = {}
+    for mapping in folio.mappings:
+        by[mapping.process] = by.get(mapping.process, 0) + mapping.by_pmd
+    if by:
+        words.append("by " + ",".join(f"{process}:{count}" for process, count in by.items()))
+    marks = {
+        "partly": said.is_partly,
+        "unqueued": not said.is_standing,
+        "locked": folio.is_locked,
+        "poisoned": folio.is_poisoned,
+        "capped": said.is_capped,
+    }
+    return " ".join(words + [mark for mark, stands in marks.items() if stands])
+
+
+def fill(node: int, page: int, size: int) -> str:
+    """Puts a page in full use, before the shrinker runs: it isn't split as underused."""
+    return f"write {node} {page} 0 {size}"

@@ -1,0 +1,290 @@
+"""A look at the huge pages of processes: what was seen, the scripts that say it, and what was left out and why."""
+
+from __future__ import annotations
+
+import json
+import os
+import sys
+import time
+from collections import Counter
+from dataclasses import dataclass, field
+from typing import Any, Dict, List, Optional
+
+from ..common.errors import InputFault, Unavailable
+from ..common.files import BASE, PMD_ORDER, PTES_NONE, SWITCH, read
+from ..common.kernel_memory import KernelMemory
+from .folios import Folio
+from .processes import Choice, anonymous_huge, group_names, held, machine_huge, name_of
+from .queues import Queues
+from .reading import MOVED, Progress, Reader
+from .saying import Said, Unsayable, prepare
+from .scripts import Script, write_scripts
+
+VERSION = 1  # of what `Snapshot.to_json` makes
+FREED = "huge pages that were freed while they were read"
+
+
+@dataclass(frozen=True)
+class How:
+    """How a look is taken."""
+
+    freeze: bool = False  # hold the processes meanwhile
+    with_small: bool = False  # huge pages below PMD size too
+    with_kernel: bool = True  # queues, flags and pins by BPF
+    all_queued: bool = False  # as if each page of PMD size still stood in its queue
+    threads: int = 0
+
+
+@dataclass
+class Sums:
+    """Huge pages of PMD size, in bytes: ours beside the kernel's own."""
+
+    by_pmd: int = 0  # what the processes map by PMD entries, by our walk
+    kernel: int = 0  # the same by AnonHugePages of smaps_rollup
+    by_parts: int = 0  # pages that no process looked at maps by a PMD entry
+    machine: Optional[int] = None  # AnonHugePages of /proc/meminfo, where all processes were looked at
+    distinct: int = 0  # pages that are mapped by a PMD entry, each once
+
+
+@dataclass
+class Snapshot:
+    """What was seen at one look."""
+
+    folios: List[Folio]
+    processes: Dict[int, str]  # names of those that map huge pages
+    left_out: Counter[str]
+    names: Dict[int, str] = field(default_factory=dict)  # of control groups, by inode
+    chosen: str = ""
+    looked_at: int = 0
+    held: int = 0
+    lacking: str = ""  # why the kernel's structures weren't read
+    others: int = 0  # anonymous base pages that aren't huge
+    sums: Sums = field(default_factory=Sums)
+    today: Optional[int] = None  # max_ptes_none of the machine
+    switch: Optional[bool] = None  # shrink_underused
+    kernel: str = ""
+    at: str = ""
+    sampled: int = 0  # pages that were read twice
+    changed: int = 0  # of these, how many had changed
+    seconds: float = 0.0
+    spent: Dict[str, float] = field(default_factory=dict)
+
+    def to_json(self) -> Dict[str, Any]:
+        """As a JSON object, from which `from_json` makes the same scripts."""
+        out = dict(vars(self))
+        out.update(version=VERSION, folios=[folio.to_json() for folio in self.folios], sums=vars(self.sums))
+        return out
+
+    def head(self) -> List[str]:
+        """The comments of its scripts."""
+        lines = [f"snapshot of {self.chosen}: {self.looked_at} processes, {self.at}, {self.kernel}"]
+        lines += told(self)
+        if self.today is not None:
+            lines.append(f"today max_ptes_none {self.today} shrink_underused {int(bool(self.switch))}")
+        lines += [f"left out: {count} {why}" for why, count in sorted(self.left_out.items()) if count]
+        lines += [f"process {number} {name}" for number, name in sorted(self.processes.items())]
+        return lines
+
+
+def from_json(text: str, name: str) -> Snapshot:
+    """A stored snapshot. Raises InputFault where the text isn't one."""
+    try:
+        values = json.loads(text)
+        if values.pop("version") != VERSION:
+            raise InputFault(f"{name}: a snapshot of another version than {VERSION}")
+        values["folios"] = [Folio.from_json(folio) for folio in values["folios"]]
+        values["sums"] = Sums(**values["sums"])
+        values["left_out"] = Counter(values["left_out"])
+        for key in ("processes", "names"):
+            values[key] = {int(number): word for number, word in values[key].items()}
+        return Snapshot(**values)
+    except (KeyError, TypeError, ValueError, AttributeError, IndexError) as error:
+        raise InputFault(f"{name}: this is no stored snapshot ({type(error).__name__}: {error})") from error
+
+
+@dataclass
+class Scripts:
+    """The scripts of a snapshot, and what each page of them is."""
+
+    scripts: List[Script]
+    pages: List[List[List[Said]]]  # by script, node, number
+
+
+def write(snapshot: Snapshot) -> Scripts:
+    """Says a snapshot's pages as scripts. What no script says is counted in `left_out`."""
+    said: List[Said] = []
+    for folio in snapshot.folios:
+        try:
+            said.append(prepare(folio))
+        except Unsayable as why:
+            snapshot.left_out[why.reason.value] += 1
+    made = list(write_scripts(said, snapshot.head(), snapshot.names))
+    return Scripts([script for script, _ in made], [pages for _, pages in made])
+
+
+def told(snapshot: Snapshot) -> List[str]:
+    """What a reader of the numbers should know, a line each."""
+    whole = [folio for folio in snapshot.folios if folio.order == PMD_ORDER]
+    size = sum(BASE << folio.order for folio in snapshot.folios)
+    sums, lines = snapshot.sums, []
+    lines.append(
+        f"{len(snapshot.folios)} huge pages ({len(whole)} of PMD size), {mebibytes(size)} MiB, "
+        f"of {len(snapshot.processes)} processes; {mebibytes(snapshot.others * BASE)} MiB of other anonymous pages"
+    )
+    lines.append(
+        f"mapped by PMD entries: {mebibytes(sums.by_pmd)} MiB, by the kernel's own count (AnonHugePages) "
+        f"{mebibytes(sums.kernel)} MiB; mapped by parts alone: {mebibytes(sums.by_parts)} MiB"
+    )
+    if sums.machine is not None:
+        lines.append(
+            f"whole machine, each page once: {mebibytes(sums.distinct)} MiB, "
+            f"by the kernel's own count {mebibytes(sums.machine)} MiB"
+        )
+    if snapshot.lacking:
+        guess = "a guess, each page is taken as queued and not pinned"
+        lines.append(f"queues and pins weren't read ({snapshot.lacking}): {guess}")
+    else:
+        counts = Counter({"queued": 0, "partly mapped": 0, "pinned": 0, "locked": 0})
+        for folio in snapshot.folios:
+            counts["queued"] += bool(folio.is_queued)
+            counts["partly mapped"] += bool(folio.is_partly)
+            counts["pinned"] += bool(folio.pins)
+            counts["locked"] += folio.is_locked
+        lines.append(", ".join(f"{what} {count}" for what, count in counts.items()))
+    unread = sum(1 for folio in snapshot.folios if mapped(folio) & ~folio.known)
+    lines += [f"with subpages that couldn't be read, taken as data: {unread}"] if unread else []
+    lines.append("held still meanwhile" if snapshot.held else "not held: each subpage was so at some moment")
+    return lines + warnings(snapshot)
+
+
+def warnings(snapshot: Snapshot) -> List[str]:
+    """Why the numbers may be off: pages changed while they were read."""
+    if not snapshot.changed:
+        return []
+    return [
+        f"WARNING: {snapshot.changed} of {snapshot.sampled} huge pages that were read twice had changed meanwhile; "
+        "the numbers are of a moving picture" + ("" if snapshot.held else " (--freeze holds it still)")
+    ]
+
+
+def mapped(folio: Folio) -> int:
+    """The subpages that the processes looked at map."""
+    out = 0
+    for mapping in folio.mappings:
+        out |= mapping.subset
+    return out
+
+
+def mebibytes(size: int) -> str:
+    """Bytes as MiB, with one digit behind the point."""
+    return f"{size / 2**20:.1f}"
+
+
+def setting() -> Dict[str, Any]:
+    """Today's threshold and switch; None where this kernel hasn't them."""
+    try:
+        switch = bool(int(read(SWITCH)))
+    except (OSError, ValueError):
+        switch = None
+    try:
+        return {"today": int(read(PTES_NONE)), "switch": switch}
+    except (OSError, ValueError):
+        return {"today": None, "switch": switch}
+
+
+class Taker:
+    """Takes snapshots; the kernel's types are read once for all of them."""
+
+    def __init__(self, how: How, progress: Optional[Progress] = None) -> None:
+        self.how, self._progress = how, progress or (lambda what, done, of: None)
+        self._queues, self._lacking = None, "not asked for"
+        if how.with_kernel:
+            try:
+                self._queues, self._lacking = Queues(KernelMemory()), ""
+            except (Unavailable, OSError) as error:
+                self._lacking = str(error).splitlines()[0]
+
+    def take(self, choice: Choice) -> Snapshot:
+        """Looks once. A process that can't be read, or ends meanwhile, is counted in what was left out."""
+        began = time.monotonic()
+        wanted = choice.find()
+        reader = Reader(self.how.with_small, self.how.threads, self._progress)
+        try:
+            with held(wanted, choice.groups, self.how.freeze) as count:
+                sums = self._walk(reader, wanted)
+                reader.read_counts()
+                reader.read_zeros()
+                self._look(reader)
+                reader.check_again()
+                sampled, changed = reader.read_sample_again()
+            snapshot = self._gather(reader, choice, sums)
+        finally:
+            reader.close()
+        snapshot.looked_at, snapshot.held = len(wanted), count
+        snapshot.sampled, snapshot.changed = sampled, changed
+        snapshot.seconds = time.monotonic() - began
+        return snapshot
+
+    def _walk(self, reader: Reader, wanted: List[int]) -> Sums:
+        """Page tables of all processes."""
+        sums = Sums()
+        for done, process in enumerate(wanted, 1):
+            name = name_of(process)
+            try:
+                reader.add(process)
+                if reader.by_pmd[process]:
+                    sums.kernel += anonymous_huge(process)
+            except OSError as error:
+                reason = "it ended" if isinstance(error, (FileNotFoundError, ProcessLookupError)) else error.strerror
+                reader.left_out[f"process {process} ({name}): {reason}"] += 1
+            self._progress("walking page tables", done, len(wanted))
+        return sums
+
+    def _look(self, reader: Reader) -> None:
+        """What the kernel's own structures say."""
+        if not self._queues:
+            return
+        began = time.monotonic()
+        for folio in list(reader.folios.values()):
+            if not self._queues.look(folio):
+                reader.left_out[FREED] += 1
+                del reader.folios[folio.frame]
+        places = self._queues.places(sorted({folio.cgroup for folio in reader.folios.values()}))
+        for folio in reader.folios.values():
+            folio.place = places.get(folio.frame)
+            if self.how.all_queued and folio.order == PMD_ORDER:
+                folio.is_queued = True
+        reader.spent["queues"] += time.monotonic() - began
+
+    def _gather(self, reader: Reader, choice: Choice, sums: Sums) -> Snapshot:
+        folios = [reader.folios[frame] for frame in sorted(reader.folios)]
+        numbers = sorted({mapping.process for folio in folios for mapping in folio.mappings})
+        page = BASE << PMD_ORDER
+        sums.by_pmd = sum(reader.by_pmd.values()) * page
+        sums.distinct = sum(page for folio in folios if folio.order == PMD_ORDER and folio.whole_seen)
+        sums.by_parts = sum(page for folio in folios if folio.order == PMD_ORDER and not folio.whole_seen)
+        sums.machine = machine_huge() if choice.everything else None
+        return Snapshot(
+            folios=folios,
+            processes={number: name_of(number) for number in numbers},
+            left_out=reader.left_out,
+            names=group_names(),
+            chosen=choice.told(),
+            lacking=self._lacking,
+            others=reader.others,
+            sums=sums,
+            kernel=f"Linux {os.uname().release}",
+            at=time.strftime("%Y-%m-%dT%H:%M:%SZ", time.gmtime()),
+            spent=dict(reader.spent),
+            **setting(),
+        )
+
+
+def moved(snapshot: Snapshot) -> int:
+    """How many huge pages changed while they were read."""
+    return snapshot.left_out[MOVED] + snapshot.left_out[FREED]
+
+
+def show_progress(what: str, done: int, of: int) -> None:
+    """A line on a terminal that is written over; see `Progress`."""
+    print(f"\r{what}: {done} of {of}\033[K", end="\n" if done == of else "", file=sys.stderr, flush=True)

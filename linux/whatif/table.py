@@ -1,0 +1,100 @@
+"""Predictions as tables for people and as JSON for programs."""
+
+from __future__ import annotations
+
+from typing import Any, Dict, List, Optional, Sequence
+
+from .predict import Row, Share, label
+
+HEAD = ("threshold", "pages split", "partly mapped", "underused", "pinned", "frames back", "MiB back", "pages kept")
+FRAMES_A_MEBIBYTE = 256
+
+
+def aligned(lines: Sequence[Sequence[object]], left: int = 0) -> str:
+    """Lines of cells, right-aligned but for the first `left` columns."""
+    texts = [[str(cell) for cell in line] for line in lines]
+    widths = [max(len(line[column]) for line in texts) for column in range(len(texts[0]))]
+    out = []
+    for line in texts:
+        cells = [c.ljust(w) if i < left else c.rjust(w) for i, (c, w) in enumerate(zip(line, widths))]
+        out.append("  ".join(cells).rstrip())
+    return "\n".join(out)
+
+
+def table(rows: Sequence[Row], today: Optional[int] = None) -> str:
+    """A line for each threshold; the machine's own is marked."""
+    lines: List[List[object]] = [[*HEAD, ""]]
+    for row in rows:
+        cells = [label(row.threshold), row.split, row.partly, row.underused, row.pinned, row.frames]
+        mark = "<- today" if row.threshold == today else ""
+        lines.append([*cells, f"{row.mebibytes:.1f}", row.kept, mark])
+    return aligned(lines)
+
+
+def group_table(groups: Dict[str, List[Row]]) -> str:
+    """A line for each control group: its huge pages, then MiB back by threshold; most pages first."""
+    first = next(iter(groups.values()), [])
+    lines: List[List[object]] = [["control group", "pages"] + [label(row.threshold) for row in first]]
+    for name, rows in sorted(groups.items(), key=lambda item: (-item[1][0].pages, item[0])):
+        lines.append([name, rows[0].pages] + [f"{row.mebibytes:.1f}" for row in rows])
+    return "MiB back by control group:\n" + aligned(lines, 1)
+
+
+def process_table(shares: Dict[int, Dict[int, Share]], names: Dict[int, str]) -> str:
+    """A line for each process: its huge pages, then MiB back by threshold; most pages first. `shares`: by threshold."""
+    lines: List[List[object]] = [["process", "name", "pages"] + [label(threshold) for threshold in shares]]
+    first = next(iter(shares.values()), {})
+    for process in sorted(first, key=lambda number: (-first[number].pages, number)):
+        frames = [each[process].frames if process in each else 0 for each in shares.values()]
+        cells = [f"{count / FRAMES_A_MEBIBYTE:.1f}" for count in frames]
+        lines.append([str(process), names.get(process, "?"), first[process].pages] + cells)
+    return "MiB back by process (a shared page counts once):\n" + aligned(lines, 2)
+
+
+def cost_table(shares: Dict[int, Share], names: Dict[int, str]) -> str:
+    """What a threshold costs: huge mappings lost by each process, most first."""
+    lines: List[List[object]] = [["process", "name", "huge mappings lost", "pages split", "MiB back"]]
+    for process, share in sorted(shares.items(), key=lambda item: (-item[1].lost, item[0])):
+        if share.lost or share.split:
+            back = f"{share.frames / FRAMES_A_MEBIBYTE:.1f}"
+            lines.append([str(process), names.get(process, "?"), share.lost, share.split, back])
+    return aligned(lines, 2)
+
+
+def last_line(left_out: Dict[str, int]) -> str:
+    """What was left out, in one line: how much, and why."""
+    some = {why: count for why, count in left_out.items() if count}
+    if not some:
+        return "left out: nothing"
+    ordered = sorted(some.items(), key=lambda item: (-item[1], item[0]))
+    parts = [why if why.startswith("process ") else f"{count} {why}" for why, count in ordered]
+    more = f"; {len(parts) - 4} more (--json has them)" if len(parts) > 4 else ""
+    return "left out: " + "; ".join(parts[:4]) + more
+
+
+def row_json(row: Row, today: Optional[int]) -> Dict[str, Any]:
+    """A row as a JSON object."""
+    return {
+        "threshold": label(row.threshold) if label(row.threshold) == "off" else row.threshold,
+        "today": row.threshold == today,
+        "pages": row.pages,
+        "split": row.split,
+        "partly_mapped": row.partly,
+        "underused": row.underused,
+        "pinned": row.pinned,
+        "frames_back": row.frames,
+        "mebibytes_back": round(row.mebibytes, 3),
+        "kept": row.kept,
+    }
+
+
+def share_json(process: int, name: str, share: Share) -> Dict[str, Any]:
+    """A process's share as a JSON object."""
+    return {
+        "process": process,
+        "name": name,
+        "pages": share.pages,
+        "split": share.split,
+        "frames_back": share.frames,
+        "huge_mappings_lost": share.lost,
+    }

@@ -1,0 +1,21 @@
+"""Runs all tests of this folder; the last line is `N passed, M failed`. A line tells how many were skipped, and why."""
+
+import sys
+import unittest
+from pathlib import Path
+
+
+def main() -> int:
+    """Status 1 where a test failed."""
+    here = Path(__file__).resolve().parent
+    suite = unittest.defaultTestLoader.discover(str(here), "test_*.py", str(here.parent.parent.parent))
+    result = unittest.TextTestRunner(verbosity=1).run(suite)
+    failed = len(result.failures) + len(result.errors) + len(result.unexpectedSuccesses)
+    for reason in sorted({reason for _, reason in result.skipped}):
+        count = sum(1 for _, why in result.skipped if why == reason)
+        print(f"{count} not run: {reason}")
+    print(f"{result.testsRun - failed - len(result.skipped)} passed, {failed} failed")
+    return 1 if failed else 0
+
+
+sys.exit(main())

@@ -1,0 +1,134 @@
+"""Is the machine as before? Root, huge pages and thpsplit wanted: python3 -m linux.whatif.tests.ends [MOMENTS]
+
+1. 16 huge pages that a fork shares: after `now` and `now --freeze` their frames and map counts are the same.
+2. `verify` and `now --freeze` are sent SIGINT, SIGTERM and SIGKILL at so many moments (10): afterwards each setting
+has its    former value, no control group of ours is left, and no process is stopped.
+
+The last line is `N passed, M failed`.
+"""
+
+from __future__ import annotations
+
+import ctypes
+import mmap
+import os
+import signal
+import subprocess
+import sys
+import time
+from pathlib import Path
+from typing import Dict, List, Tuple
+
+from ...common.errors import Unavailable
+from ...common.files import BASE, COLLAPSE_SLEEP, PTES_NONE, SWITCH, read, size_folder
+from ...common.groups import find_hierarchy
+from ...common.keeper import Keeper
+from ...common.page_files import Frames, frames_at
+
+PROGRAM = Path(__file__).resolve().parent.parent / "thpwhatif"
+HUGE, PAGES = BASE * 512, 16
+COUNTERS = ("thp_split_page", "thp_split_pmd", "thp_migration_success", "pgmigrate_success")
+SETTINGS = [SWITCH, PTES_NONE, COLLAPSE_SLEEP, f"{size_folder(4)}/enabled", f"{size_folder(6)}/enabled"]
+
+
+def settings() -> Dict[str, str]:
+    """What verify sets, as it is. Read under the lock: another tool may have set it for a while."""
+    with Keeper():
+        return {path: read(path) for path in SETTINGS}
+
+
+def groups() -> List[str]:
+    """Control groups that verify left."""
+    top = find_hierarchy().top
+    return [name for name in os.listdir(top) if name.startswith("thpwhatif-")]
+
+
+def shared_pages() -> Tuple[mmap.mmap, int, int]:
+    """Huge pages that a child maps, too: the memory, the address of the first page, the child."""
+    memory = mmap.mmap(-1, (PAGES + 1) * HUGE, flags=mmap.MAP_PRIVATE | mmap.MAP_ANONYMOUS)
+    memory.madvise(14)  # MADV_HUGEPAGE
+    start = -(-ctypes.addressof(ctypes.c_char.from_buffer(memory)) // HUGE) * HUGE
+    for page in range(PAGES):
+        ctypes.memset(start + page * HUGE, page, 100)
+    child = os.fork()
+    if child == 0:
+        signal.pause()
+        os._exit(0)
+    return memory, start, child
+
+
+def look_at(start: int) -> List[object]:
+    """Frames and map counts of the shared pages."""
+    frames, out = Frames(), []
+    for page in range(PAGES):
+        first = frames_at(os.getpid(), start + page * HUGE, 512)
+        out.append((first, frames.counts(first[0], 512) if first[0] else None))
+    frames.close()
+    return out
+
+
+def counters() -> Dict[str, int]:
+    """Splits and migrations of the whole machine."""
+    lines = dict(line.split() for line in read("/proc/vmstat").splitlines())
+    return {name: int(lines.get(name, 0)) for name in COUNTERS}
+
+
+def check_shared() -> List[bool]:
+    """Whether looking leaves shared pages as they are. The counters are told, since others move them too."""
+    memory, start, child = shared_pages()
+    out = []
+    for words in ([], ["--freeze"]):
+        before, then = look_at(start), counters()
+        subprocess.run([str(PROGRAM), "now", "--pid", str(child), *words], stdout=subprocess.DEVNULL, check=True)
+        moved = {name: count - then[name] for name, count in counters().items()}
+        out.append(look_at(start) == before)
+        verdict = "the same" if out[-1] else "CHANGED"
+        print(f"16 shared pages, now {' '.join(words)}: {verdict}; counters {moved}", flush=True)
+    os.kill(child, signal.SIGKILL)
+    os.waitpid(child, 0)
+    del memory
+    return out
+
+
+def check_end(words: List[str], sent: signal.Signals, wait: float, former: Dict[str, str]) -> bool:
+    """Whether all is as before after a signal at a moment."""
+    sleeper = subprocess.Popen(["sleep", "600"])
+    filled = [word.replace("SLEEPER", str(sleeper.pid)) for word in words]
+    tool = subprocess.Popen([str(PROGRAM), *filled], stdout=subprocess.DEVNULL, stderr=subprocess.DEVNULL)
+    time.sleep(wait)
+    tool.send_signal(sent)
+    tool.wait()
+    until = time.monotonic() + 30
+    same = False
+    while not same and time.monotonic() < until:
+        state = read(f"/proc/{sleeper.pid}/stat").rsplit(")", 1)[1].split()[0]
+        same = settings() == former and not groups() and state == "S"
+        time.sleep(0.05)
+    sleeper.kill()
+    sleeper.wait()
+    return same
+
+
+def main() -> int:
+    """Runs both parts."""
+    moments = int(sys.argv[1]) if len(sys.argv) > 1 else 10
+    if os.geteuid() != 0:
+        print("skipped: not root")
+        return 77
+    try:
+        passed = check_shared()
+        former = settings()
+        for words in (["verify", "--pages", "8", "--rounds", "9"], ["now", "--freeze", "--pid", "SLEEPER"]):
+            for sent in (signal.SIGINT, signal.SIGTERM, signal.SIGKILL):
+                each = [check_end(words, sent, 0.2 + 0.25 * moment, former) for moment in range(moments)]
+                print(f"{words[0]}, {sent.name} at {moments} moments: {sum(each)} as before", flush=True)
+                passed += each
+    except Unavailable as lacking:
+        print(f"skipped: {lacking}")
+        return 77
+    print(f"{sum(passed)} passed, {len(passed) - sum(passed)} failed")
+    return 0 if all(passed) else 1
+
+
+if __name__ == "__main__":
+    sys.exit(main())

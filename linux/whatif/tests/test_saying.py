@@ -1,0 +1,94 @@
+"""How a page is said: each rule by one page, its commands in full."""
+
+from __future__ import annotations
+
+import unittest
+from typing import List
+
+from ...common.subpages import bits_of
+from ..folios import Folio, Mapping
+from ..saying import LEVELS, Reason, Unsayable, begin, prepare, state
+from .made_up import folio, holed
+
+FULL = bits_of(0, 512)
+
+
+def said(page: Folio) -> List[str]:
+    """The commands without the comment."""
+    one = prepare(page)
+    return (begin(one, 2, 7) if not one.is_standing else []) + state(one, 2, 7)[1:]
+
+
+class Saying(unittest.TestCase):
+    def test_zeros_are_what_is_not_written(self) -> None:
+        page = folio(zero=bits_of(3, 5) | bits_of(511, 1))
+        self.assertEqual(said(page), ["alloc 2", "write 2 7 0 3", "write 2 7 8 503"])
+
+    def test_unread_subpages_are_data(self) -> None:
+        page = folio(zero=bits_of(0, 512), known=bits_of(0, 100))
+        self.assertEqual(said(page), ["alloc 2", "write 2 7 100 412"])
+
+    def test_page_out_of_the_queue_is_dropped_first(self) -> None:
+        page = folio(zero=bits_of(10, 4), is_queued=False)
+        self.assertEqual(said(page), ["alloc 2", "write 2 7 0 512", "zero 2 7 10 4"])
+
+    def test_small_page_is_not_queued_at_its_fault(self) -> None:
+        page = folio(order=4, is_queued=None, is_partly=None)
+        self.assertEqual(said(page), ["alloc 2", "write 2 7 0 16"])
+
+    def test_locked_page_leaves_the_queue(self) -> None:
+        self.assertEqual(said(folio(is_locked=True))[:2], ["alloc 2", "write 2 7 0 512"])
+
+    def test_poisoned_page_leaves_the_queue(self) -> None:
+        self.assertFalse(prepare(folio(is_poisoned=True)).is_standing)
+
+    def test_unmapped_subpages_come_last(self) -> None:
+        page = holed(0, bits_of(0, 100) | bits_of(200, 312))
+        self.assertEqual(said(page), ["alloc 2", "write 2 7 0 512", "splitpmd 2 7", "unmap 2 7 100 100"])
+
+    def test_map_counts_by_ptes(self) -> None:
+        page = folio(whole=0, totals=[1] * 100 + [3] * 2 + [1] * 410)
+        out = said(page)
+        self.assertEqual(out[2:], ["splitpmd 2 7", "map 2 7 100 2", "map 2 7 100 2"])
+
+    def test_map_counts_by_both(self) -> None:
+        page = folio(whole=2, totals=[2] * 500 + [3] * 12)
+        self.assertEqual(said(page)[2:], ["mapwhole 2 7", "map 2 7 500 12"])
+
+    def test_partly_mapped_once_and_whole_again(self) -> None:
+        by_ptes = folio(whole=0, is_partly=True)
+        self.assertEqual(said(by_ptes)[2:], ["splitpmd 2 7", "unmap 2 7 0 1", "map 2 7 0 1"])
+        by_pmd = said(folio(is_partly=True))
+        self.assertEqual(by_pmd[5:], ["mapwhole 2 7", "unmap 2 7 0 512"])
+
+    def test_zeros_of_locked_areas_stay(self) -> None:
+        page = holed(0, bits_of(0, 256), zero=bits_of(0, 8), kept=bits_of(4, 4))
+        self.assertEqual(said(page)[1], "write 2 7 4 508")
+
+    def test_pins(self) -> None:
+        self.assertEqual(said(folio(pins=2))[-2:], ["pin 2 7", "pin 2 7"])
+        self.assertEqual(said(folio(pins=900)).count("pin 2 7"), LEVELS)
+
+    def test_counts_beyond_the_levels_are_capped(self) -> None:
+        one = prepare(folio(whole=0, totals=[1000] * 512))
+        self.assertTrue(one.is_capped)
+        self.assertEqual(len(one.levels), LEVELS)
+
+    def test_comment(self) -> None:
+        page = holed(3, bits_of(0, 500), zero=bits_of(0, 9), pins=1)
+        page.mappings.append(Mapping(7, 0, bits_of(0, 500), False))
+        line = state(prepare(page), 1, 5)[0]
+        self.assertEqual(line, "# page 1 5 frame 4096 zero 9 pmd 0 unmapped 12 unread 12 pins 1 by 103:0,7:0 partly")
+
+    def test_what_no_script_says(self) -> None:
+        rows = [
+            (holed(0, bits_of(0, 5), is_queued=False), {"is_partly": False}, Reason.HOLES_UNFLAGGED),
+            (folio(), {"totals": [0] * 512, "whole": 0}, Reason.UNMAPPED),
+            (folio(zero=3, kept=1), {}, Reason.ZEROS_STAY),
+        ]
+        for page, facts, reason in rows:
+            for name, value in facts.items():
+                setattr(page, name, value)
+            with self.assertRaises(Unsayable) as raised:
+                prepare(page)
+            self.assertIs(raised.exception.reason, reason)

@@ -1,0 +1,333 @@
+"""Predictions beside what the kernel's shrinker then does: known pages, or a command's, in a memory control group of
+its own.
+
+A trial makes the pages anew, sets a threshold, looks, asks thpsplit and the plain judge (reference.py), has the kernel
+reclaim in the group, and looks which pages are split and which frames came back. Settings, groups and processes go
+away at any end (linux/common/keeper.py); one tool at a time holds the lock.
+"""
+
+from __future__ import annotations
+
+import json
+import os
+import random
+import signal
+import subprocess
+import time
+from collections import Counter
+from contextlib import contextmanager
+from dataclasses import dataclass, field
+from pathlib import Path
+from typing import Dict, Iterator, List, Optional, Sequence, Set
+
+from ..common.counters import Counter as Statistic
+from ..common.counters import counts
+from ..common.errors import DIFFERS, DONE, InputFault, Unavailable
+from ..common.files import BASE, COLLAPSE_SLEEP, PMD_ORDER, PTES_NONE, SWITCH, THP, size_folder
+from ..common.groups import Groups
+from ..common.keeper import Keeper
+from ..common.page_files import Frames, NumberFile, PageFlag, frame_of_entry
+from ..common.program import Program
+from ..common.subpages import size
+from .folios import Folio
+from .known import KnownPages
+from .predict import OFF, Predictor, label
+from .processes import Choice, held, members
+from .reference import given_back
+from .snapshot import How, Scripts, Snapshot, Taker, write
+
+THRESHOLDS = (OFF, 0, 1, 16, 32, 64, 128, 256, 409, 500, 510)
+SMALL_ORDERS = (4, 6)
+HOUR = 3600000  # milliseconds: khugepaged collapses nothing meanwhile
+TURN = 60.0  # seconds after which another tool may have the machine
+CHANGE_TIME = 0.5  # seconds that pages change before the look
+
+
+@dataclass(frozen=True)
+class Task:
+    """What is to be tried."""
+
+    thresholds: Sequence[int] = THRESHOLDS
+    rounds: int = 1
+    seed: int = 1
+    pages: int = 40
+    command: Sequence[str] = ()
+    after: float = 5.0  # seconds that the command runs before the look
+    running: bool = False  # it isn't held between the look and the reclaim
+    enabled: str = ""  # transparent_hugepage/enabled meanwhile
+    change: int = 0  # microseconds between changes of known pages; 0: they stand still
+    with_kernel: bool = True
+    verbose: bool = False
+    keep: str = ""  # a folder for what was seen
+
+    @property
+    def settings(self) -> List[str]:
+        """The files that are set, and put back."""
+        out = [SWITCH, PTES_NONE, COLLAPSE_SLEEP] + ([f"{THP}/enabled"] if self.enabled else [])
+        return out + ([] if self.command else [f"{size_folder(order)}/enabled" for order in SMALL_ORDERS])
+
+
+@dataclass
+class Result:
+    """What a trial saw: for each page that is split which frames come back, by frame; said, judged and come."""
+
+    snapshot: Snapshot
+    folios: Dict[int, Folio]  # those that a script says
+    partly: Set[int]  # of these, what is said as partly mapped
+    said: Dict[int, int]
+    judged: Dict[int, int]
+    came: Dict[int, int]
+    beside: Dict[int, int]  # what came of pages that no script says
+    added: Dict[Statistic, int]  # to the kernel's counters
+    differing: List[int] = field(default_factory=list)
+
+    def statistics(self) -> Dict[Statistic, int]:
+        """The two counters that the prediction says: pages of PMD size split, and those of them as underused."""
+        large = [frame for frame in self.said if self.folios[frame].order == PMD_ORDER]
+        under = [frame for frame in self.said if frame not in self.partly]
+        return {Statistic.SPLIT: len(large), Statistic.UNDERUSED: len(under)}
+
+    @property
+    def is_exact(self) -> bool:
+        """Each page and each frame as said, and the counters, but for pages that no script says."""
+        said = self.statistics()
+        return not self.differing and all(0 <= self.added[name] - said[name] <= len(self.beside) for name in said)
+
+
+class Bench:
+    """The machine, set for trials."""
+
+    def __init__(self, keeper: Keeper, task: Task, program: Program) -> None:
+        self.keeper, self.task, self._program = keeper, task, program
+        self.groups = Groups(keeper, "thpwhatif")
+        keeper.set(COLLAPSE_SLEEP, HOUR)
+        keeper.set(SWITCH, 1)
+        if task.enabled:
+            keeper.set(f"{THP}/enabled", task.enabled)
+        for order in () if task.command else SMALL_ORDERS:
+            keeper.set(f"{size_folder(order)}/enabled", "madvise")
+        self._frames = Frames()
+        self._taker = Taker(How(with_small=True, with_kernel=task.with_kernel))
+        self._made = 0
+
+    def trial(self, threshold: int, chance: random.Random) -> Result:
+        """One trial on pages made anew."""
+        self._made += 1
+        group = self.groups.add(f"trial{self._made}")
+        self.keeper.set(PTES_NONE, threshold)
+        with self._pages(group, threshold, chance):
+            choice = Choice(groups=[group])
+            still = (self.task.command or self.task.change) and not self.task.running
+            with held(members(group), [], bool(still)):
+                snapshot = self._taker.take(choice)
+                made = write(snapshot)
+                said = self._said(made, threshold)
+                before = counts([])
+                self.groups.reclaim(group)
+                added = counts([]).since(before).machine
+                came = became(snapshot, self._frames)
+        remove_group(group)
+        return self._result(snapshot, made, said, came, {k: v or 0 for k, v in added.items()}, threshold)
+
+    @contextmanager
+    def _pages(self, group: str, threshold: int, chance: random.Random) -> Iterator[None]:
+        """A process with pages, until the end of the `with`."""
+        task, known = self.task, None
+        if task.command:
+            process = self._start(group, task.command, subprocess.DEVNULL, None)
+        else:
+            known = KnownPages(lambda command: self._start(group, command, subprocess.PIPE, subprocess.PIPE))
+            process = known.process
+        try:
+            if known and task.change:
+                known.tell([f"alloc {PMD_ORDER}"] * task.pages)
+                known.change(task.change, chance.randrange(1 << 30))
+                time.sleep(CHANGE_TIME)
+            elif known:
+                orders = [PMD_ORDER] * 8 + list(SMALL_ORDERS)
+                known.make(chance, task.pages, orders, lambda: self._look_before(group, threshold))
+            else:
+                time.sleep(task.after)
+            yield
+        finally:
+            end_process(process)
+            self.keeper.disown(process.pid)
+
+    def _start(
+        self, group: str, command: Sequence[str], stdin: int, stdout: Optional[int]
+    ) -> subprocess.Popen[str]:
+        process = subprocess.Popen(
+            list(command),
+            stdin=stdin,
+            stdout=stdout,
+            text=True,
+            start_new_session=True,
+            preexec_fn=lambda: self.groups.enter(group, os.getpid()),
+        )
+        self.keeper.own(process.pid)
+        return process
+
+    def _look_before(self, group: str, threshold: int) -> None:
+        """With max_ptes_none 511 the shrinker finds pages in use, and they leave the queue for good."""
+        self.keeper.set(PTES_NONE, OFF)
+        self.groups.reclaim(group)
+        self.keeper.set(PTES_NONE, threshold)
+
+    def _said(self, made: Scripts, threshold: int) -> Dict[int, int]:
+        predictor = Predictor(made.scripts, self._program)
+        fates = predictor.fates(threshold)
+        return {made.pages[fate.script][fate.node][fate.number].folio.frame: fate.given for fate in fates}
+
+    def _result(
+        self,
+        snapshot: Snapshot,
+        made: Scripts,
+        said: Dict[int, int],
+        came: Dict[int, int],
+        added: Dict[Statistic, int],
+        threshold: int,
+    ) -> Result:
+        pages = [one for script in made.pages for node in script for one in node]
+        folios = {one.folio.frame: one.folio for one in pages}
+        partly = {one.folio.frame for one in pages if one.is_partly}
+        beside = {frame: given for frame, given in came.items() if frame not in folios}
+        judged = {}
+        for frame, folio in folios.items():
+            back = given_back(folio, threshold)
+            if back is not None:
+                judged[frame] = sum(1 << i for i, is_back in enumerate(back) if is_back)
+        own = {frame: given for frame, given in came.items() if frame in folios}
+        differing = [frame for frame in folios if said.get(frame) != own.get(frame)]
+        return Result(snapshot, folios, partly, said, judged, own, beside, added, differing)
+
+
+def end_process(process: subprocess.Popen[str]) -> None:
+    """Kills a process of ours with its session, and waits for it."""
+    try:
+        os.killpg(process.pid, signal.SIGKILL)
+    except OSError:
+        pass  # it has ended
+    process.wait()
+    for stream in (process.stdin, process.stdout):
+        try:
+            if stream:
+                stream.close()
+        except OSError:
+            pass  # what was still to be written found no reader
+
+
+def remove_group(path: str) -> None:
+    """Removes a group of a trial, whose processes were killed; the keeper tries again at the end."""
+    for _ in range(100):
+        try:
+            os.rmdir(path)
+            return
+        except OSError:
+            time.sleep(0.01)
+
+
+def became(snapshot: Snapshot, frames: Frames) -> Dict[int, int]:
+    """Which frames came back, by page: of those that are no longer whole, each subpage that no process of the
+    snapshot maps where it was. Frames that are a huge page, but nobody's where they were, came back altogether and
+    are in use again."""
+    out: Dict[int, int] = {}
+    maps: Dict[int, NumberFile] = {}
+    for folio in snapshot.folios:
+        flags = frames.flags(folio.frame, folio.size)
+        is_whole = flags[0] & PageFlag.COMPOUND_HEAD and all(flag & PageFlag.COMPOUND_TAIL for flag in flags[1:])
+        is_held: Set[int] = set()
+        for mapping in folio.mappings:
+            try:
+                if mapping.process not in maps:
+                    maps[mapping.process] = NumberFile(f"/proc/{mapping.process}/pagemap")
+                entries = maps[mapping.process].at(mapping.address // BASE, folio.size)
+            except (OSError, Unavailable):  # the process ended: it holds nothing
+                continue
+            is_held |= {i for i, entry in enumerate(entries) if frame_of_entry(entry) == folio.frame + i}
+            if is_whole and is_held:
+                break
+        if not (is_whole and is_held):
+            out[folio.frame] = folio.full & ~sum(1 << i for i in is_held)
+    for file in maps.values():
+        file.close()
+    return out
+
+
+def count_result(seen: Counter[str], result: Result) -> None:
+    """Adds a trial to the sums that stand at the end."""
+    came = sum(size(given) for given in result.came.values())
+    seen["trials"] += 1
+    seen["trials exact"] += result.is_exact
+    seen["trials in which the plain judge says what came"] += result.judged == result.came
+    seen["pages"] += len(result.folios)
+    seen["pages as said, to the frame"] += len(result.folios) - len(result.differing)
+    seen["pages split"] += len(result.came)
+    seen["frames said"] += sum(size(given) for given in result.said.values())
+    seen["frames that came back"] += came
+    seen["pages that were left out"] += sum(result.snapshot.left_out.values())
+    seen["  of these split"] += len(result.beside)
+    seen["  and their frames"] += sum(size(given) for given in result.beside.values())
+    seen["pages found changed between two looks"] += result.snapshot.changed
+
+
+def told(threshold: int, result: Result) -> str:
+    """One line of a trial."""
+    said = sum(size(given) for given in result.said.values())
+    came = sum(size(given) for given in result.came.values())
+    verdict = "exact" if result.is_exact else f"{len(result.differing)} pages DIFFER"
+    names = result.statistics()
+    counted = ", ".join(f"{name.value} {result.added[name]} of {names[name]}" for name in names)
+    return (
+        f"{label(threshold):>4}: {len(result.folios)} pages; split {len(result.came)} of {len(result.said)} said; "
+        f"frames {came} of {said} said; {counted}, "
+        f"{Statistic.SPLIT_FAILED.value} {result.added[Statistic.SPLIT_FAILED]}: {verdict}"
+    )
+
+
+def told_pages(result: Result) -> List[str]:
+    """The first pages that differ, a line each."""
+    lines = []
+    for frame in result.differing[:6]:
+        folio = result.folios[frame]
+        sets = {"said": result.said, "judged": result.judged, "came": result.came}
+        words = [f"{name} {size(each[frame]) if frame in each else 'whole'}" for name, each in sets.items()]
+        lines.append(
+            f"      frame {frame} order {folio.order}: {', '.join(words)}; zero {size(folio.zeros)} "
+            f"queued {folio.is_queued} partly {folio.is_partly} pins {folio.pins} PMD {folio.whole} "
+            f"locked {folio.is_locked} kept {size(folio.kept)} mappings {len(folio.mappings)}"
+        )
+    return lines
+
+
+def verify(task: Task, program: Program) -> int:
+    """Runs all trials; status 1 where one wasn't exact. After TURN seconds another tool may have the lock for a
+    while."""
+    seen: Counter[str] = Counter()
+    todo = [(number, threshold) for number in range(task.rounds) for threshold in task.thresholds]
+    print("set meanwhile, and put back: " + ", ".join(task.settings), flush=True)
+    while todo:
+        with Keeper() as keeper:
+            bench, until = Bench(keeper, task, program), time.monotonic() + TURN
+            while todo and time.monotonic() < until:
+                number, threshold = todo.pop(0)
+                result = bench.trial(threshold, random.Random(f"{task.seed} {number} {threshold}"))
+                count_result(seen, result)
+                if task.keep:
+                    keep(task.keep, f"{task.seed}-{number}-{label(threshold)}", threshold, result)
+                if task.verbose or not result.is_exact:
+                    print("\n".join([told(threshold, result)] + told_pages(result)), flush=True)
+    for what, count in seen.items():
+        print(f"{count:10} {what}")
+    return DONE if seen["trials exact"] == seen["trials"] else DIFFERS
+
+
+def keep(folder: str, name: str, threshold: int, result: Result) -> None:
+    """Writes what was seen before and after a trial, so that it can be judged again: `seen`, a stored snapshot, and
+    `came`, the frames that came back by the page's first frame, as hexadecimal sets."""
+    came = {str(frame): format(given, "x") for frame, given in {**result.came, **result.beside}.items()}
+    text = json.dumps({"threshold": threshold, "came": came, "seen": result.snapshot.to_json()})
+    try:
+        Path(folder).mkdir(parents=True, exist_ok=True)
+        (Path(folder) / f"{name}.json").write_text(text + "\n", encoding="ascii")
+    except OSError as error:
+        raise InputFault(f"{folder}/{name}.json can't be written: {error.strerror}") from error
