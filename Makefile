@@ -1,7 +1,7 @@
 # make try:     runs the first script at once, without proving anything
 # make run:     proves the program and all that it stands on, builds it, and runs the first script
-# make install: puts the proved program, its manual pages and completions below PREFIX (default /usr/local; DESTDIR as
-#               usual); make uninstall takes them away
+# make install: puts the proved program and thpwhatif, their manual pages and completions below PREFIX (default /usr/local;
+#               DESTDIR as usual); make uninstall takes them away
 # make test:    every check (proofs from nothing, must-fail edits, tests, stored runs, examples, documents); ends in
 #               'N passed, M failed'. What a machine lacks is named and counted neither way, or as failed with STRICT=1
 # make outside: examples and documents alone; PROGRAM=path: by that program, and all that is asked of it from outside:
@@ -19,7 +19,7 @@ SCRIPT = examples/first.script
 CASES ?= 2000
 SEED ?= 1
 
-.PHONY: try run install put uninstall test outside toolchain fuzz memory linux bench
+.PHONY: try run install put put-whatif uninstall test outside toolchain fuzz memory linux bench
 
 # tells by a line where another toolchain is installed than everything was proved with
 toolchain:
@@ -37,7 +37,7 @@ INSTALLED = bin/thpsplit=$(PROGRAM) share/man/man1/thpsplit.1=docs/thpsplit.1 sh
 	share/zsh/site-functions/_thpsplit=completions/_thpsplit \
 	share/fish/vendor_completions.d/thpsplit.fish=completions/thpsplit.fish
 
-install: run put
+install: run put put-whatif
 
 # puts the files into place, as they are
 put:
@@ -47,8 +47,16 @@ put:
 		echo "$(DESTDIR)$(PREFIX)/$${pair%%=*}" || exit 1; \
 	done
 
+# thpwhatif beside it; its helper is compiled
+put-whatif:
+	@if command -v $(CC) > /dev/null; then \
+		$(MAKE) --no-print-directory -s -C linux/whatif install PREFIX="$(PREFIX)" DESTDIR="$(abspath $(DESTDIR))" && \
+		echo "$(abspath $(DESTDIR))$(PREFIX)/bin/thpwhatif"; \
+	else echo "thpwhatif isn't installed: no C compiler ($(CC))"; fi
+
 uninstall:
 	@for pair in $(INSTALLED); do rm -f "$(DESTDIR)$(PREFIX)/$${pair%%=*}"; done
+	@$(MAKE) --no-print-directory -s -C linux/whatif uninstall PREFIX="$(PREFIX)" DESTDIR="$(abspath $(DESTDIR))"
 
 test: toolchain
 	@python3 tests/gate.py

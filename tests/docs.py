@@ -24,8 +24,9 @@ NAMING = ["MAP", "MODEL", "PROVED"]
 FOREIGN = {"transhuge", "admin", "guide", "split_huge_page", "cargo", "rustc"}
 """Words of other projects, which our tree needn't name."""
 
-DOCUMENTS = ["README.md", "CONTRIBUTING.md", *(f"docs/{name}.md" for name in ("MAP", "MODEL", "PROVED", "TESTS"))]
-PATH = re.compile(r"`((?:crates|docs|tests|examples|bench)/[A-Za-z0-9_./*-]*)`")
+DOCUMENTS = ["README.md", "CONTRIBUTING.md",
+             *(f"docs/{name}.md" for name in ("MAP", "MODEL", "PROVED", "TESTS", "LINUX", "WHATIF"))]
+PATH = re.compile(r"`((?:crates|docs|tests|examples|bench|linux)/[A-Za-z0-9_./*-]*)`")
 CRATE = re.compile(r"`((?:thp|tests|bench|demo)_[a-z_]+|thpsplit)`")
 
 
@@ -60,7 +61,8 @@ def words_of_tree() -> set[str]:
     parts = ("src", "specs", "proofs", "must-fail")
     code = [path for path in ROOT.glob("crates/*/**/*") if path.relative_to(ROOT).parts[2] in parts]
     scripts = [path for folder in ("tests", "bench", "examples") for path in ROOT.glob(f"{folder}/*")]
-    for path in [*code, *scripts, ROOT / "Makefile", ROOT / "crates.txt"]:
+    kernel = [path for path in ROOT.glob("linux/*/*") if path.suffix in (".py", ".c")]
+    for path in [*code, *scripts, *kernel, ROOT / "Makefile", ROOT / "crates.txt"]:
         words.update(re.findall(r"\w+", str(path.relative_to(ROOT))))
         if path.is_file():
             words.update(re.findall(r"\w+", path.read_text(errors="replace")))

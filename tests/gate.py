@@ -18,8 +18,9 @@ from pathlib import Path
 from tally import SKIPPED, Tally
 
 ROOT = Path(__file__).resolve().parent.parent
-WITHOUT = ("tests/docs.py", "tests/installed.py")
-"""What looks at the tree alone."""
+WITHOUT = ("tests/docs.py", "tests/installed.py", "linux/tests/run.py", "linux/whatif/tests/__main__.py")
+"""What looks at the tree alone, and the tools of the running kernel by what they stored. Those of `thpwhatif` use the
+built program where it is."""
 
 BUILT = ("crates/thpsplit/out/thpsplit", "crates/thpsplit/out/thpsplit.by-rattle")
 """Where `rt ci` leaves the program, as LLVM builds it and as Rattle's own compiler does."""
@@ -75,7 +76,7 @@ def main() -> None:
     began = time.time() - 1
     add(tally, "rt ci", ["rt", "ci"])
     for script in WITHOUT:
-        add(tally, Path(script).name, [sys.executable, script])
+        add(tally, script, [sys.executable, script])
     programs = programs_since(began)
     for program in programs:
         for script in BY_EACH:

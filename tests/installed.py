@@ -18,8 +18,11 @@ from tally import Missing, Tally
 ROOT = Path(__file__).resolve().parent.parent
 PAGES = ["docs/thpsplit.1", "docs/thpsplit.5"]
 COMPLETIONS = {"bash": "completions/thpsplit.bash", "zsh": "completions/_thpsplit", "fish": "completions/thpsplit.fish"}
+KERNEL_PAGE = "docs/thpwhatif.1"
+KERNEL_COMPLETIONS = {"bash": "completions/thpwhatif.bash", "zsh": "completions/_thpwhatif",
+                      "fish": "completions/thpwhatif.fish"}
 PUT = 6
-"""How many files are put into place."""
+"""How many files are put into place of `thpsplit` alone."""
 
 
 def make(target: str, folder: Path) -> str | None:
@@ -46,7 +49,7 @@ def puts_and_takes_away() -> str | None:
         if wrong:
             return wrong
         count = len(below(root)) - 1
-        wrong = make("uninstall", folder)
+        wrong = make("put-whatif", folder) or make("uninstall", folder)
         left = below(root)
     if wrong:
         return wrong
@@ -87,11 +90,11 @@ def main() -> None:
     """Makes all tests."""
     tally = Tally()
     tally.run("make install and uninstall", puts_and_takes_away)
-    for page in PAGES:
+    for page in [*PAGES, KERNEL_PAGE]:
         tally.run(f"no warning in {page}", lambda page=page: page_is_sound(page))
     for path in [PAGES[0], *COMPLETIONS.values()]:
         tally.run(f"options in {path}", lambda path=path: options_are_told(path))
-    for shell, path in COMPLETIONS.items():
+    for shell, path in [*COMPLETIONS.items(), *KERNEL_COMPLETIONS.items()]:
         tally.run(f"syntax of {path}", lambda shell=shell, path=path: reads_as(shell, path))
     tally.end()
 
