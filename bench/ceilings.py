@@ -1,0 +1,124 @@
+#!/usr/bin/env python3
+"""Whether a built program takes more instructions or memory than it did: at most 1.1 of what is stored.
+
+    bench/ceilings.py PROGRAM [--store]
+
+Scripts of bench/generate.py (700,000 bytes, 16 blocks) of each kind, by each report, and the check of the journal that
+the program writes. Instructions are counted by `valgrind --tool=callgrind`, the whole program's; memory is the greatest
+resident size that the kernel tells of it (wait4), by a script of 4,200,000 bytes. `--store` writes bench/ceilings.json
+anew. The last line is `N passed, M failed`; status 1 where something takes more. Without valgrind the instructions are
+named as skipped, and counted neither way.
+"""
+
+from __future__ import annotations
+
+import argparse
+import json
+import os
+import re
+import shutil
+import subprocess
+import sys
+import tempfile
+from pathlib import Path
+
+ROOT = Path(__file__).resolve().parent.parent
+sys.path.insert(0, str(ROOT / "tests"))
+
+from tally import Missing, Tally  # noqa: E402
+
+STORED = ROOT / "bench/ceilings.json"
+KINDS = ("churn", "middle", "maps", "counts")
+WAYS = {"totals": [], "answers": ["--report", "answers"], "journal": ["--report", "journal"], "check": ["--check"]}
+"""What the program is asked for, and by which words. The check reads what `journal` wrote."""
+
+COUNTED, HELD = 700_000, 4_200_000
+"""Bytes of a script whose instructions are counted, and of one whose memory is looked at."""
+
+MOST = 1.1
+"""What may be taken, of what is stored."""
+
+Figures = dict[str, dict[str, float]]
+
+
+def inputs(program: str, folder: Path, kind: str, length: int) -> tuple[Path, Path]:
+    """A script of a kind and of a length in bytes, and the journal that the program writes of it."""
+    script, journal = folder / f"{kind}.{length}.script", folder / f"{kind}.{length}.journal"
+    words = [sys.executable, str(ROOT / "bench/generate.py"), kind, "16", str(length)]
+    with script.open("wb") as file:
+        subprocess.run(words, stdout=file, check=True)
+    with script.open("rb") as given, journal.open("wb") as file:
+        subprocess.run([program, "--blocks", "16", "--report", "journal"], stdin=given, stdout=file, check=True)
+    return script, journal
+
+
+def instructions(words: list[str], given: Path) -> float:
+    """Millions of instructions that a run takes."""
+    with given.open("rb") as file, tempfile.NamedTemporaryFile() as counts:
+        called = ["valgrind", "--tool=callgrind", f"--callgrind-out-file={counts.name}", *words]
+        done = subprocess.run(called, stdin=file, stdout=subprocess.DEVNULL, stderr=subprocess.PIPE, text=True, check=True)
+    found = re.search(r"Collected : (\d+)", done.stderr)
+    assert found, done.stderr
+    return int(found[1]) / 1e6
+
+
+def memory(words: list[str], given: Path) -> float:
+    """The greatest resident size of a run, in MiB."""
+    with given.open("rb") as file:
+        child = subprocess.Popen(words, stdin=file, stdout=subprocess.DEVNULL)
+        _, status, usage = os.wait4(child.pid, 0)
+    child.returncode = os.waitstatus_to_exitcode(status)
+    assert child.returncode == 0, f"{' '.join(words)}: status {child.returncode}"
+    return usage.ru_maxrss / 1024
+
+
+def measured(program: str, folder: Path, kind: str, way: str) -> dict[str, float]:
+    """What one run takes; without valgrind its memory alone."""
+    words = [program, *([] if way == "check" else ["--blocks", "16"]), *WAYS[way]]
+    figures: dict[str, float] = {}
+    if shutil.which("valgrind"):
+        given = inputs(program, folder, kind, COUNTED)
+        figures["instructions, M"] = round(instructions(words, given[way == "check"]), 2)
+    given = inputs(program, folder, kind, HELD)
+    figures["memory, MiB"] = round(memory(words, given[way == "check"]), 1)
+    return figures
+
+
+def compared(name: str, took: dict[str, float], stored: dict[str, float], tally: Tally) -> None:
+    """Counts each figure of a run against the stored one."""
+    for what, before in stored.items():
+
+        def test() -> str | None:
+            if what not in took:
+                raise Missing("valgrind isn't there")
+            ratio = took[what] / before
+            print(f"{name}: {what} {took[what]} ({ratio:.2f} of {before})")
+            return None if ratio <= MOST else f"{what} {took[what]}, above {MOST} of {before}"
+
+        tally.run(f"{name}, {what.split(',')[0]}", test)
+
+
+def main() -> None:
+    parser = argparse.ArgumentParser(description="compares what a built program takes with what is stored")
+    parser.add_argument("program")
+    parser.add_argument("--store", action="store_true", help="write what it takes in place of what is stored")
+    asked = parser.parse_args()
+    program = str(Path(asked.program).resolve())
+    tally = Tally(is_brief=True)
+    stored: Figures = {} if asked.store else json.loads(STORED.read_text())
+    figures: Figures = {}
+    with tempfile.TemporaryDirectory() as name:
+        for kind in KINDS:
+            for way in WAYS:
+                took = measured(program, Path(name), kind, way)
+                figures[f"{kind}, {way}"] = took
+                compared(f"{kind}, {way}", took, stored.get(f"{kind}, {way}", {}), tally)
+    if asked.store:
+        STORED.write_text(json.dumps(figures, indent=1) + "\n")
+        print(f"stored in {STORED.relative_to(ROOT)}")
+        return
+    tally.end()
+
+
+if __name__ == "__main__":
+    main()
