@@ -1,13 +1,13 @@
 -- What a loss comes to, by the page before and after it.
-use Rattle.std.proofs.Common.{◌≡◌, ℕ, ◌+◌, ◌<◌, ◌^◌, Bool, true, false, cond, not, ◌&&◌, ◌||◌, List, refl, ap, ap₂, sym, ◌∙◌, arith, nat_eq, nat_lt}
+use Rattle.std.proofs.Common.{◌≡◌, ℕ, ◌<◌, ◌^◌, Bool, true, false, cond, not, ◌&&◌, ◌||◌, refl, ap, ap₂, sym, ◌∙◌, arith, nat_eq, nat_lt}
 use Rattle.std.proofs.lemmas.Bool.Decides.{nat_tests}
 use Rattle.thp_model.specs.declared.events.Outcome.{Outcome}
 use Rattle.thp_model.specs.declared.events.Outcome.TheVariants.{Freed, Queued, Stays}
 use Rattle.thp_model.specs.Counts.{is_freed}
-use Rattle.thp_model.specs.Pages.{PageState, Pinned, size, total_at, zero_at, holds, has_use, drops_use}
+use Rattle.thp_model.specs.Pages.{PageState, size, total_at, zero_at, holds, has_use, drops_use}
 use Rattle.thp_model.specs.PageChanges.{page_outcome, page_released}
-use Rattle.thp_model.specs.Sets.{set_of, has}
-use Rattle.thp_model.proofs.Below.{some_no, some_none}
+use Rattle.thp_model.specs.Sets.{set_of}
+use Rattle.thp_model.proofs.Below.{some_none}
 use Rattle.thp_model.proofs.Bools.{by_bool}
 use Rattle.thp_model.proofs.WordLemmas.{set_of-ext}
 use Rattle.thp_page.specs.declared.page.Change.{Change}

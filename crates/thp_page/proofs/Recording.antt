@@ -1,14 +1,12 @@
 -- The laws of the bridge from a page to the history of its node.
-use Rattle.std.proofs.Common.{◌≡◌, ℕ, Bool, true, false, not, ◌&&◌, ◌||◌, nat_eq, [], ◌∷◌, ◌++◌, refl, sym, ◌∙◌, subst, eqb-true, eq-eqb, arith}
+use Rattle.std.proofs.Common.{◌≡◌, ℕ, Bool, true, false, not, ◌&&◌, ◌||◌, [], ◌∷◌, ◌++◌, refl, sym, ◌∙◌, eq-eqb, arith}
 use Rattle.thp_model.specs.declared.events.Event.{Event}
 use Rattle.thp_model.specs.declared.events.Outcome.{Outcome}
-use Rattle.thp_model.specs.declared.events.What.{What}
-use Rattle.thp_model.specs.declared.events.What.TheVariants.{Alloc, MapWhole, UnmapWhole, MapSub, UnmapSub, SplitPmd, Pin, Unpin, Write, Zero, Taken, Split, Used, Back, Dropped, Close}
-use Rattle.thp_model.specs.declared.events.What.TheVariants as kind
+use Rattle.thp_model.specs.declared.events.What.TheVariants.{Alloc, MapWhole, UnmapWhole, MapSub, UnmapSub, SplitPmd, Pin, Unpin, Write, Zero, Split}
 use Rattle.thp_model.specs.History.{History, by, some_event}
 use Rattle.thp_model.specs.Counts.{is_live, is_closed, frees, allocates, allocations}
 use Rattle.thp_model.specs.Places.{stands}
-use Rattle.thp_model.specs.Pages.{page_refusal, gives_frames, Tallies}
+use Rattle.thp_model.specs.Pages.{gives_frames, Tallies}
 use Rattle.thp_model.specs.PageChanges.{page_outcome, page_released}
 use Rattle.thp_model.proofs.Alive.{legal_grown}
 use Rattle.thp_model.proofs.Numbers.{Fresh}
@@ -17,7 +15,6 @@ use Rattle.thp_model.proofs.PageRefusals.{refusal_map_whole, refusal_unmap_whole
 use Rattle.thp_model.proofs.Pushes.{some_event_push, live_stays}
 use Rattle.thp_model.proofs.Tallying.{tallies_alloc, tallies_map_whole, tallies_unmap_whole, tallies_map_sub, tallies_unmap_sub, tallies_split_pmd, tallies_pin, tallies_unpin, tallies_write, tallies_zero, tallies_split, tallies_stay, pins_is, worth_is}
 use Rattle.thp_model.proofs.Untouched.{Untouched, untouched}
-use Rattle.thp_model.specs.PageCalls.{is_about}
 use Rattle.thp_page.specs.Bridge.{OthersLeavePages, RefusalsAgree, FreshPageIsRecorded, GainIsRecorded, LossIsRecorded, WorthAgrees, SplitIsRecorded}
 use Rattle.thp_model.specs.declared.page_call.Gain.TheVariants as gain
 use Rattle.thp_model.specs.declared.page_call.Loss.TheVariants as loss

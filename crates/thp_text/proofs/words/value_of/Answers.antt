@@ -1,5 +1,4 @@
-use Rattle.thp_text.proofs.NumberLaws.{no_value, value_at_end}
-use Rattle.std.proofs.Common.{rules, arith}
+use Rattle.thp_text.proofs.NumberLaws.{no_value}
 use Rattle.thp_text.proofs.words.value_of.Goals as goal
 
 pub returns-in_err-value : goal.returns-in_err-value

@@ -1,4 +1,4 @@
-use Rattle.std.proofs.Common.{◌≡◌, ap₂, sym, ◌∙◌, subst}
+use Rattle.std.proofs.Common.{ap₂, sym, ◌∙◌, subst}
 use Rattle.thp_model.specs.Refusals as call
 use Rattle.thp_model.specs.Pages.{page_refusal, RangeUnmapped}
 use Rattle.thp_model.proofs.Narrowing.{page_unmap_sub, page_unmap_sub-whole}
