@@ -44,6 +44,8 @@ Figures = dict[str, dict[str, float]]
 def inputs(program: str, folder: Path, kind: str, length: int) -> tuple[Path, Path]:
     """A script of a kind and of a length in bytes, and the journal that the program writes of it."""
     script, journal = folder / f"{kind}.{length}.script", folder / f"{kind}.{length}.journal"
+    if journal.exists():
+        return script, journal
     words = [sys.executable, str(ROOT / "bench/generate.py"), kind, "16", str(length)]
     with script.open("wb") as file:
         subprocess.run(words, stdout=file, check=True)

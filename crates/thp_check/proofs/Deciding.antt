@@ -1,5 +1,5 @@
 -- Steps whose answer is a test.
-use Rattle.std.proofs.Common.{◌≡◌, ℕ, Bool, true, false, not, nat_eq, eq-eqb, eqb-true, ne_eqb, ap, refl, Option, Some, None}
+use Rattle.std.proofs.Common.{◌≡◌, ℕ, Bool, true, false, not, nat_eq, eq-eqb, eqb-true, ne_eqb, ap, refl}
 use Rattle.std.specs.Prelude.{MatchBool}
 
 -- a test of X, which holds wherever B does, and from which A follows
@@ -33,8 +33,3 @@ equal a b e = eqb-true a b (go (nat_eq a b) e) where
 
 pub told_different : (a b : ℕ) → (a ≡ b → ⊥) → not (nat_eq a b) ≡ true
 told_different a b e = ap not (ne_eqb a b e)
-
--- what isn't there
-pub is_none : {T : Type 0} (o : Option T) → ((x : T) → o ≡ Some x → ⊥) → o ≡ None
-is_none None f = refl
-is_none (Some x) f = absurd (f x refl)

@@ -50,7 +50,7 @@ threshold_of order word =
     if bytes_eq word (codes "off") then Ok None
     else (number_up_to (2 ^ order - 1) word >>= λ threshold. Ok (Some threshold))
 
--- node N of this shape, which counts from 0, with a block at least
+-- node N, counted from 0, of this shape, which has a block at least
 abbrev pub node_with : Text → Text → ℕ → Option ℕ → Result Line TextKind
 node_with number_word blocks_word order underused = do
   number ← number_up_to (max_nodes - 1) number_word

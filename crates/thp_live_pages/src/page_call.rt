@@ -32,7 +32,7 @@ pub(crate) fn lose_by(
         Err(refusal) => return Err(refusal),
     }
     done.outcome = outcome_of(page, &change, standing, closed);
-    release(page, &change, done.outcome, &mut done.released);
+    give_back(page, &change, done.outcome, &mut done.released);
     Ok(())
 }
 
@@ -52,7 +52,7 @@ fn outcome_of(page: &Page, change: &Change, standing: Standing, closed: bool) ->
 }
 
 // The frames that a change gives back: all, where it frees a page that isn't split.
-fn release(page: &Page, change: &Change, outcome: Outcome, released: &mut SubSet)
+fn give_back(page: &Page, change: &Change, outcome: Outcome, released: &mut SubSet)
     ensures { released.new ≡ released_after page.now change.now outcome }
 {
     if outcome == Outcome::Freed && !page.is_split() {
