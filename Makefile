@@ -66,6 +66,7 @@ GIVEN = $(if $(filter command% environment%,$(origin PROGRAM)),$(PROGRAM))
 
 outside:
 	@python3 tests/docs.py
+	@python3 tests/surface.py
 	@python3 tests/installed.py
 	@python3 tests/examples.py $(GIVEN)
 	@$(if $(GIVEN),python3 tests/outside.py $(GIVEN))

@@ -18,7 +18,7 @@ from pathlib import Path
 from tally import SKIPPED, Tally
 
 ROOT = Path(__file__).resolve().parent.parent
-WITHOUT = ("tests/docs.py", "tests/installed.py", "linux/tests/run.py", "linux/whatif/tests/__main__.py")
+WITHOUT = ("tests/docs.py", "tests/surface.py", "tests/installed.py", "linux/tests/run.py", "linux/whatif/tests/__main__.py")
 """What looks at the tree alone, and the tools of the running kernel by what they stored. Those of `thpwhatif` use the
 built program where it is."""
 
@@ -27,6 +27,12 @@ BUILT = ("crates/thpsplit/out/thpsplit", "crates/thpsplit/out/thpsplit.by-rattle
 
 BY_EACH = ("tests/examples.py", "tests/outside.py", "tests/large.py")
 """What looks at a program."""
+
+SPOILT = "crates/tests_spoilt/out/tests_spoilt_tests"
+"""Where `rt ci` leaves the tests of memory that is refused."""
+
+REFUSED = "memory::node_growths::put_back_without_memory"
+"""The row that nothing but a growth that is really refused can show. `make memory` has them all."""
 
 COUNT = re.compile(r"(\d+) passed, (\d+) failed$")
 
@@ -64,9 +70,9 @@ def add(tally: Tally, name: str, command: list[str]) -> None:
     tally.failed += failed
 
 
-def programs_since(began: float) -> list[str]:
-    """The built programs that were made since then: none that an earlier run left."""
-    paths = [ROOT / name for name in BUILT]
+def made_since(began: float, names: tuple[str, ...]) -> list[str]:
+    """The built programs of these names that were made since then: none that an earlier run left."""
+    paths = [ROOT / name for name in names]
     return [str(path) for path in paths if os.access(path, os.X_OK) and path.stat().st_mtime >= began]
 
 
@@ -77,12 +83,14 @@ def main() -> None:
     add(tally, "rt ci", ["rt", "ci"])
     for script in WITHOUT:
         add(tally, script, [sys.executable, script])
-    programs = programs_since(began)
+    programs = made_since(began, BUILT)
     for program in programs:
         for script in BY_EACH:
             add(tally, f"{Path(script).name} {Path(program).name}", [sys.executable, script, program])
     for program in programs[:1]:
         add(tally, "outside.py --self-test", [sys.executable, "tests/outside.py", "--self-test", program])
+        rows = [f"{path}:{REFUSED}" for path in made_since(began, (SPOILT,))]
+        add(tally, "memory.py", [sys.executable, "tests/memory.py", program, *rows])
     if not programs:
         add(tally, "examples.py", [sys.executable, "tests/examples.py"])
         tally.skip("the program from outside", "rt ci has built none")

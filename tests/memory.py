@@ -7,7 +7,7 @@ PROGRAM is the built `thpsplit`. Where memory is refused to it, it ends with sta
 and writes nothing; or it got by with less, or without the thread, and all is as ever. TESTS are built tests; each whose
 name begins with FRONT (each at all, where there is none) passes whatever growth is refused; it may tell by a line
 `refused: CALL` which call met that. Wants a C compiler, `cc` or what CC names; the exit status is 77 where there is
-none. A line for each case tells how many growths were refused; the exit status is 1 where a run ended wrong.
+none. A line for each case tells how many growths were refused; the last line is `N passed, M failed`, by cases and tests.
 """
 
 from __future__ import annotations
@@ -25,7 +25,7 @@ from concurrent.futures import ThreadPoolExecutor
 from typing import Iterable, Iterator, Sequence
 
 from script import Run, Shape
-from tally import SKIPPED
+from tally import Tally
 
 HERE = pathlib.Path(__file__).parent
 COMPILER = os.environ.get("CC", "cc")
@@ -46,19 +46,26 @@ SECTIONS = {
 
 
 def main() -> None:
-    """Refuses, and tells how many runs ended wrong."""
+    """Refuses, and counts the cases and tests in which no run ended wrong."""
     if len(sys.argv) < 2:
         sys.exit(__doc__)
+    tally = Tally(is_brief=True)
     if shutil.which(COMPILER.split()[0]) is None:
-        print(f"skipped: no C compiler, {COMPILER} isn't there")
-        sys.exit(SKIPPED)
+        tally.skip("growths of memory refused", f"no C compiler, {COMPILER} isn't there")
+        tally.end()
     program, *tests = sys.argv[1:]
     with tempfile.TemporaryDirectory() as folder:
         refuser = Refuser(pathlib.Path(folder))
-        wrong = sum(try_case(refuser, program, *case) for case in cases())
-        wrong += sum(try_tests(refuser, it) for it in tests)
-    print(f"{wrong} wrong")
-    sys.exit(wrong != 0)
+        for case in cases():
+            tally.run(case[0], lambda case=case: told(try_case(refuser, program, *case)))
+        for named in tests:
+            tally.run(named, lambda named=named: told(try_tests(refuser, named)))
+    tally.end()
+
+
+def told(wrong: int) -> str | None:
+    """What a tally is told of so many runs that ended wrong."""
+    return f"{wrong} runs ended wrong" if wrong else None
 
 
 class Refuser:

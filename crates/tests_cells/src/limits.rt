@@ -62,5 +62,5 @@ fn batches_at_their_limit(rt: HostRuntime) {
     count_is(&rt, &cell, &mut pass, 128);
     let node = cell.finish(pass);
     // four events queued and pinned each page, three came of the batch, and three of the scan
-    assert_eq!(rt; node.journal().len(), 1280);
+    assert!(rt; node.journal().len() == 1280);
 }

@@ -45,7 +45,7 @@ fn call_round_a_hold(rt: &impl Abort, cell: &NodeCell, a: Pass, mut b: Pass) -> 
     ensures b { result.1 ≡ at_front b result.1.front }
 {
     let hold = hold_node(rt, cell, a);
-    assert_eq!(rt; cell.alloc_page(&mut b, 1), Err(CellFault::Busy));
+    assert!(rt; cell.alloc_page(&mut b, 1) == Err(CellFault::Busy));
     let mut b = refused_hold(rt, cell, b);
     let a = cell.release(hold);
     allocate(rt, cell, &mut b, 1, PageId(0));
@@ -58,8 +58,9 @@ fn busy_while_held(rt: HostRuntime) {
     let (a, b) = cell.split(pass, 1);
     let (a, b) = call_round_a_hold(&rt, &cell, a, b);
     let pass = cell.join(a, b);
+    assert!(rt; pass.callers() == (0, 2));
     let node = cell.finish(pass);
-    assert_eq!(rt; node.journal().len(), 1);
+    assert!(rt; node.journal().len() == 1);
     assert!(rt;
         node.journal()
             .iter()
@@ -96,10 +97,10 @@ fn fault_of(rt: &impl Abort, alloc: Global, callers: u32) -> Option<NewFault> {
 
 #[test]
 fn limits_and_constructors(rt: HostRuntime) {
-    assert_eq!(rt; fault_of(&rt, rt.alloc(), 0), Some(NewFault::BadSize));
-    assert_eq!(rt; fault_of(&rt, rt.alloc(), 1), None);
-    assert_eq!(rt; fault_of(&rt, rt.alloc(), 64), None);
-    assert_eq!(rt; fault_of(&rt, rt.alloc(), 65), Some(NewFault::BadSize));
+    assert!(rt; fault_of(&rt, rt.alloc(), 0) == Some(NewFault::BadSize));
+    assert!(rt; fault_of(&rt, rt.alloc(), 1) == None);
+    assert!(rt; fault_of(&rt, rt.alloc(), 64) == None);
+    assert!(rt; fault_of(&rt, rt.alloc(), 65) == Some(NewFault::BadSize));
 }
 
 // The calls on the whole page.
@@ -108,8 +109,8 @@ fn map_and_unmap_whole(rt: &impl Abort, cell: &NodeCell, pass: &mut Pass, page: 
     requires caller { HasCaller pass.old 0 }
     ensures same { pass.new ≡ at_front pass.old pass.new.front }
 {
-    assert_eq!(rt; cell.map_whole(pass, 0, page), Ok(()));
-    assert_eq!(rt; cell.unmap_whole(pass, 0, page), Ok(stays()));
+    assert!(rt; cell.map_whole(pass, 0, page) == Ok(()));
+    assert!(rt; cell.unmap_whole(pass, 0, page) == Ok(stays()));
 }
 
 // The calls by ranges, which queue the page: its first subpage is mapped, its second isn't.
@@ -120,11 +121,11 @@ fn map_and_unmap(rt: &impl Abort, cell: &NodeCell, pass: &mut Pass, page: PageId
 {
     split_mapping(rt, cell, pass, 0, page);
     unmap(rt, cell, pass, 0, page, 0, 2, queued());
-    assert_eq!(rt; cell.map_sub(pass, 0, page, 0, 1), Ok(()));
+    assert!(rt; cell.map_sub(pass, 0, page, 0, 1) == Ok(()));
     // in 16 bits 65,536 would be 0
     let bad_range = refused(Refusal::BadRange);
-    assert_eq!(rt; cell.map_sub(pass, 0, page, 65_536, 1), bad_range);
-    assert_eq!(rt; cell.write(pass, 0, page, 0, 65_537), bad_range);
+    assert!(rt; cell.map_sub(pass, 0, page, 65_536, 1) == bad_range);
+    assert!(rt; cell.write(pass, 0, page, 0, 65_537) == bad_range);
 }
 
 fn pin_and_unpin(rt: &impl Abort, cell: &NodeCell, pass: &mut Pass, page: PageId)
@@ -133,8 +134,8 @@ fn pin_and_unpin(rt: &impl Abort, cell: &NodeCell, pass: &mut Pass, page: PageId
     ensures same { pass.new ≡ at_front pass.old pass.new.front }
 {
     pin_page(rt, cell, pass, 0, page);
-    assert_eq!(rt; cell.unpin(pass, 0, page), Ok(stays()));
-    assert_eq!(rt; cell.unpin(pass, 0, page), refused(Refusal::NotPinned));
+    assert!(rt; cell.unpin(pass, 0, page) == Ok(stays()));
+    assert!(rt; cell.unpin(pass, 0, page) == refused(Refusal::NotPinned));
 }
 
 // The close, and the last unmaps of a page that is mapped at its first subpage and from its third on.
@@ -143,8 +144,8 @@ fn close_and_free(rt: &impl Abort, cell: &NodeCell, pass: &mut Pass, page: PageI
     requires caller { HasCaller pass.old 0 }
     ensures same { pass.new ≡ at_front pass.old pass.new.front }
 {
-    assert_eq!(rt; cell.close(pass, 0), Ok(()));
-    assert_eq!(rt; cell.alloc_page(pass, 0), refused(Refusal::Closed));
+    assert!(rt; cell.close(pass, 0) == Ok(()));
+    assert!(rt; cell.alloc_page(pass, 0) == refused(Refusal::Closed));
     unmap(rt, cell, pass, 0, page, 0, 1, stays());
     unmap(rt, cell, pass, 0, page, 2, 510, freed());
 }
@@ -220,5 +221,5 @@ fn frees_across_batches(rt: HostRuntime) {
     free_across_batches(&rt, &cell, &mut a, &mut b);
     let pass = cell.join(a, b);
     let node = cell.finish(pass);
-    assert_eq!(rt; (node.frames_held(), node.frames_given()), (1023, 513));
+    assert!(rt; (node.frames_held(), node.frames_given()) == (1023, 513));
 }

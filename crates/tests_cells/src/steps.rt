@@ -109,7 +109,7 @@ pub(crate) fn allocate(rt: &impl Abort, cell: &NodeCell, pass: &mut Pass, caller
     ensures same { pass.new ≡ at_front pass.old pass.new.front }
     ensures batches { BatchesStay pass.old pass.new }
 {
-    assert_eq!(rt; cell.alloc_page(pass, caller), Ok(page));
+    assert!(rt; cell.alloc_page(pass, caller) == Ok(page));
 }
 
 // Splits the PMD mapping of a page.
@@ -125,7 +125,7 @@ pub(crate) fn split_mapping(
     ensures same { pass.new ≡ at_front pass.old pass.new.front }
     ensures batches { BatchesStay pass.old pass.new }
 {
-    assert_eq!(rt; cell.split_pmd(pass, caller, page), Ok(()));
+    assert!(rt; cell.split_pmd(pass, caller, page) == Ok(()));
 }
 
 // Unmaps a range of a page, with this answer.
@@ -144,10 +144,7 @@ pub(crate) fn unmap(
     ensures same { pass.new ≡ at_front pass.old pass.new.front }
     ensures batches { BatchesStay pass.old pass.new }
 {
-    assert_eq!(rt;
-        cell.unmap_sub(pass, caller, page, first, count),
-        Ok(answer)
-    );
+    assert!(rt; cell.unmap_sub(pass, caller, page, first, count) == Ok(answer));
 }
 
 // Writes data to a range of a page.
@@ -165,7 +162,7 @@ pub(crate) fn write_data(
     ensures same { pass.new ≡ at_front pass.old pass.new.front }
     ensures batches { BatchesStay pass.old pass.new }
 {
-    assert_eq!(rt; cell.write(pass, caller, page, first, count), Ok(()));
+    assert!(rt; cell.write(pass, caller, page, first, count) == Ok(()));
 }
 
 // Pins a page.
@@ -175,7 +172,7 @@ pub(crate) fn pin_page(rt: &impl Abort, cell: &NodeCell, pass: &mut Pass, caller
     ensures same { pass.new ≡ at_front pass.old pass.new.front }
     ensures batches { BatchesStay pass.old pass.new }
 {
-    assert_eq!(rt; cell.pin(pass, caller, page), Ok(()));
+    assert!(rt; cell.pin(pass, caller, page) == Ok(()));
 }
 
 // Allocates the page of this number, splits its PMD mapping and unmaps its first subpage, which queues it.
@@ -202,7 +199,7 @@ pub(crate) fn count_is(rt: &impl Abort, cell: &NodeCell, pass: &mut Pass, pages:
     ensures same { pass.new ≡ at_front pass.old pass.new.front }
     ensures batches { BatchesStay pass.old pass.new }
 {
-    assert_eq!(rt; cell.count(pass), pages);
+    assert!(rt; cell.count(pass) == pages);
 }
 
 // Scans up to `n` pages, with this answer.
@@ -220,7 +217,7 @@ pub(crate) fn scan_pages(
     ensures same { pass.new ≡ at_front pass.old pass.new.front }
     ensures batches { BatchesStay pass.old pass.new }
 {
-    assert_eq!(rt; cell.scan(pass, caller, n), Ok(answer));
+    assert!(rt; cell.scan(pass, caller, n) == Ok(answer));
 }
 
 // Takes up to `n` pages, of which these are the first and the last.
@@ -243,10 +240,7 @@ pub(crate) fn take_pages(
     match cell.take(pass, caller, n) {
         Ok(batch) => {
             let pages = batch.pages();
-            assert_eq!(rt;
-                (pages.first(), pages.last()),
-                (Some(&ends.0), Some(&ends.1))
-            );
+            assert!(rt; (pages.first(), pages.last()) == (Some(&ends.0), Some(&ends.1)));
             batch
         }
         Err(_) => panic!(rt; "a take was refused"),
@@ -269,7 +263,7 @@ pub(crate) fn try_page(
     ensures front { IsInFront pass.new.front batch.new }
     ensures batches { BatchesStay pass.old pass.new }
 {
-    assert_eq!(rt; cell.split_next(pass, batch), Ok(answer));
+    assert!(rt; cell.split_next(pass, batch) == Ok(answer));
 }
 
 // Puts a batch back, of which so many pages return and none is dropped.
@@ -287,7 +281,7 @@ pub(crate) fn return_pages(
     ensures batches { BatchesStay pass.old pass.new }
 {
     match cell.put_back(pass, batch) {
-        Ok(BackReply { back, dropped }) => assert_eq!(rt; (back, dropped), (pages, 0)),
+        Ok(BackReply { back, dropped }) => assert!(rt; (back, dropped) == (pages, 0)),
         Err(_) => panic!(rt; "a put-back was refused"),
     }
 }

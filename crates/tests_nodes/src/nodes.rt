@@ -27,7 +27,7 @@ pub(crate) fn expect(rt: &impl Abort, node: &mut Node, caller: u32, steps: &[(Ca
     requires { caller < 64 }
     ensures { FrontsStay node.old.journal node.new.journal }
 {
-    assert_eq!(rt; first_wrong(node, caller, steps), None);
+    assert!(rt; first_wrong(node, caller, steps) == None);
 }
 
 // The page of this number is allocated and queued.
@@ -39,13 +39,13 @@ pub(crate) fn queue_page(rt: &impl Abort, node: &mut Node, page: PageId)
 
 // How many pages the node's queue has.
 pub(crate) fn expect_queued(rt: &impl Abort, node: &Node, pages: u32) {
-    assert_eq!(rt; node.queue_len(), pages);
+    assert!(rt; node.queue_len() == pages);
 }
 
 // How many frames the node's pages hold, and how many were given back.
 pub(crate) fn expect_frames(rt: &impl Abort, node: &Node, held: u128, given: u128) {
-    assert_eq!(rt; node.frames_held(), held);
-    assert_eq!(rt; node.frames_given(), given);
+    assert!(rt; node.frames_held() == held);
+    assert!(rt; node.frames_given() == given);
 }
 
 // How many events the node's journal has.

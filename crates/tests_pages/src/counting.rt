@@ -72,7 +72,7 @@ pub(crate) fn calls_counted<T: LinkTable + Drop>(rt: &impl Abort, table: T, midd
     assert!(rt; table.spent() <= 6, "remove of {len}");
     queue.push_back(&mut table, middle);
     assert!(rt; table.spent() <= 4, "push_back of {len}");
-    assert_eq!(rt; queue.pop_front(&mut table), Some(0));
+    assert!(rt; queue.pop_front(&mut table) == Some(0));
     assert!(rt; table.spent() <= 4, "pop_front of {len}");
-    assert_eq!(rt; queue.len(), len - 1);
+    assert!(rt; queue.len() == len - 1);
 }

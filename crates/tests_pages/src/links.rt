@@ -78,14 +78,14 @@ fn queue_by_hand(rt: &impl Abort, table: &mut Pairs)
     requires { length table.old.pairs.items ≡ 4 }
 {
     let mut queue = queue_of_three(table);
-    assert_eq!(rt; queue.len(), 3);
+    assert!(rt; queue.len() == 3);
     queue.remove(table, 0);
-    assert_eq!(rt; queue.pop_front(table), Some(2));
-    assert_eq!(rt; queue.pop_front(table), Some(3));
-    assert_eq!(rt; queue.pop_front(table), None);
-    assert_eq!(rt; queue.front(), None);
+    assert!(rt; queue.pop_front(table) == Some(2));
+    assert!(rt; queue.pop_front(table) == Some(3));
+    assert!(rt; queue.pop_front(table) == None);
+    assert!(rt; queue.front() == None);
     queue.push_back(table, 0);
-    assert_eq!(rt; queue.front(), Some(0));
+    assert!(rt; queue.front() == Some(0));
 }
 
 // So does a chain.
@@ -95,10 +95,10 @@ fn chain_by_hand(rt: &impl Abort, table: &mut Pairs)
     let mut chain = FreeChain::new();
     chain.push(table, 1);
     chain.push(table, 3);
-    assert_eq!(rt; chain.first(), Some(3));
-    assert_eq!(rt; chain.pop(table), Some(3));
-    assert_eq!(rt; chain.pop(table), Some(1));
-    assert_eq!(rt; chain.pop(table), None);
+    assert!(rt; chain.first() == Some(3));
+    assert!(rt; chain.pop(table) == Some(3));
+    assert!(rt; chain.pop(table) == Some(1));
+    assert!(rt; chain.pop(table) == None);
 }
 
 #[test]
@@ -160,11 +160,11 @@ fn one_table_serves_both(rt: HostRuntime) -> Result<(), Fail> {
     let mut queue = Queue::new();
     free.push(&mut table, 2);
     free.push(&mut table, 3);
-    assert_eq!(rt; enqueue_free(&mut table, &mut free, &mut queue), Some(3));
-    assert_eq!(rt; queue.front(), Some(3));
-    assert_eq!(rt; free.first(), Some(2));
+    assert!(rt; enqueue_free(&mut table, &mut free, &mut queue) == Some(3));
+    assert!(rt; queue.front() == Some(3));
+    assert!(rt; free.first() == Some(2));
     release(&mut table, &mut free, &mut queue, 3);
-    assert_eq!(rt; queue.front(), None);
-    assert_eq!(rt; free.first(), Some(3));
+    assert!(rt; queue.front() == None);
+    assert!(rt; free.first() == Some(3));
     Ok(())
 }

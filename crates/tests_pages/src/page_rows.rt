@@ -19,7 +19,7 @@ fn counts_at_their_limit_at(rt: &impl Abort, order: u32)
 {
     let mut page = Page::fresh(order);
     repeat(rt, &mut page, Call::MapWhole, 65_534);
-    assert_eq!(rt; page.whole(), 65_535);
+    assert!(rt; page.whole() == 65_535);
     let steps = [
         (Call::MapWhole, Answer::Refused(Refusal::TooMany)),
         (Call::MapSub(0, 1), Answer::Refused(Refusal::TooMany)),
@@ -27,7 +27,7 @@ fn counts_at_their_limit_at(rt: &impl Abort, order: u32)
         (Call::MapSub(0, 1), Answer::Refused(Refusal::TooMany)),
     ];
     expect(rt, &mut page, &steps);
-    assert_eq!(rt; page.whole(), 65_534);
+    assert!(rt; page.whole() == 65_534);
 
     let mut pinned = Page::fresh(order);
     repeat(rt, &mut pinned, Call::Pin, 65_535);
@@ -36,7 +36,7 @@ fn counts_at_their_limit_at(rt: &impl Abort, order: u32)
         &mut pinned,
         &[(Call::Pin, Answer::Refused(Refusal::TooMany))],
     );
-    assert_eq!(rt; pinned.pins(), 65_535);
+    assert!(rt; pinned.pins() == 65_535);
 }
 
 #[test]
@@ -184,16 +184,16 @@ fn split_of_a_mapped_page_at(rt: &impl Abort, order: u32, last: u32)
         (Call::UnmapSub(0, 1), change(true, true)),
     ];
     expect(rt, &mut page, &unmapped);
-    assert_eq!(rt; page.in_use_set(), SubSet::range(1, last));
+    assert!(rt; page.in_use_set() == SubSet::range(1, last));
     let split = [
         (Call::MapWhole, Answer::Done),
         (Call::Split(false), Answer::GaveBack(SubSet::empty())),
     ];
     expect(rt, &mut page, &split);
-    assert_eq!(rt; page.whole(), 0);
+    assert!(rt; page.whole() == 0);
     assert!(rt; page.is_split());
-    assert_eq!(rt; page.in_use_set(), SubSet::full(order));
-    assert_eq!(rt; page.order(), order);
+    assert!(rt; page.in_use_set() == SubSet::full(order));
+    assert!(rt; page.order() == order);
 }
 
 #[test]
@@ -216,11 +216,11 @@ fn pinned_page_is_freed_by_unpin_at(rt: &impl Abort, order: u32)
         (Call::UnmapWhole, change(true, false)),
     ];
     expect(rt, &mut page, &unmapped);
-    assert_eq!(rt; page.pins(), 1);
+    assert!(rt; page.pins() == 1);
     expect(rt, &mut page, &[(Call::Unpin, Answer::Done)]);
-    assert_eq!(rt; page.pins(), 0);
+    assert!(rt; page.pins() == 0);
     assert!(rt; !page.has_use());
-    assert_eq!(rt; page.in_use_set(), SubSet::empty());
+    assert!(rt; page.in_use_set() == SubSet::empty());
 }
 
 #[test]
@@ -244,6 +244,6 @@ fn subpages_go_out_of_use_one_by_one(rt: HostRuntime) {
         (Call::UnmapSub(3, 1), change(true, true)),
     ];
     expect(&rt, &mut page, &unmapped);
-    assert_eq!(rt; page.order(), 2);
+    assert!(rt; page.order() == 2);
     assert!(rt; page.in_use(0) && !page.in_use(3));
 }

@@ -16,27 +16,27 @@ fn ranges_and_full_sets(rt: HostRuntime) {
     ];
     for (i, want) in inside {
         if i < 512 {
-            assert_eq!(rt; set.contains(i), want, "subpage {i}");
+            assert!(rt; set.contains(i) == want, "subpage {i}");
         }
     }
-    assert_eq!(rt; set.count(), 10);
-    assert_eq!(rt; SubSet::range(0, 512).count(), 512);
-    assert_eq!(rt; SubSet::range(511, 1).count(), 1);
-    assert_eq!(rt; SubSet::full(2), SubSet::range(0, 4));
-    assert_eq!(rt; SubSet::full(9), SubSet::range(0, 512));
+    assert!(rt; set.count() == 10);
+    assert!(rt; SubSet::range(0, 512).count() == 512);
+    assert!(rt; SubSet::range(511, 1).count() == 1);
+    assert!(rt; SubSet::full(2) == SubSet::range(0, 4));
+    assert!(rt; SubSet::full(9) == SubSet::range(0, 512));
 }
 
 #[test]
 fn sets_of_two(rt: HostRuntime) {
     let (low, high) = (SubSet::range(0, 300), SubSet::range(200, 312));
-    assert_eq!(rt; low.union(high), SubSet::full(9));
-    assert_eq!(rt; low.difference(high), SubSet::range(0, 200));
+    assert!(rt; low.union(high) == SubSet::full(9));
+    assert!(rt; low.difference(high) == SubSet::range(0, 200));
     assert!(rt; low.difference(SubSet::full(9)).is_empty());
     assert!(rt; !low.is_empty());
     let mut one = SubSet::empty();
     assert!(rt; one.is_empty());
     one.insert(300);
-    assert_eq!(rt; one, SubSet::range(300, 1));
+    assert!(rt; one == SubSet::range(300, 1));
     assert!(rt; one != low);
 }
 
@@ -51,17 +51,11 @@ fn subpages_with_a_count(rt: HostRuntime) {
     let sevens = SubSet::with_count(&counts, 0, 512, 7);
     let ends = SubSet::range(0, 1).union(SubSet::range(511, 1));
     let inner = SubSet::range(63, 2).union(SubSet::range(200, 1));
-    assert_eq!(rt; sevens, ends.union(inner));
-    assert_eq!(rt;
-        SubSet::with_count(&counts, 0, 512, 0),
-        SubSet::full(9).difference(sevens)
-    );
-    assert_eq!(rt; SubSet::with_count(&counts, 1, 510, 7), inner);
-    assert_eq!(rt; SubSet::with_count(&counts, 64, 1, 7), SubSet::range(64, 1));
-    assert_eq!(rt;
-        SubSet::with_count(&counts, 70, 10, 0),
-        SubSet::range(70, 10)
-    );
+    assert!(rt; sevens == ends.union(inner));
+    assert!(rt; SubSet::with_count(&counts, 0, 512, 0) == SubSet::full(9).difference(sevens));
+    assert!(rt; SubSet::with_count(&counts, 1, 510, 7) == inner);
+    assert!(rt; SubSet::with_count(&counts, 64, 1, 7) == SubSet::range(64, 1));
+    assert!(rt; SubSet::with_count(&counts, 70, 10, 0) == SubSet::range(70, 10));
     assert!(rt; SubSet::with_count(&counts, 65, 135, 7).is_empty());
     assert!(rt; SubSet::with_count(&counts, 512, 0, 7).is_empty());
 }
@@ -74,7 +68,7 @@ fn shapes(rt: HostRuntime) {
         underused: None,
     };
     assert!(rt; shape.is_valid());
-    assert_eq!(rt; shape.subpages(), 512);
+    assert!(rt; shape.subpages() == 512);
     for (blocks, order) in [(0, 9), (4097, 9), (1, 1), (1, 10)] {
         let shape = Shape {
             blocks,
@@ -98,7 +92,7 @@ fn thresholds(rt: HostRuntime) {
             order: 2,
             underused,
         };
-        assert_eq!(rt; shape.is_valid(), is_valid);
-        assert_eq!(rt; shape.shrinks_underused(), is_on);
+        assert!(rt; shape.is_valid() == is_valid);
+        assert!(rt; shape.shrinks_underused() == is_on);
     }
 }

@@ -41,7 +41,7 @@ fn put(rt: &impl Abort, table: &mut PageTable, block: u32, id: PageId)
     requires { block < length table.old.links }
     ensures { table.new ≡ with_slot table.old block (Some (fresh_slot table.old.order id)) }
 {
-    assert_eq!(rt; table.block_of(id), None, "number {}", id.0);
+    assert!(rt; table.block_of(id) == None, "number {}", id.0);
     assert!(rt; table.page(block).is_none(), "block {block}");
     table.place(block, id);
 }
@@ -62,10 +62,10 @@ fn pair_after<T: LinkTable>(table: &mut T, i: u32, link: Link) -> Link
 #[test]
 fn limits_and_constructors(rt: HostRuntime) -> Result<(), Fail> {
     let mut table = PageTable::new(rt.alloc(), 4, 9)?;
-    assert_eq!(rt; table.len(), 4);
-    assert_eq!(rt; table.block_of(PageId(0)), None);
+    assert!(rt; table.len() == 4);
+    assert!(rt; table.block_of(PageId(0)) == None);
     table.place(2, PageId(0));
-    assert_eq!(rt; table.block_of(PageId(0)), Some(2));
+    assert!(rt; table.block_of(PageId(0)) == Some(2));
     Ok(())
 }
 
@@ -74,29 +74,29 @@ fn limits_and_constructors(rt: HostRuntime) -> Result<(), Fail> {
 fn page_comes_and_goes(rt: HostRuntime) -> Result<(), Fail> {
     let mut table = PageTable::new(rt.alloc(), 4, 9)?;
     let link = Link { prev: 3, next: 0 };
-    assert_eq!(rt; pair_after(&mut table, 2, link), link);
-    assert_eq!(rt;
-        table.link(1),
-        Link {
-            prev: NIL,
-            next: NIL
-        }
+    assert!(rt; pair_after(&mut table, 2, link) == link);
+    assert!(rt;
+        table.link(1)
+            == Link {
+                prev: NIL,
+                next: NIL
+            }
     );
     put(&rt, &mut table, 2, PageId(7));
-    assert_eq!(rt; table.standing(2), Standing::Nowhere);
-    assert_eq!(rt; pins_at(&table, 2), 0);
-    assert_eq!(rt; pin_at(&mut table, 2), Ok(()));
+    assert!(rt; table.standing(2) == Standing::Nowhere);
+    assert!(rt; pins_at(&table, 2) == 0);
+    assert!(rt; pin_at(&mut table, 2) == Ok(()));
     table.set_standing(2, Standing::Batch(5));
-    assert_eq!(rt; pins_at(&table, 2), 1);
-    assert_eq!(rt; table.standing(2), Standing::Batch(5));
-    assert_eq!(rt; table.link(2), link);
+    assert!(rt; pins_at(&table, 2) == 1);
+    assert!(rt; table.standing(2) == Standing::Batch(5));
+    assert!(rt; table.link(2) == link);
     table.clear(2);
-    assert_eq!(rt; table.block_of(PageId(7)), None);
+    assert!(rt; table.block_of(PageId(7)) == None);
     assert!(rt; table.page(2).is_none());
-    assert_eq!(rt; table.link(2), link);
+    assert!(rt; table.link(2) == link);
     put(&rt, &mut table, 2, PageId(8));
-    assert_eq!(rt; pins_at(&table, 2), 0);
-    assert_eq!(rt; table.standing(2), Standing::Nowhere);
+    assert!(rt; pins_at(&table, 2) == 0);
+    assert!(rt; table.standing(2) == Standing::Nowhere);
     Ok(())
 }
 
@@ -109,9 +109,9 @@ fn numbers_alike_are_found(rt: HostRuntime) -> Result<(), Fail> {
     }
     for block in 0..4096 {
         let number = block as u64 * 65_536;
-        assert_eq!(rt; table.block_of(PageId(number)), Some(block));
-        assert_eq!(rt; table.block_of(PageId(number + 1)), None);
-        assert_eq!(rt; table.block_of(PageId(u64::MAX - number)), None);
+        assert!(rt; table.block_of(PageId(number)) == Some(block));
+        assert!(rt; table.block_of(PageId(number + 1)) == None);
+        assert!(rt; table.block_of(PageId(u64::MAX - number)) == None);
     }
     Ok(())
 }

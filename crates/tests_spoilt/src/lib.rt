@@ -12,6 +12,8 @@ mod failures;
 #[cfg(test)]
 mod journals;
 #[cfg(test)]
+mod large;
+#[cfg(test)]
 mod limits;
 #[cfg(test)]
 mod memory;

@@ -20,6 +20,12 @@ impl Row {
     }
 }
 
+/// Journals of two queued pages, of which the second or the first is taken: the one is illegal, the other legal.
+pub(crate) const JOURNALS: [&[u8]; 2] = [
+    b"thp-journal 1\nnode 0 blocks 4\n0 alloc 0\n0 splitpmd 0\n0 unmapsub 0 0 1 queued -\n0 alloc 1\n0 splitpmd 1\n0 unmapsub 1 0 1 queued -\n0 taken 1\nend\n",
+    b"thp-journal 1\nnode 0 blocks 4\n0 alloc 0\n0 splitpmd 0\n0 unmapsub 0 0 1 queued -\n0 alloc 1\n0 splitpmd 1\n0 unmapsub 1 0 1 queued -\n0 taken 0\nend\n",
+];
+
 /// The rows: each command stands in one of them, and most of the refusals.
 pub(crate) const ROWS: [Row; 12] = [
     // first_run

@@ -2,7 +2,7 @@
 use crate::answers::{Fault, answer};
 use crate::devices::{LARGE, Source};
 use crate::passages::pass;
-use crate::rows::{ROWS, Row};
+use crate::rows::{JOURNALS, ROWS, Row};
 use std::alloc::Global;
 use std::thread::Threads;
 use thp_run::{Report, Settings, TextKind};
@@ -178,6 +178,11 @@ pub(crate) fn try_rows<T: Threads + Sync>(
                 let journal = journal_of(rt, alloc, row)?;
                 try_text(rt, alloc, None, journal.as_slice(), spoilt, &mut tally)?;
             }
+        }
+    }
+    if matches!(texts, Texts::Journals) {
+        for journal in JOURNALS {
+            try_text(rt, alloc, None, journal, spoilt, &mut tally)?;
         }
     }
     Some((tally.tried, tally.faulty))

@@ -24,9 +24,9 @@ fn tallies_of(alloc: Global, nodes: &[Node]) -> Option<Vec<Tally>> {
 
 // Each section's answers are explained.
 fn explain_sections(rt: &impl Abort, alloc: Global, tallies: &[Tally], script: &Script, ran: &Ran) {
-    assert_eq!(rt; ran.sections.len(), script.workers.as_slice().len() + 1);
+    assert!(rt; ran.sections.len() == script.workers.as_slice().len() + 1);
     for (number, section) in ran.sections.iter().enumerate() {
-        assert_eq!(rt; section.worker as usize, number);
+        assert!(rt; section.worker as usize == number);
         let commands = match number.checked_sub(1) {
             Some(worker) => script.workers.as_slice().get(worker).expect(rt, "a worker"),
             None => &script.setup,
@@ -40,24 +40,44 @@ fn explain_sections(rt: &impl Abort, alloc: Global, tallies: &[Tally], script: &
 // The reports tell what the nodes and the answers say.
 fn tell_the_run(rt: &impl Abort, alloc: Global, settings: &Settings, tallies: &[Tally], ran: &Ran) {
     let nodes = ran.nodes.as_slice();
-    assert_eq!(rt; is_journal(alloc, settings, nodes), Some(true));
-    assert_eq!(rt; are_totals(alloc, settings, nodes, tallies), Some(true));
+    assert!(rt; is_journal(alloc, settings, nodes) == Some(true));
+    assert!(rt; are_totals(alloc, settings, nodes, tallies) == Some(true));
     let sections = ran.sections.as_slice();
-    assert_eq!(rt; are_answers(alloc, settings, nodes, sections), Some(true));
+    assert!(rt; are_answers(alloc, settings, nodes, sections) == Some(true));
 }
 
-// Runs the script of a plan, and goes over what it left.
-fn run_plan<R: Threads + Clock + Abort + Sync>(rt: &R, alloc: Global, plan: &Plan) {
+// How often an event of a worker from the ninth on stands right behind one of another such worker. Were they all told
+// that the nodes are busy, each would do its section alone at the end, and they would change some sixty times on a node.
+fn changes_of(nodes: &[Node]) -> usize {
+    let mut changes = 0usize;
+    for node in nodes {
+        let mut last = 0u32;
+        for event in node.journal() {
+            if last > 8 && event.caller > 8 && last != event.caller {
+                changes = changes.saturating_add(1);
+            }
+            last = event.caller;
+        }
+    }
+    changes
+}
+
+// Runs the script of a plan, goes over what it left, and answers how often later workers change.
+fn run_plan<R: Threads + Clock + Abort + Sync>(rt: &R, alloc: Global, plan: &Plan) -> usize {
     let settings = settings_of(rt, plan);
     let (script, ran) = ran(rt, alloc, plan, &settings);
-    assert_eq!(rt; ran.nodes.len(), 8);
+    assert!(rt; ran.nodes.len() == 8);
     for node in ran.nodes.iter() {
         assert!(rt; check(alloc, node.shape(), node.journal()).is_ok());
     }
     let tallies = tallies_of(alloc, ran.nodes.as_slice()).expect(rt, "a tally");
     explain_sections(rt, alloc, tallies.as_slice(), &script, &ran);
     tell_the_run(rt, alloc, &settings, tallies.as_slice(), &ran);
+    changes_of(ran.nodes.as_slice())
 }
+
+// Where workers take turns, of some 100,000 events.
+const LEAST_CHANGES: usize = 5_000;
 
 #[test]
 fn eight_workers(rt: HostRuntime) {
@@ -69,7 +89,7 @@ fn eight_workers(rt: HostRuntime) {
         pace: 80,
         take_turns: false,
     };
-    run_plan(&rt, rt.alloc(), &plan);
+    let _changes = run_plan(&rt, rt.alloc(), &plan);
 }
 
 #[test]
@@ -82,7 +102,7 @@ fn twenty_four_workers(rt: HostRuntime) {
         pace: 12,
         take_turns: true,
     };
-    run_plan(&rt, rt.alloc(), &plan);
+    assert!(rt; run_plan(&rt, rt.alloc(), &plan) >= LEAST_CHANGES);
 }
 
 #[test]
@@ -95,5 +115,5 @@ fn sixty_three_workers(rt: HostRuntime) {
         pace: 4,
         take_turns: true,
     };
-    run_plan(&rt, rt.alloc(), &plan);
+    assert!(rt; run_plan(&rt, rt.alloc(), &plan) >= LEAST_CHANGES);
 }

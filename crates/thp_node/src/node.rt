@@ -1,7 +1,7 @@
 //! A memory node: what it is made of, how it is made, and what can be read of it.
 ghost use Rattle.std.specs.Prelude.{◌≡◌, ℕ, ◌<◌, ◌≤◌, true, [], length, map, Some, ◌↔◌, Err, IfOk, IfErr, OnOk, OnErr};
 ghost use Rattle.thp_links.specs.Standing.{Stands};
-ghost use Rattle.thp_model.specs.Counts.{is_live};
+ghost use Rattle.thp_model.specs.Counts.{allocations, is_live};
 ghost use Rattle.thp_model.specs.Shapes.{IsShape};
 ghost use Rattle.thp_model.specs.Frames.{frames_given, frames_held};
 ghost use Rattle.thp_model.specs.Legal.{IsLegal};
@@ -134,6 +134,13 @@ impl Node {
         ensures pages { map (block_of self.now.journal) (queue self.now.shape self.now.journal) ≡ map (λ b. Some b) self.now.queue }
     {
         self.blocks.queue()
+    }
+
+    /// How many pages were allocated, those that were freed since counted in.
+    pub fn allocations(&self) -> u64
+        ensures { result ≡ allocations self.now.journal }
+    {
+        self.journal.next()
     }
 
     /// How many pages are queued, which is what the shrinker counts.

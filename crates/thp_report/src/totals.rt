@@ -1,6 +1,5 @@
 //! The totals of nodes as text.
 ghost use Rattle.std.specs.Prelude.{◌≡◌, ◌++◌, OnOk, IfOk, map};
-ghost use Rattle.thp_model.specs.Counts.{allocations};
 ghost use Rattle.thp_report.specs.Totals.{number_line, nine_lines, underused_line, node_totals, totals_text};
 ghost use Rattle.thp_report.specs.Reports.{told_of};
 
@@ -34,7 +33,7 @@ fn put_nine_lines(text: &mut Vec<u8>, number: usize, node: &Node) -> Result<(), 
 {
     let counters = node.counters();
     put_line(text, b"node ", number as u128)?;
-    put_line(text, b"pages ", pages_of(node))?;
+    put_line(text, b"pages ", u128::from(node.allocations()))?;
     put_line(text, b"queue ", u128::from(node.queue_len()))?;
     put_line(text, b"frames_held ", node.frames_held())?;
     put_line(text, b"frames_given ", node.frames_given())?;
@@ -71,14 +70,4 @@ fn put_line(text: &mut Vec<u8>, label: &[u8], number: u128) -> Result<(), AllocE
     put(text, label)?;
     put(text, Buffer::new().format(number).as_bytes())?;
     put(text, b"\n")
-}
-
-/// How many pages were allocated: the frames that pages hold and those given back, by how many a page has at first.
-fn pages_of(node: &Node) -> u128
-    ensures { result ≡ allocations node.now.journal }
-{
-    let subpages = u128::from(node.shape().subpages());
-    // Its length tells the proof that the sum is bounded.
-    let _events = node.journal();
-    (node.frames_held() + node.frames_given()) / subpages
 }

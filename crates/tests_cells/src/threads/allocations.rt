@@ -41,8 +41,8 @@ fn is_allocation(event: &Event, caller: u32, page: PageId) -> bool {
 
 // The events are 40 allocations, in the order of the pages' numbers, and 20 of them by caller 1.
 fn are_40_allocations(rt: &impl Abort, events: &[Event]) {
-    assert_eq!(rt; events.len(), 40);
-    assert_eq!(rt; events.iter().filter(|event| event.caller == 1).count(), 20);
+    assert!(rt; events.len() == 40);
+    assert!(rt; events.iter().filter(|event| event.caller == 1).count() == 20);
     for (number, event) in events.iter().enumerate() {
         assert!(rt; is_allocation(event, event.caller, PageId(number as u64)));
     }
@@ -58,7 +58,7 @@ fn two_threads_allocate(rt: HostRuntime) {
         move || allocate_20(shared, a, 0),
         move || allocate_20(shared, b, 1),
     );
-    assert_eq!(rt; (pages_of_a, pages_of_b), (20, 20));
+    assert!(rt; (pages_of_a, pages_of_b) == (20, 20));
     let pass = cell.join(a, b);
     let node = cell.finish(pass);
     are_40_allocations(&rt, node.journal());

@@ -36,9 +36,9 @@ fn event_at(place: u64) -> What {
 // From `from` on every page was taken, tried and put back, in the order of the queue, and nothing else happened.
 fn expect_round(rt: &impl Abort, node: &Node, from: usize) {
     let events = node.journal();
-    assert_eq!(rt; events.len(), from.saturating_add(384));
+    assert!(rt; events.len() == from.saturating_add(384));
     for (place, event) in (0..384).zip(events.iter().skip(from)) {
-        assert_eq!(rt; event.what, event_at(place), "event {place}");
+        assert!(rt; event.what == event_at(place), "event {place}");
     }
 }
 
@@ -48,7 +48,7 @@ fn scan_of_a_full_batch(rt: HostRuntime) {
     let mut node = node_of_pinned(&rt, rt.alloc());
     expect_queued(&rt, &node, 128);
     let from = event_count(&node);
-    assert_eq!(rt; node.reserve(384), Ok(()));
+    assert!(rt; node.reserve(384) == Ok(()));
     expect_scan(&rt, &mut node, 0, 128, scanned(128, 0, 128, 128, 0));
     expect_queued(&rt, &node, 128);
     expect_round(&rt, &node, from);
@@ -71,7 +71,7 @@ fn tries_of_a_full_batch(rt: HostRuntime) -> Result<(), Fail> {
     let (pages, tries) = pages_and_tries(rt.alloc())?;
     let mut node = node_of_pinned(&rt, rt.alloc());
     let from = event_count(&node);
-    assert_eq!(rt; node.reserve(384), Ok(()));
+    assert!(rt; node.reserve(384) == Ok(()));
     let mut batch = take_these(&rt, &mut node, 5, 128, &pages);
     expect_queued(&rt, &node, 0);
     expect_tries(&rt, &mut node, &mut batch, &tries);

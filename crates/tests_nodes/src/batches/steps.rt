@@ -35,7 +35,7 @@ pub(crate) fn take_these(
     ensures fronts { OtherFrontsStay caller node.old.journal node.new.journal }
 {
     let batch = take(rt, node, caller, n);
-    assert_eq!(rt; batch.pages(), pages);
+    assert!(rt; batch.pages() == pages);
     batch
 }
 
@@ -48,7 +48,7 @@ pub(crate) fn expect_tries(rt: &impl Abort, node: &mut Node, batch: &mut Batch, 
 {
     for (place, &want) in answers.iter().enumerate() {
         let tried = node.split_next(batch);
-        assert_eq!(rt; tried, Ok(want), "try {place}");
+        assert!(rt; tried == Ok(want), "try {place}");
     }
 }
 
@@ -64,7 +64,7 @@ pub(crate) fn expect_put_back(
     ensures { FrontsStay node.old.journal node.new.journal }
 {
     match node.put_back(batch) {
-        Ok(reply) => assert_eq!(rt; reply, BackReply { back, dropped }),
+        Ok(reply) => assert!(rt; reply == BackReply { back, dropped }),
         Err(_) => panic!(rt; "a put-back was refused"),
     }
 }
@@ -75,7 +75,7 @@ pub(crate) fn expect_scan(rt: &impl Abort, node: &mut Node, caller: u32, n: u32,
     requires count { n ≤ 128 }
     ensures { OtherFrontsStay caller node.old.journal node.new.journal }
 {
-    assert_eq!(rt; node.scan(caller, n), Ok(want));
+    assert!(rt; node.scan(caller, n) == Ok(want));
 }
 
 // A caller that has a batch may neither take nor scan, and what it tries of that changes nothing.
@@ -86,10 +86,10 @@ pub(crate) fn expect_has_batch(rt: &impl Abort, node: &mut Node, caller: u32, n:
 {
     match node.take(caller, n) {
         Ok(_) => panic!(rt; "a take was not refused"),
-        Err(refusal) => assert_eq!(rt; refusal, Refusal::HasBatch),
+        Err(refusal) => assert!(rt; refusal == Refusal::HasBatch),
     }
     match node.scan(caller, n) {
         Ok(_) => panic!(rt; "a scan was not refused"),
-        Err(refusal) => assert_eq!(rt; refusal, Refusal::HasBatch),
+        Err(refusal) => assert!(rt; refusal == Refusal::HasBatch),
     }
 }

@@ -30,14 +30,14 @@ pub(crate) fn expect_row(rt: &impl Abort, node: Node, steps: &[Step]) -> Node {
             }
             Step::Scan(n, want) => {
                 assert!(rt; n <= 128, "step {place}");
-                assert_eq!(rt; node.scan(0, n), Ok(want), "step {place}");
+                assert!(rt; node.scan(0, n) == Ok(want), "step {place}");
             }
-            Step::Queued(pages) => assert_eq!(rt; node.queue_len(), pages, "step {place}"),
+            Step::Queued(pages) => assert!(rt; node.queue_len() == pages, "step {place}"),
             Step::Frames(held, given) => {
-                assert_eq!(rt; node.frames_held(), held, "step {place}");
-                assert_eq!(rt; node.frames_given(), given, "step {place}");
+                assert!(rt; node.frames_held() == held, "step {place}");
+                assert!(rt; node.frames_given() == given, "step {place}");
             }
-            Step::Counters(counters) => assert_eq!(rt; node.counters(), counters, "step {place}"),
+            Step::Counters(counters) => assert!(rt; node.counters() == counters, "step {place}"),
         }
     }
     node
@@ -47,15 +47,15 @@ pub(crate) fn expect_row(rt: &impl Abort, node: Node, steps: &[Step]) -> Node {
 fn expect_times(rt: &impl Abort, node: &mut Node, place: usize, times: u32, step: (Call, Answer)) {
     let (call, want) = step;
     for _time in 0..times {
-        assert_eq!(rt; answer_of(node, 0, call), want, "step {place}: {call:?}");
+        assert!(rt; answer_of(node, 0, call) == want, "step {place}: {call:?}");
     }
 }
 
 // What caller 0 did since the journal had `from` events.
 pub(crate) fn expect_since(rt: &impl Abort, node: &Node, from: usize, whats: &[What]) {
     let events = node.journal();
-    assert_eq!(rt; events.len(), from.saturating_add(whats.len()));
+    assert!(rt; events.len() == from.saturating_add(whats.len()));
     for (place, (event, &what)) in events.iter().skip(from).zip(whats).enumerate() {
-        assert_eq!(rt; *event, Event { caller: 0, what }, "event {place}");
+        assert!(rt; *event == Event { caller: 0, what }, "event {place}");
     }
 }

@@ -20,13 +20,12 @@ fn expect_at_last(rt: &(impl Abort + Print), node: &mut Node, caller: u32, steps
         let first = answer_of(node, caller, call);
         if first == Answer::Refused(Refusal::OutOfMemory) {
             assert!(rt; view_of(node) == before);
-            assert_eq!(rt;
-                answer_of(node, caller, call),
-                want,
+            assert!(rt;
+                answer_of(node, caller, call) == want,
                 "step {place} again: {call:?}"
             );
         } else {
-            assert_eq!(rt; first, want, "step {place}: {call:?}");
+            assert!(rt; first == want, "step {place}: {call:?}");
         }
     }
 }
@@ -100,17 +99,17 @@ fn put_back_after_pins(rt: &(impl Abort + Print), alloc: Global, pins: usize) {
     }
     let mut batch = take_at_last(rt, &mut node, 1);
     let tried = try_at_last(rt, &mut node, &mut batch);
-    assert_eq!(rt; tried, Tried::Pinned(page));
-    assert_eq!(rt; node.journal().len(), pins.saturating_add(5));
+    assert!(rt; tried == Tried::Pinned(page));
+    assert!(rt; node.journal().len() == pins.saturating_add(5));
     let reply = return_at_last(rt, &mut node, batch);
-    assert_eq!(rt;
-        reply,
-        BackReply {
-            back: 1,
-            dropped: 0
-        }
+    assert!(rt;
+        reply
+            == BackReply {
+                back: 1,
+                dropped: 0
+            }
     );
-    assert_eq!(rt; node.queue_len(), 1);
+    assert!(rt; node.queue_len() == 1);
 }
 
 // The growth that is refused falls into the put-back for some of these numbers of pins.
@@ -157,21 +156,21 @@ fn each_growth_refused(rt: HostRuntime) {
         dropped: 0,
         used: 0,
     };
-    assert_eq!(rt; scan, scanned);
+    assert!(rt; scan == scanned);
     let mut batch = take_at_last(&rt, &mut node, 128);
-    assert_eq!(rt; batch.pages().len(), 5);
+    assert!(rt; batch.pages().len() == 5);
     let tried = try_at_last(&rt, &mut node, &mut batch);
-    assert_eq!(rt; tried, Tried::Split(PageId(8)));
+    assert!(rt; tried == Tried::Split(PageId(8)));
     let reply = return_at_last(&rt, &mut node, batch);
-    assert_eq!(rt;
-        reply,
-        BackReply {
-            back: 4,
-            dropped: 0
-        }
+    assert!(rt;
+        reply
+            == BackReply {
+                back: 4,
+                dropped: 0
+            }
     );
     expect_at_last(&rt, &mut node, 0, &[(Call::Close, Answer::Done)]);
-    assert_eq!(rt; node.queue_len(), 4);
+    assert!(rt; node.queue_len() == 4);
 }
 
 // A `reserve` that succeeds leaves room for what it was asked for.
@@ -179,7 +178,7 @@ fn each_growth_refused(rt: HostRuntime) {
 fn reserved_calls_want_no_memory(rt: HostRuntime) {
     let mut node = node_at_last(&rt, rt.alloc(), shape_of(1));
     if node.reserve(3).is_err() {
-        assert_eq!(rt; node.reserve(3), Ok(()));
+        assert!(rt; node.reserve(3) == Ok(()));
     }
     let page = PageId(0);
     let steps = [
@@ -187,5 +186,5 @@ fn reserved_calls_want_no_memory(rt: HostRuntime) {
         (Call::Pin(page), Answer::Done),
         (Call::Close, Answer::Done),
     ];
-    assert_eq!(rt; first_wrong(&mut node, 0, &steps), None);
+    assert!(rt; first_wrong(&mut node, 0, &steps) == None);
 }

@@ -76,5 +76,5 @@ pub(crate) fn expect(
     let settings = Settings::new(count, 16, 63, report).expect(rt, "settings of these nodes");
     let text = report_text(alloc, &settings, nodes, sections).expect(rt, "memory for a report");
     let told = str::from_utf8(text.as_slice()).expect(rt, "a report of text");
-    assert_eq!(rt; told, want);
+    assert!(rt; told == want);
 }

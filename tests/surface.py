@@ -1,0 +1,110 @@
+"""What the sources offer and ask for is as listed: handles of each crate, and all that can read a link of a page.
+
+    python3 tests/surface.py [--store]
+
+A contract can't say that there is no other function. So `tests/stored/surface.txt` lists each public function of the
+crates whose tables hold links: whoever adds one puts it there (`--store`), and says so that it makes no access to a
+link that isn't counted.
+"""
+
+from __future__ import annotations
+
+import re
+import sys
+from pathlib import Path
+
+from tally import Tally
+
+ROOT = Path(__file__).resolve().parent.parent
+STORED = ROOT / "tests/stored/surface.txt"
+
+WITH_LINKS = ("thp_links", "thp_page")
+"""The crates that hold or change the links between pages."""
+
+WITH_THREADS = {"thp_sections", "thp_script_runs", "thp_run"}
+"""The libraries that start threads: workers side by side, and what stands on them."""
+
+ITEM = re.compile(r"^(?:pub )?(?:impl|trait)\b(.*)$")
+FUNCTION = re.compile(r"^(\s*)(pub )?(?:const )?fn (\w+)")
+
+
+def sources(crate: str) -> list[Path]:
+    """The files of a crate, without those of its tests."""
+    return sorted(path for path in (ROOT / "crates" / crate / "src").rglob("*.rt") if "tests" not in path.parts)
+
+
+def libraries() -> list[str]:
+    """The crates that aren't tests, benchmarks or demonstrations."""
+    return [name for name in re.findall(r"^(\w+)(?: \w+)*:", (ROOT / "crates.txt").read_text(), re.M) if name.startswith("thp")]
+
+
+def holder(head: str) -> str:
+    """The type that an `impl`, or the trait that a `trait`, is of."""
+    named = re.sub(r"<[^<>]*>", "", re.sub(r"<[^<>]*>", "", head)).split("{")[0]
+    named = named.split(" for ")[-1].split(":")[0].split(" where ")[0]
+    return named.strip()
+
+
+def offered(crate: str) -> list[str]:
+    """Each public function of a crate: `crate Type name`, a method that a trait asks for with the trait's or the type's name."""
+    found = []
+    for path in sources(crate):
+        head = ""
+        for line in path.read_text().splitlines():
+            item = ITEM.match(line)
+            if item:
+                head = line
+            elif line.startswith("}"):
+                head = ""
+            function = FUNCTION.match(line)
+            if function is None:
+                continue
+            of_trait = bool(head) and (" for " in head or "trait " in head)
+            if function[2] or (of_trait and function[1]):
+                kind = ITEM.match(head)
+                found.append(" ".join(filter(None, [crate, holder(kind[1]) if kind else "", function[3]])))
+    return sorted(found)
+
+
+def surface() -> str:
+    """All that the crates with links offer, a line each."""
+    return "".join(f"{line}\n" for crate in WITH_LINKS for line in offered(crate))
+
+
+def links_are_read_as_listed() -> str | None:
+    """No function of the crates with links is public but those that are listed."""
+    now, stored = set(surface().splitlines()), set(STORED.read_text().splitlines())
+    more, less = sorted(now - stored), sorted(stored - now)
+    return f"new: {more}; gone: {less}" if more or less else None
+
+
+def handles_are_kept() -> str | None:
+    """HANDLES is the one line."""
+    text = (ROOT / "HANDLES").read_text()
+    return None if text == "Handles allowed: Threads, Wait.\n" else repr(text)
+
+
+def nobody_waits() -> str | None:
+    """No library asks for `Wait`, `Net`, `Processes` or `Abort` by a bound, and only those that start threads for `Threads`."""
+    wrong = []
+    for crate in libraries():
+        text = "\n".join(path.read_text() for path in sources(crate))
+        bounds = set(re.findall(r"(?:[:+(]|impl) *(Wait|Net|Processes|Abort|Threads)\b", text))
+        wrong += [f"{crate}: {bound}" for bound in sorted(bounds) if bound != "Threads" or crate not in WITH_THREADS]
+    return ", ".join(wrong) or None
+
+
+def main() -> None:
+    """Looks at the sources, or stores what they offer."""
+    if sys.argv[1:] == ["--store"]:
+        STORED.write_text(surface())
+        return
+    tally = Tally()
+    tally.run("HANDLES is as it was", handles_are_kept)
+    tally.run("no library waits, and only those listed start threads", nobody_waits)
+    tally.run("links of pages are read as listed", links_are_read_as_listed)
+    tally.end()
+
+
+if __name__ == "__main__":
+    main()
