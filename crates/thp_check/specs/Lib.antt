@@ -1,3 +1,2 @@
 pub mod Flights
 pub mod Meanings
-pub mod Answers

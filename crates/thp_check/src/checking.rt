@@ -2,20 +2,11 @@
 ghost use Rattle.std.specs.Prelude.{◌≤◌, OnOk, IfErr};
 ghost use Rattle.thp_model.specs.Limits.{max_order, min_order};
 ghost use Rattle.thp_model.specs.Legal.{IsLegal};
-ghost use Rattle.thp_check.specs.Answers.{Tells};
+ghost use Rattle.thp_model.specs.Checks.{Tells};
 
 use crate::replay::Replay;
 use std::alloc::Global;
-use thp_model::{Event, Shape};
-
-/// Why a history wasn't found legal.
-#[derive(Clone, Copy, PartialEq, Eq, Debug)]
-pub enum CheckFault {
-    /// The event at this place, counted from 0, is the first that doesn't fit the events before it.
-    Illegal { place: usize },
-    /// The memory for the replay wasn't there.
-    OutOfMemory,
-}
+use thp_model::{CheckFault, Event, Shape};
 
 /// Whether a history is legal on a node of this shape: whether each of its events fits those before it, by the rules of
 /// this project's profile (`thp_model`, `IsLegal`). The node may have any number of blocks, pages of order 2 to 9, and any
@@ -37,7 +28,7 @@ pub fn check(alloc: Global, shape: Shape, events: &[Event]) -> Result<(), CheckF
     };
     for (place, event) in events.iter().enumerate() {
         if !replay.admit(event) {
-            return Err(CheckFault::Illegal { place });
+            return Err(CheckFault::Illegal(place));
         }
     }
     Ok(())

@@ -9,4 +9,5 @@ mod flights;
 mod links;
 mod replay;
 
-pub use checking::{CheckFault, check};
+pub use checking::check;
+pub use thp_model::CheckFault;

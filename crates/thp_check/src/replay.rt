@@ -156,10 +156,7 @@ impl Replay {
             Some(block) => block,
             None => return false,
         };
-        let mut done = Done {
-            outcome: Outcome::Stays,
-            released: SubSet::empty(),
-        };
+        let mut done = Done::none();
         let left = match self.places.lose(block, loss, self.closed, &mut done) {
             Ok(left) => left,
             Err(_) => return false,

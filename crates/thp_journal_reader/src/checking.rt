@@ -29,7 +29,7 @@ fn first_illegal(alloc: Global, node: &NodeJournal) -> Result<Option<u32>, Alloc
 {
     match check(alloc, node.shape, node.events.as_slice()) {
         Ok(()) => Ok(None),
-        Err(CheckFault::Illegal { place }) => Ok(Some(line_of_event(node, place))),
+        Err(CheckFault::Illegal(place)) => Ok(Some(line_of_event(node, place))),
         Err(CheckFault::OutOfMemory) => Err(AllocError),
     }
 }

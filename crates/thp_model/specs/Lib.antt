@@ -9,6 +9,7 @@ pub mod Places
 pub mod Frames
 pub mod Refusals
 pub mod Legal
+pub mod Checks
 pub mod Runs
 pub mod Counters
 pub mod Pages

@@ -9,6 +9,7 @@
 //! refused, and `proofs/TakeRuns`, `TryRuns`, `ReturnRuns` and `ScanRuns` the events of the longer calls one by one.
 #![tactic(auto)]
 
+mod check_fault;
 mod events;
 mod laws;
 mod limits;
@@ -18,6 +19,7 @@ mod rows;
 mod shape;
 mod sub_set;
 
+pub use check_fault::CheckFault;
 pub use events::{Event, Outcome, PageId, What};
 pub use laws::{
     each_frame_once, flights_go_by_events, freed_pages_are_left_alone, least_blocks_are_legal,

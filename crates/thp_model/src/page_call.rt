@@ -1,5 +1,6 @@
 //! What a call asks of one page, as a value, and the event that it leaves.
-ghost use Rattle.std.specs.Prelude.{◌≡◌, min};
+ghost use Rattle.std.specs.Prelude.{◌≡◌, false, min};
+ghost use Rattle.thp_model.specs.Sets.{set_of};
 ghost use Rattle.thp_model.specs.PageCalls.{gain_splits, gain_what, loss_what};
 
 use crate::events::{Outcome, PageId, What};
@@ -58,6 +59,19 @@ pub fn narrowed(operand: u32) -> u16
         operand as u16
     } else {
         u16::MAX
+    }
+}
+
+impl Done {
+    /// What a call that did nothing to its page says: it stays, and no frame was given back.
+    #[inline(always)]
+    pub fn none() -> Done
+        ensures { result ≡ record { outcome = Outcome.Stays; released = set_of (λ i. false) } }
+    {
+        Done {
+            outcome: Outcome::Stays,
+            released: SubSet::empty(),
+        }
     }
 }
 

@@ -161,7 +161,7 @@ pub(crate) fn expect_misfit(
     let last = events.len().saturating_sub(1);
     assert_eq!(rt;
         check(alloc, shape, events),
-        Err(CheckFault::Illegal { place: last }),
+        Err(CheckFault::Illegal(last)),
         "{name}"
     );
     assert_eq!(rt;

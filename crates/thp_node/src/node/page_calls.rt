@@ -13,7 +13,7 @@ ghost use Rattle.thp_model.specs.PageCalls.{gain_call, loss_call, page_call, gai
 
 use crate::journal::Unsaid;
 use crate::node::Node;
-use thp_model::{Done, Gain, Loss, Outcome, PageCall, PageId, Refusal, SubSet, What, narrowed};
+use thp_model::{Done, Gain, Loss, PageCall, PageId, Refusal, What, narrowed};
 
 impl Node {
     /// One more mapping of the whole page, by a PMD entry. Refused as `NoPage`, `IsSplit` and `TooMany`.
@@ -182,10 +182,7 @@ impl Node {
     {
         let block = self.admit(page, PageCall::Loss(loss))?;
         let closed = self.journal.is_closed();
-        let mut done = Done {
-            outcome: Outcome::Stays,
-            released: SubSet::empty(),
-        };
+        let mut done = Done::none();
         let left = match self.blocks.lose(block, loss, closed, &mut done) {
             Ok(left) => left,
             Err(refusal) => return Err(refusal),

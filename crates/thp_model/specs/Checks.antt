@@ -1,10 +1,10 @@
--- What the check of a history answers.
+-- What a check of a history answers.
 use Rattle.std.specs.Prelude.{⊤}
 use Rattle.thp_model.specs.declared.shape.Shape.{Shape}
 use Rattle.thp_model.specs.History.{History}
 use Rattle.thp_model.specs.Legal.{IsFirstMisfit}
-use Rattle.thp_check.specs.declared.checking.CheckFault.{CheckFault}
-use Rattle.thp_check.specs.declared.checking.CheckFault.TheVariants.{Illegal, OutOfMemory}
+use Rattle.thp_model.specs.declared.check_fault.CheckFault.{CheckFault}
+use Rattle.thp_model.specs.declared.check_fault.CheckFault.TheVariants.{Illegal, OutOfMemory}
 
 -- the event at the place is the first that doesn't fit; want of memory tells nothing of the history
 abbrev pub Tells : Shape → History → CheckFault → Type 0
