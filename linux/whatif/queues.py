@@ -61,6 +61,8 @@ class Queues:
         folio.is_queued = folio.order > 1 and following != address + at.link
         folio.is_partly = bool(flags & at.partly)
         folio.whole = entire + 1
+        if large == entire:  # no mapping by PTEs: each subpage has the same count
+            folio.totals = [folio.whole] * folio.size
         folio.pins = references - (large + 1) - (folio.size if folio.is_swap_cached else 0)
         return references > 0
 

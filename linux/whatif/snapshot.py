@@ -10,6 +10,7 @@ from collections import Counter
 from dataclasses import dataclass, field
 from typing import Any, Dict, List, Optional
 
+from ..common.direct_map import DirectMap
 from ..common.errors import InputFault, Unavailable
 from ..common.files import BASE, PMD_ORDER, PTES_NONE, SWITCH, read
 from ..common.kernel_memory import KernelMemory
@@ -198,23 +199,27 @@ class Taker:
     def __init__(self, how: How, progress: Optional[Progress] = None) -> None:
         self.how, self._progress = how, progress or (lambda what, done, of: None)
         self._queues, self._lacking = None, "not asked for"
+        self._direct: Optional[DirectMap] = None
         if how.with_kernel:
             try:
-                self._queues, self._lacking = Queues(KernelMemory()), ""
+                memory = KernelMemory()
+                self._queues, self._lacking = Queues(memory), ""
+                self._direct = DirectMap(memory)
             except (Unavailable, OSError) as error:
-                self._lacking = str(error).splitlines()[0]
+                self._lacking = "" if self._queues else str(error).splitlines()[0]
 
     def take(self, choice: Choice) -> Snapshot:
         """Looks once. A process that can't be read, or ends meanwhile, is counted in what was left out."""
         began = time.monotonic()
         wanted = choice.find()
-        reader = Reader(self.how.with_small, self.how.threads, self._progress)
+        reader = Reader(self.how.with_small, self.how.threads, self._progress, self._direct)
         try:
             with held(wanted, choice.groups, self.how.freeze) as count:
                 sums = self._walk(reader, wanted)
+                reader.read_groups()
+                self._look(reader)
                 reader.read_counts()
                 reader.read_zeros()
-                self._look(reader)
                 reader.check_again()
                 sampled, changed = reader.read_sample_again()
             snapshot = self._gather(reader, choice, sums)
