@@ -78,24 +78,23 @@ static int order_around(const struct walk *w, uint64_t frame, uint64_t *head) {
 
 /* Takes `count` subpages at `address` in consecutive frames of one block. */
 static void take_frames(struct walk *w, uint64_t address, uint64_t frame, long count, int by_pmd) {
-    if (read_block(w, frame / BLOCK)) { w->changed += count; return; }
-    while (count > 0) {
-        uint64_t head, flags = w->block_flags[frame % BLOCK];
+    uint64_t flags[BLOCK];
+    if (pread(w->flags_file, flags, count * 8, frame * 8) != count * 8) { w->changed += count; return; }
+    for (long i = 0, taken; i < count; i += taken) {
+        uint64_t head;
         int order = -1;
-        if (is_ours(flags)) order = order_around(w, frame, &head);
-        long taken = 1;
+        taken = 1;
+        if (is_ours(flags[i]) && !read_block(w, frame / BLOCK)) order = order_around(w, frame + i, &head);
         if (order < 0) {
-            if (by_pmd) w->changed++;
+            if (by_pmd || is_ours(flags[i])) w->changed++;
             else w->others++;
-        } else {
-            taken = (long)(head + (1ul << order) - frame);
-            if (taken > count) taken = count;
-            put_piece(w, (struct piece){ address, head, w->block_flags[head % BLOCK], (uint32_t)(frame - head),
-                                         (uint32_t)taken, (uint32_t)order, (uint32_t)by_pmd });
+            continue;
         }
-        address += taken * BASE;
-        frame += taken;
-        count -= taken;
+        taken = (long)(head + (1ul << order) - (frame + i));
+        if (taken > count - i) taken = count - i;
+        put_piece(w, (struct piece){ address + i * BASE, head, w->block_flags[head % BLOCK],
+                                     (uint32_t)(frame + i - head), (uint32_t)taken, (uint32_t)order,
+                                     (uint32_t)by_pmd });
     }
 }
 

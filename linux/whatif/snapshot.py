@@ -4,6 +4,7 @@ from __future__ import annotations
 
 import json
 import os
+import re
 import sys
 import time
 from collections import Counter
@@ -70,6 +71,13 @@ class Snapshot:
     seconds: float = 0.0
     spent: Dict[str, float] = field(default_factory=dict)
 
+    @property
+    def locked_are_tried(self) -> bool:
+        """Whether this kernel's shrinker tries locked pages: before Linux 6.18 (mm/huge_memory.c:
+        deferred_split_scan)."""
+        found = re.match(r"Linux (\d+)\.(\d+)", self.kernel)
+        return bool(found) and (int(found[1]), int(found[2])) < (6, 18)
+
     def to_json(self) -> Dict[str, Any]:
         """As a JSON object, from which `from_json` makes the same scripts."""
         out = dict(vars(self))
@@ -116,7 +124,7 @@ def write(snapshot: Snapshot) -> Scripts:
     said: List[Said] = []
     for folio in snapshot.folios:
         try:
-            said.append(prepare(folio))
+            said.append(prepare(folio, snapshot.locked_are_tried))
         except Unsayable as why:
             snapshot.left_out[why.reason.value] += 1
     made = list(write_scripts(said, snapshot.head(), snapshot.names))
