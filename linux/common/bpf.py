@@ -100,6 +100,9 @@ class Assembler:
     def add_register(self, to: int, source: int) -> Assembler:
         return self.put(0x0F, to, source)
 
+    def bit_or_register(self, to: int, source: int) -> Assembler:
+        return self.put(0x4F, to, source)
+
     def bit_and(self, to: int, number: int) -> Assembler:
         return self.put(0x57, to, 0, 0, number)
 

@@ -53,19 +53,19 @@ class Guardian:
             raise ValueError("unknown order")
 
     def put_back(self) -> None:
-        """Processes first (they hold pages and groups), then settings, newest change first, then control groups."""
+        """Processes first (they hold pages and groups), then settings, newest change first, then control groups. A
+        setting that a group of ours holds (cgroup.subtree_control of version 2) is tried again after the groups."""
         for number, start in self.stopped.items():
             if start_of(number) == start:
                 send(number, signal.SIGCONT)
         self.kill_processes()
-        for path, text in reversed(self.files):
-            try:
-                with open(path, "w", encoding="utf-8") as file:
-                    file.write(text)
-            except OSError as error:
-                self.problems.append(f"{path} could not be put back to {text!r}: {error.strerror}")
+        held = [(path, text) for path, text in reversed(self.files) if write(path, text)]
         for group in sorted(self.groups, key=lambda path: path.count("/"), reverse=True):
             self.remove_group(group)
+        for path, text in held:
+            problem = write(path, text)
+            if problem:
+                self.problems.append(f"{path} could not be put back to {text!r}: {problem}")
 
     def kill_processes(self) -> None:
         for number, start in self.processes.items():
@@ -92,6 +92,16 @@ class Guardian:
                     self.problems.append(f"{path} could not be removed: {error.strerror}")
                     return
             time.sleep(0.01)
+
+
+def write(path: str, text: str) -> str:
+    """Writes a file; answers what is wrong, or nothing."""
+    try:
+        with open(path, "w", encoding="utf-8") as file:
+            file.write(text)
+    except OSError as error:
+        return error.strerror or type(error).__name__
+    return ""
 
 
 def start_of(number: int) -> int:

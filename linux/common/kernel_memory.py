@@ -12,7 +12,7 @@ import mmap
 import os
 import struct
 from dataclasses import dataclass
-from typing import Dict, List, Optional, Tuple
+from typing import Callable, Dict, List, Optional, Tuple
 
 from .bpf import MMAPABLE, SLEEPABLE, Assembler, Command, Helper, MapType, ProgramType, bpf, create_map, load_program
 from .btf import Types
@@ -94,10 +94,9 @@ class KernelMemory:
         if os.geteuid() != 0:
             raise Unavailable("kernel memory isn't read: not root")
         self.types = types or Types()
-        descriptor = create_map(MapType.ARRAY, 4, WINDOW, 1, MMAPABLE)
-        self._window = mmap.mmap(descriptor, WINDOW, mmap.MAP_SHARED, mmap.PROT_READ)
-        self._reader = load_program(ProgramType.SYSCALL, _reader(descriptor), SLEEPABLE)
-        self._walker = load_program(ProgramType.SYSCALL, _walker(descriptor), SLEEPABLE)
+        self._descriptor = create_map(MapType.ARRAY, 4, WINDOW, 1, MMAPABLE)
+        self.window = mmap.mmap(self._descriptor, WINDOW, mmap.MAP_SHARED, mmap.PROT_READ)
+        self._reader, self._walker = self.load(_reader), self.load(_walker)
         self._context = ctypes.create_string_buffer(16)
         self._vmemmap: Optional[int] = None
         self._groups: Optional[GroupFields] = None
@@ -105,7 +104,12 @@ class KernelMemory:
 
     # memory
 
-    def _run(self, program: int, first: int, second: int) -> int:
+    def load(self, make: Callable[[int], Assembler]) -> int:
+        """A program, made for the file descriptor of the window, which `run` runs."""
+        return load_program(ProgramType.SYSCALL, make(self._descriptor), SLEEPABLE)
+
+    def run(self, program: int, first: int, second: int) -> int:
+        """The answer of a program that is given two numbers; more it leaves in the window."""
         struct.pack_into("<QQ", self._context, 0, first, second)
         attributes = struct.pack("<IIIIQQIIII", program, 0, 0, 0, 0, 0, 0, 0, 16, 0)
         attributes += struct.pack("<QQ", ctypes.addressof(self._context), 0)
@@ -113,9 +117,9 @@ class KernelMemory:
 
     def read(self, address: int, size: int) -> bytes:
         """`size` bytes (up to WINDOW) at a kernel address."""
-        if address == 0 or self._run(self._reader, address, size):
+        if address == 0 or self.run(self._reader, address, size):
             raise Unavailable(f"kernel memory at {address:#x} can't be read")
-        return self._window[:size]
+        return self.window[:size]
 
     def word(self, address: int) -> int:
         """The 64-bit number at a kernel address."""
@@ -123,18 +127,18 @@ class KernelMemory:
 
     def task(self) -> int:
         """The address of the caller's own struct task_struct."""
-        self._run(self._reader, 0, 0)
-        return struct.unpack("<Q", self._window[:8])[0]
+        self.run(self._reader, 0, 0)
+        return struct.unpack("<Q", self.window[:8])[0]
 
     def links(self, head: int, limit: int = 1 << 20) -> List[int]:
         """The addresses of a list's links, without its head (struct list_head)."""
         for _ in range(TRIES):
             out, at = [], head
             while len(out) < limit:
-                if self._run(self._walker, at, head):
+                if self.run(self._walker, at, head):
                     break
-                count, at = struct.unpack("<QQ", self._window[:16])
-                out += struct.unpack(f"<{count}Q", self._window[16 : 16 + 8 * count])
+                count, at = struct.unpack("<QQ", self.window[:16])
+                out += struct.unpack(f"<{count}Q", self.window[16 : 16 + 8 * count])
                 if at == head:
                     return out
         raise Changing(f"the list at {head:#x} changes all the time")
@@ -232,7 +236,7 @@ def symbols() -> Dict[str, int]:
     return out
 
 
-def _begin(window: int) -> Assembler:
+def begin(window: int) -> Assembler:
     """r6, r7: the two numbers of the context; r9: the window. Goes to `out` where there is none."""
     code = Assembler().load(6, 1, 0).load(7, 1, 8)
     code.store_number(10, -4, 0, 4).move(2, 10).add(2, -4).map(1, window).call(Helper.MAP_LOOKUP)
@@ -241,7 +245,7 @@ def _begin(window: int) -> Assembler:
 
 def _reader(window: int) -> Assembler:
     """Copies r7 bytes at r6 into the window; with r6 = 0 the address of the caller's task."""
-    code = _begin(window).set(0, 1).jump("out", ">", 7, WINDOW)
+    code = begin(window).set(0, 1).jump("out", ">", 7, WINDOW)
     code.move(1, 9).move(2, 7).move(3, 6).jump("task", "==", 6, 0)
     code.call(Helper.PROBE_READ_KERNEL).label("out").exit()
     return code.label("task").call(Helper.CURRENT_TASK).store(9, 0, 0).set(0, 0).exit()
@@ -250,7 +254,7 @@ def _reader(window: int) -> Assembler:
 def _walker(window: int) -> Assembler:
     """Follows links from r6 on until r7 or LINKS of them: into the window the count, the last link's next, the
     links."""
-    code = _begin(window).set(8, 0)
+    code = begin(window).set(8, 0)
     code.move(3, 6).read_kernel(-16, 8).load(6, 10, -16).jump("out", "!=", 0, 0)
     code.label("next").jump("end", "==", 6, right=7).jump("full", ">=", 8, LINKS)
     code.move(1, 8).shift_left(1, 3).add_register(1, 9).store(1, 16, 6).add(8, 1)

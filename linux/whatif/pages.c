@@ -1,7 +1,7 @@
 /* What a snapshot reads in bulk, as a shared library for linux/whatif/reading.py.
  *
  *   walk_process    the pieces of huge anonymous pages that a process maps
- *   count_zeros     which subpages of a range are zero-filled
+ *   find_zeros      which subpages of a range are zero-filled
  *
  * Both only read. Content is read from /proc/PID/mem and not by process_vm_readv: that pins what it reads, and a pin of
  * a page that a fork shares makes the kernel copy it first (FAULT_FLAG_UNSHARE in mm/gup.c).
@@ -15,7 +15,7 @@
 #include <sys/ioctl.h>
 #include <unistd.h>
 
-enum { BASE = 4096, BLOCK = 512, CHUNK = 64, REGIONS = 256 };
+enum { BASE = 4096, BLOCK = 512, PMD_ORDER = 9, CHUNK = 64, REGIONS = 256 };
 
 /* include/uapi/linux/fs.h: PAGEMAP_SCAN (Linux 6.7), for machines whose headers are older */
 enum { IS_FILE = 4, IS_PRESENT = 8, IS_ZERO_FRAME = 32, IS_HUGE = 64 };
@@ -45,6 +45,16 @@ static uint64_t frame_of(uint64_t entry) {
     return entry >> 63 ? entry & ((1ul << 55) - 1) : 0;
 }
 
+/* Whether these are flags of an anonymous huge page. */
+static int is_ours(uint64_t flags) {
+    return flags & ANON && flags & (HEAD | TAIL) && flags & THP && !(flags & (HUGETLB | ZERO_PAGE));
+}
+
+static void put_piece(struct walk *w, struct piece piece) {
+    if (w->found < w->most) w->out[w->found] = piece;
+    w->found++;
+}
+
 static int read_block(struct walk *w, uint64_t block) {
     if (w->block == block) return 0;
     w->block = ~0ul;
@@ -58,8 +68,7 @@ static int read_block(struct walk *w, uint64_t block) {
 static int order_around(const struct walk *w, uint64_t frame, uint64_t *head) {
     long low = frame % BLOCK, high = low + 1;
     while (low > 0 && w->block_flags[low] & TAIL) low--;
-    uint64_t flags = w->block_flags[low];
-    if (!(flags & HEAD) || !(flags & THP) || !(flags & ANON) || flags & (HUGETLB | ZERO_PAGE)) return -1;
+    if (!(w->block_flags[low] & HEAD) || !is_ours(w->block_flags[low])) return -1;
     while (high < BLOCK && w->block_flags[high] & TAIL) high++;
     long size = high - low;
     if (size & (size - 1)) return -1;
@@ -69,34 +78,41 @@ static int order_around(const struct walk *w, uint64_t frame, uint64_t *head) {
 
 /* Takes `count` subpages at `address` in consecutive frames of one block. */
 static void take_frames(struct walk *w, uint64_t address, uint64_t frame, long count, int by_pmd) {
-    if (read_block(w, frame / BLOCK)) { w->changed += count; return; }
-    while (count > 0) {
-        uint64_t head, flags = w->block_flags[frame % BLOCK];
+    uint64_t flags[BLOCK];
+    if (pread(w->flags_file, flags, count * 8, frame * 8) != count * 8) { w->changed += count; return; }
+    for (long i = 0, taken; i < count; i += taken) {
+        uint64_t head;
         int order = -1;
-        if (flags & ANON && flags & (HEAD | TAIL) && flags & THP && !(flags & (HUGETLB | ZERO_PAGE)))
-            order = order_around(w, frame, &head);
-        long taken = 1;
+        taken = 1;
+        if (is_ours(flags[i]) && !read_block(w, frame / BLOCK)) order = order_around(w, frame + i, &head);
         if (order < 0) {
-            if (by_pmd) w->changed++;
+            if (by_pmd || is_ours(flags[i])) w->changed++;
             else w->others++;
-        } else {
-            taken = (long)(head + (1ul << order) - frame);
-            if (taken > count) taken = count;
-            if (w->found < w->most)
-                w->out[w->found] = (struct piece){ address, head, w->block_flags[head % BLOCK],
-                                                   (uint32_t)(frame - head), (uint32_t)taken, (uint32_t)order,
-                                                   (uint32_t)by_pmd };
-            w->found++;
+            continue;
         }
-        address += taken * BASE;
-        frame += taken;
-        count -= taken;
+        taken = (long)(head + (1ul << order) - (frame + i));
+        if (taken > count - i) taken = count - i;
+        put_piece(w, (struct piece){ address + i * BASE, head, w->block_flags[head % BLOCK],
+                                     (uint32_t)(frame + i - head), (uint32_t)taken, (uint32_t)order,
+                                     (uint32_t)by_pmd });
     }
+}
+
+/* Takes a block of addresses that one PMD entry maps: one huge page, so its first entry and first flags say all. */
+static void take_whole(struct walk *w, uint64_t at) {
+    uint64_t entry, flags;
+    if (pread(w->map, &entry, 8, at / BASE * 8) != 8 || !frame_of(entry)) { w->changed += BLOCK; return; }
+    uint64_t frame = frame_of(entry);
+    int have = pread(w->flags_file, &flags, 8, frame * 8) == 8;
+    if (have && flags & (HUGETLB | ZERO_PAGE)) return; /* pages of hugetlbfs aren't the shrinker's */
+    if (!have || frame % BLOCK || !is_ours(flags) || !(flags & HEAD)) { w->changed += BLOCK; return; }
+    put_piece(w, (struct piece){ at, frame, flags, 0, BLOCK, PMD_ORDER, 1 });
 }
 
 /* Takes what a range of at most one block of addresses maps. */
 static void take_range(struct walk *w, uint64_t at, uint64_t end, int by_pmd) {
     uint64_t entries[BLOCK];
+    if (by_pmd && end - at == BLOCK * BASE) { take_whole(w, at); return; }
     long have = pread(w->map, entries, (end - at) / BASE * 8, at / BASE * 8) / 8;
     for (long i = 0; i < have;) {
         uint64_t frame = frame_of(entries[i]);
@@ -138,22 +154,26 @@ long walk_process(int pid, int flags_file, struct piece *out, long most, long *o
 
 static const char zero_page[BASE];
 
+static int has_bit(const uint64_t *set, long i) {
+    return set[i / 64] >> i % 64 & 1;
+}
+
 /* Sets bit i of `zero` where subpage i of the range at `address` is zero-filled, and bit i of `unread` where it
- * couldn't be read; answers how many couldn't. `memory` is an open /proc/PID/mem; count is at most 512. */
-long count_zeros(int memory, uint64_t address, long count, uint64_t *zero, uint64_t *unread) {
+ * couldn't be read; those of `skipped` aren't read. `memory` is an open /proc/PID/mem; count is at most 512. */
+void find_zeros(int memory, uint64_t address, long count, const uint64_t *skipped, uint64_t *zero, uint64_t *unread) {
     static __thread char buffer[CHUNK * BASE];
-    long lost = 0;
     for (long done = 0, got; done < count; done += got) {
-        long want = count - done < CHUNK ? count - done : CHUNK;
-        got = pread(memory, buffer, want * BASE, address + done * BASE) / BASE;
-        if (got <= 0) {
+        got = 1;
+        if (has_bit(skipped, done)) continue;
+        long want = 1;
+        while (want < CHUNK && done + want < count && !has_bit(skipped, done + want)) want++;
+        long bytes = pread(memory, buffer, want * BASE, address + done * BASE);
+        if (bytes < BASE) {
             unread[done / 64] |= 1ul << done % 64;
-            lost++;
-            got = 1;
             continue;
         }
+        got = bytes / BASE;
         for (long i = done; i < done + got; i++)
             if (!memcmp(buffer + (i - done) * BASE, zero_page, BASE)) zero[i / 64] |= 1ul << i % 64;
     }
-    return lost;
 }

@@ -49,7 +49,11 @@ class Queues:
     def __init__(self, memory: KernelMemory) -> None:
         self._memory = memory
         self._fields = FolioFields.of(memory.types)
-        memory.queue_fields()
+        try:
+            memory.queue_fields()
+            self._ordered = True
+        except Unavailable:  # queues of another form (Linux 7: struct list_lru): a page still tells that it is in one
+            self._ordered = False
         self._start, self._size = memory.vmemmap()
 
     def look(self, folio: Folio) -> bool:
@@ -61,14 +65,17 @@ class Queues:
         folio.is_queued = folio.order > 1 and following != address + at.link
         folio.is_partly = bool(flags & at.partly)
         folio.whole = entire + 1
+        if large == entire:  # no mapping by PTEs: each subpage has the same count
+            folio.totals = [folio.whole] * folio.size
         folio.pins = references - (large + 1) - (folio.size if folio.is_swap_cached else 0)
         return references > 0
 
     def places(self, groups: List[int]) -> Dict[int, int]:
         """The place in its queue of each queued page of these control groups (inodes), by frame. A queue that changes
-        all the time, and a group that has gone, are left out: their pages then stand in no order."""
+        all the time, and a group that has gone, are left out: their pages then stand in no order, which changes no
+        row. So are all queues where this kernel has them in another form."""
         out: Dict[int, int] = {}
-        addresses = self._memory.groups()
+        addresses = self._memory.groups() if self._ordered else {}
         for inode in groups:
             if inode in addresses:
                 try:

@@ -1,7 +1,9 @@
 """Finds the huge anonymous pages that processes map, how each subpage is mapped, and which subpages are zero-filled.
 
 Nothing is changed by it: page tables by PAGEMAP_SCAN and /proc/PID/pagemap, frames by /proc/kpageflags, kpagecount and
-kpagecgroup, content by /proc/PID/mem. Such a read may count as an access to a page, as any read does.
+kpagecgroup, content by /proc/PID/mem. Such a read may count as an access to a page, as any read does. Where the
+kernel's own map of memory can be read, a first look there tells most subpages with data, and the others alone are
+read.
 """
 
 from __future__ import annotations
@@ -15,16 +17,19 @@ from concurrent.futures import ThreadPoolExecutor
 from dataclasses import replace
 from typing import Callable, Dict, List, Optional, Tuple
 
+from ..common.direct_map import DirectMap
 from ..common.errors import Unavailable
 from ..common.files import BASE, PMD_ORDER, read
 from ..common.helpers import helper
 from ..common.page_files import PageFlag, frame_of_entry
 from ..common.subpages import bits_of
-from .folios import Folio, Mapping, runs
+from .folios import Folio, Mapping
 
 Progress = Callable[[str, int, int], None]  # what is done, how many of how many
 MOVED = "huge pages that changed while they were read"
 SMALL = "huge pages below PMD size (--orders has them)"
+HEAD, TAIL, ANON = int(PageFlag.COMPOUND_HEAD), int(PageFlag.COMPOUND_TAIL), int(PageFlag.ANON)
+MLOCKED, POISONED = int(PageFlag.MLOCKED), int(PageFlag.HWPOISON)
 SWAP_CACHE = 1 << 13  # KPF_SWAPCACHE of include/uapi/linux/kernel-page-flags.h
 SAMPLE = 64  # huge pages that are read twice
 BATCH = 64  # huge pages that one task of a thread reads
@@ -49,8 +54,9 @@ def load_library() -> ctypes.CDLL:
     library = ctypes.CDLL(helper("whatif/pages.c", ["-shared", "-fPIC"]))
     number, long, pointer = ctypes.c_int, ctypes.c_long, ctypes.c_void_p
     library.walk_process.argtypes = [number, number, pointer, long, pointer, pointer]
-    library.count_zeros.argtypes = [number, ctypes.c_uint64, long, pointer, pointer]
-    library.walk_process.restype = library.count_zeros.restype = long
+    library.walk_process.restype = long
+    library.find_zeros.argtypes = [number, ctypes.c_uint64, long, pointer, pointer, pointer]
+    library.find_zeros.restype = None
     return library
 
 
@@ -74,8 +80,14 @@ def locked_ranges(process: int) -> List[Tuple[int, int]]:
 class Reader:
     """Reads huge pages of one process after the other, then what all processes share."""
 
-    def __init__(self, with_small: bool = False, threads: int = 0, progress: Optional[Progress] = None) -> None:
-        self._library = load_library()
+    def __init__(
+        self,
+        with_small: bool = False,
+        threads: int = 0,
+        progress: Optional[Progress] = None,
+        direct: Optional[DirectMap] = None,
+    ) -> None:
+        self._library, self._direct = load_library(), direct
         self._with_small = with_small
         self._threads = threads or min(4, os.cpu_count() or 1)
         self._progress = progress or (lambda what, done, of: None)
@@ -131,9 +143,10 @@ class Reader:
         folio = self.folios.get(piece.head)
         if folio is None:
             folio = self.folios[piece.head] = Folio(piece.head, piece.order)
-            folio.is_locked = bool(piece.flags & PageFlag.MLOCKED)
-            folio.is_poisoned = bool(piece.flags & PageFlag.HWPOISON)
-            folio.is_swap_cached = bool(piece.flags & SWAP_CACHE)
+            flags = piece.flags
+            folio.is_locked = bool(flags & MLOCKED)
+            folio.is_poisoned = bool(flags & POISONED)
+            folio.is_swap_cached = bool(flags & SWAP_CACHE)
         start = piece.address - piece.first * BASE
         folio.mappings.append(Mapping(process, start, bits_of(piece.first, piece.count), bool(piece.by_pmd)))
         self.by_pmd[process] += piece.by_pmd
@@ -142,13 +155,19 @@ class Reader:
             if low < high:
                 folio.kept |= bits_of((low - start) // BASE, (high - low) // BASE)
 
+    def read_groups(self) -> None:
+        """The pages' control groups."""
+        began = time.monotonic()
+        for folio in self.folios.values() if len(self._files) > 2 else ():
+            folio.cgroup = int.from_bytes(os.pread(self._files[2], 8, 8 * folio.frame), "little")
+        self.spent["groups"] += time.monotonic() - began
+
     def read_counts(self) -> None:
-        """Map counts of each subpage by all processes, and the pages' control groups."""
+        """Map counts of each subpage by all processes, where they aren't known yet."""
         began = time.monotonic()
         for folio in self.folios.values():
-            self._count(folio)
-            if len(self._files) > 2:
-                folio.cgroup = int.from_bytes(os.pread(self._files[2], 8, 8 * folio.frame), "little")
+            if not folio.totals:
+                self._count(folio)
         self.spent["counts"] += time.monotonic() - began
 
     def _count(self, folio: Folio) -> None:
@@ -165,7 +184,8 @@ class Reader:
         memory = self._open_memory(folios)
         batches = [folios[i : i + BATCH] for i in range(0, len(folios), BATCH)]
         with ThreadPoolExecutor(self._threads) as pool:
-            for done, _ in enumerate(pool.map(lambda batch: self._read_batch(batch, memory), batches), 1):
+            looks = ((batch, [self._shown(folio) for folio in batch]) for batch in batches)
+            for done, _ in enumerate(pool.map(lambda look: self._read_batch(*look, memory), looks), 1):
                 self._progress("reading content", min(done * BATCH, len(folios)), len(folios))
         for file in memory.values():
             os.close(file)
@@ -181,24 +201,30 @@ class Reader:
                 continue  # it ended: what nobody else maps stays unknown
         return memory
 
-    def _read_batch(self, folios: List[Folio], memory: Dict[int, int]) -> None:
-        for folio in folios:
+    def _shown(self, folio: Folio) -> int:
+        """The subpages that a first look finds data in: they needn't be read."""
+        return self._direct.with_data(folio.frame, folio.size) if self._direct else 0
+
+    def _read_batch(self, folios: List[Folio], shown: List[int], memory: Dict[int, int]) -> None:
+        for folio, data in zip(folios, shown):
             wanted = folio.full
             for mapping in folio.mappings:
                 if not wanted:
                     break
                 if mapping.process in memory:
-                    for first, count in runs(mapping.subset & wanted):
-                        wanted &= ~self._read_range(folio, memory[mapping.process], mapping.address, first, count)
+                    wanted &= ~self._read_mapping(folio, mapping, memory[mapping.process], wanted, data)
 
-    def _read_range(self, folio: Folio, memory: int, address: int, first: int, count: int) -> int:
-        """Reads a range of subpages; answers which could be read."""
+    def _read_mapping(self, folio: Folio, mapping: Mapping, memory: int, wanted: int, data: int) -> int:
+        """Reads those of the wanted subpages that a process maps; answers which it knows then."""
+        part = mapping.subset & wanted
         zero, unread = ctypes.create_string_buffer(64), ctypes.create_string_buffer(64)
-        self._library.count_zeros(memory, address + first * BASE, count, zero, unread)
-        known = bits_of(0, count) & ~int.from_bytes(unread.raw, "little")
-        folio.zero |= (int.from_bytes(zero.raw, "little") & known) << first
-        folio.known |= known << first
-        return known << first
+        if part & ~data:
+            skipped = (data | ~part & folio.full).to_bytes(64, "little")
+            self._library.find_zeros(memory, mapping.address, folio.size, skipped, zero, unread)
+        known = part & ~int.from_bytes(unread.raw, "little")
+        folio.zero |= int.from_bytes(zero.raw, "little") & known
+        folio.known |= known
+        return known
 
     def check_again(self) -> None:
         """Leaves out, and counts, huge pages that moved, were split or freed while they were read."""
@@ -221,7 +247,7 @@ class Reader:
         some = [self.folios[frame] for frame in frames[:: max(1, len(frames) // SAMPLE)]]
         again = [replace(folio, zero=0, known=0) for folio in some]
         memory = self._open_memory(again)
-        self._read_batch(again, memory)
+        self._read_batch(again, [0] * len(again), memory)
         for file in memory.values():
             os.close(file)
         for folio in again:
@@ -232,11 +258,9 @@ class Reader:
 
     def _is_same(self, folio: Folio, maps: Dict[int, int]) -> bool:
         """Whether the page's frames are still one huge page, mapped where they were."""
-        raw = os.pread(self._files[0], 8 * folio.size, 8 * folio.frame)
-        flags = struct.unpack(f"<{len(raw) // 8}Q", raw)
-        if len(flags) != folio.size or not flags[0] & PageFlag.COMPOUND_HEAD or not flags[0] & PageFlag.ANON:
-            return False
-        if not flags[1] & flags[-1] & PageFlag.COMPOUND_TAIL:
+        front = struct.unpack("<2Q", os.pread(self._files[0], 16, 8 * folio.frame).ljust(16, b"\0"))
+        last = int.from_bytes(os.pread(self._files[0], 8, 8 * (folio.frame + folio.size - 1)), "little")
+        if not front[0] & HEAD or not front[0] & ANON or not front[1] & last & TAIL:
             return False
         for mapping in folio.mappings:
             first = (mapping.subset & -mapping.subset).bit_length() - 1

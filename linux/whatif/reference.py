@@ -12,8 +12,9 @@ from typing import List, Optional
 from .folios import Folio
 
 
-def given_back(folio: Folio, max_ptes_none: int) -> Optional[List[bool]]:
-    """For each subpage whether its frame comes back; None where the page isn't split."""
+def given_back(folio: Folio, max_ptes_none: int, locked_are_tried: bool = False) -> Optional[List[bool]]:
+    """For each subpage whether its frame comes back; None where the page isn't split. `locked_are_tried`: as before
+    Linux 6.18."""
     size = 2**folio.order
     is_zero = [bool(folio.zero >> i & folio.known >> i & 1) for i in range(size)]
     is_kept = [bool(folio.kept >> i & 1) or folio.is_locked for i in range(size)]
@@ -21,7 +22,7 @@ def given_back(folio: Folio, max_ptes_none: int) -> Optional[List[bool]]:
     if not any(is_mapped):
         return None
     if not folio.is_partly:
-        if not folio.is_queued or folio.is_locked or folio.is_poisoned:
+        if not folio.is_queued or folio.is_poisoned or (folio.is_locked and not locked_are_tried):
             return None
         if max_ptes_none == 511 or sum(is_zero) <= max_ptes_none:
             return None

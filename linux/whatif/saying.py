@@ -15,12 +15,14 @@ from __future__ import annotations
 
 import enum
 from dataclasses import dataclass
+from functools import lru_cache
 from typing import List
 
 from ..common.files import PMD_ORDER
 from ..common.subpages import size
 from .folios import Folio, runs
 
+BYTE = 255
 LEVELS = 32  # map counts and pins beyond this are said as this many: more change no answer
 
 
@@ -53,10 +55,11 @@ class Said:
     is_capped: bool  # counts beyond LEVELS
 
 
-def prepare(folio: Folio) -> Said:
-    """What is to be said of a page. Raises Unsayable."""
+def prepare(folio: Folio, locked_are_tried: bool = False) -> Said:
+    """What is to be said of a page. `locked_are_tried`: the shrinker doesn't pass locked pages over, as it does from
+    Linux 6.18 on. Raises Unsayable."""
     whole = folio.whole_seen if folio.whole is None else folio.whole
-    highest = max(folio.totals) - whole
+    highest = (folio.totals[0] if is_even(folio.totals) else max(folio.totals)) - whole
     levels = levels_of(folio.totals, whole, min(highest, LEVELS))
     if not whole and not levels:
         raise Unsayable(Reason.UNMAPPED)
@@ -65,21 +68,35 @@ def prepare(folio: Folio) -> Said:
     if has_holes and not is_partly:
         raise Unsayable(Reason.HOLES_UNFLAGGED)
     is_queued = folio.order == PMD_ORDER if folio.is_queued is None else folio.is_queued
-    is_standing = is_partly or (is_queued and not folio.is_locked and not folio.is_poisoned)
-    if is_standing and not is_partly and folio.zeros & folio.kept:
+    is_passed_over = folio.is_poisoned or (folio.is_locked and not locked_are_tried)
+    is_standing = is_partly or (is_queued and not is_passed_over)
+    if is_standing and not is_partly and folio.zeros & (folio.full if folio.is_locked else folio.kept):
         raise Unsayable(Reason.ZEROS_STAY)
     is_capped = max(highest, whole, folio.pins or 0) > LEVELS
     return Said(folio, min(whole, LEVELS), levels, is_partly, has_holes, is_standing, is_capped)
 
 
+def is_even(totals: List[int]) -> bool:
+    """Whether all subpages are mapped as often as the first: true of most pages."""
+    return totals.count(totals[0]) == len(totals)
+
+
 def levels_of(totals: List[int], whole: int, highest: int) -> List[int]:
     """For 1 to `highest` the subpages that are mapped at least so often beside `whole` PMD mappings."""
-    if min(totals) == max(totals):
+    if is_even(totals):
         return [(1 << len(totals)) - 1] * max(highest, 0)
-    digits = [
-        "".join("1" if total - whole >= level else "0" for total in reversed(totals)) for level in range(1, highest + 1)
-    ]
-    return [int(digit, 2) for digit in digits]
+    most = whole + highest
+    if most > BYTE or max(totals) > BYTE:
+        totals = [max(0, min(total - whole, highest)) for total in totals]
+        whole, most = 0, highest
+    raw = bytes(reversed(totals))
+    return [int(raw.translate(digits_from(level)), 2) for level in range(whole + 1, most + 1)]
+
+
+@lru_cache(maxsize=None)
+def digits_from(level: int) -> bytes:
+    """A table for `bytes.translate`: the digit 1 for numbers from `level` on, else 0."""
+    return b"0" * level + b"1" * (BYTE + 1 - level)
 
 
 def ranges(word: str, node: int, page: int, subset: int) -> List[str]:

@@ -142,17 +142,6 @@ def node_text(pages: Sequence[Said], node: int) -> str:
     return "".join(line + "\n" for line in lines)
 
 
-def halves(group: Group, pages: List[Said]) -> Iterator[Tuple[Group, List[Said], str]]:
-    """Pages with their text as node 0, in halves where that alone is too long."""
-    text = node_text(pages, 0)
-    if len(text) <= MOST_TEXT or len(pages) == 1:
-        yield group, pages, text
-        return
-    middle = len(pages) // 2
-    yield from halves(group, pages[:middle])
-    yield from halves(group, pages[middle:])
-
-
 def write_scripts(
     pages: Iterable[Said], head: Sequence[str], names: Dict[int, str]
 ) -> Iterator[Tuple[Script, List[List[Said]]]]:
@@ -161,12 +150,21 @@ def write_scripts(
     part: List[Tuple[Group, List[Said], str]] = []
     length = 0
     for group, own in groups_of(pages):
-        for _, some, text in halves(group, own):
-            if part and (len(part) == NODES or length + len(text) > MOST_TEXT):
+        todo = [own]
+        while todo:
+            some = todo.pop()
+            text = node_text(some, len(part))
+            if len(text) > MOST_TEXT and len(some) > 1:  # too long for any script: in halves
+                todo += [some[len(some) // 2 :], some[: len(some) // 2]]
+                continue
+            if part and length + len(text) > MOST_TEXT:
+                yield finish(part, head, names)
+                part, length, text = [], 0, node_text(some, 0)
+            part.append((group, some, text))
+            length += len(text)
+            if len(part) == NODES:
                 yield finish(part, head, names)
                 part, length = [], 0
-            part.append((group, some, node_text(some, len(part)) if part else text))
-            length += len(text)
     if part:
         yield finish(part, head, names)
 

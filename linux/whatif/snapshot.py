@@ -4,12 +4,14 @@ from __future__ import annotations
 
 import json
 import os
+import re
 import sys
 import time
 from collections import Counter
 from dataclasses import dataclass, field
 from typing import Any, Dict, List, Optional
 
+from ..common.direct_map import DirectMap
 from ..common.errors import InputFault, Unavailable
 from ..common.files import BASE, PMD_ORDER, PTES_NONE, SWITCH, read
 from ..common.kernel_memory import KernelMemory
@@ -69,6 +71,13 @@ class Snapshot:
     seconds: float = 0.0
     spent: Dict[str, float] = field(default_factory=dict)
 
+    @property
+    def locked_are_tried(self) -> bool:
+        """Whether this kernel's shrinker tries locked pages: before Linux 6.18 (mm/huge_memory.c:
+        deferred_split_scan)."""
+        found = re.match(r"Linux (\d+)\.(\d+)", self.kernel)
+        return bool(found) and (int(found[1]), int(found[2])) < (6, 18)
+
     def to_json(self) -> Dict[str, Any]:
         """As a JSON object, from which `from_json` makes the same scripts."""
         out = dict(vars(self))
@@ -115,7 +124,7 @@ def write(snapshot: Snapshot) -> Scripts:
     said: List[Said] = []
     for folio in snapshot.folios:
         try:
-            said.append(prepare(folio))
+            said.append(prepare(folio, snapshot.locked_are_tried))
         except Unsayable as why:
             snapshot.left_out[why.reason.value] += 1
     made = list(write_scripts(said, snapshot.head(), snapshot.names))
@@ -198,23 +207,27 @@ class Taker:
     def __init__(self, how: How, progress: Optional[Progress] = None) -> None:
         self.how, self._progress = how, progress or (lambda what, done, of: None)
         self._queues, self._lacking = None, "not asked for"
+        self._direct: Optional[DirectMap] = None
         if how.with_kernel:
             try:
-                self._queues, self._lacking = Queues(KernelMemory()), ""
+                memory = KernelMemory()
+                self._queues, self._lacking = Queues(memory), ""
+                self._direct = DirectMap(memory)
             except (Unavailable, OSError) as error:
-                self._lacking = str(error).splitlines()[0]
+                self._lacking = "" if self._queues else str(error).splitlines()[0]
 
     def take(self, choice: Choice) -> Snapshot:
         """Looks once. A process that can't be read, or ends meanwhile, is counted in what was left out."""
         began = time.monotonic()
         wanted = choice.find()
-        reader = Reader(self.how.with_small, self.how.threads, self._progress)
+        reader = Reader(self.how.with_small, self.how.threads, self._progress, self._direct)
         try:
             with held(wanted, choice.groups, self.how.freeze) as count:
                 sums = self._walk(reader, wanted)
+                reader.read_groups()
+                self._look(reader)
                 reader.read_counts()
                 reader.read_zeros()
-                self._look(reader)
                 reader.check_again()
                 sampled, changed = reader.read_sample_again()
             snapshot = self._gather(reader, choice, sums)

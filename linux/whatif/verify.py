@@ -193,7 +193,7 @@ class Bench:
         beside = {frame: given for frame, given in came.items() if frame not in folios}
         judged = {}
         for frame, folio in folios.items():
-            back = given_back(folio, threshold)
+            back = given_back(folio, threshold, snapshot.locked_are_tried)
             if back is not None:
                 judged[frame] = sum(1 << i for i, is_back in enumerate(back) if is_back)
         own = {frame: given for frame, given in came.items() if frame in folios}
