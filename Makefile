@@ -9,6 +9,7 @@
 # make fuzz:    random scripts, journals and words on the built program and on a plain reading of the model in Python:
 #               CASES=n SEED=s; ends in a table of what was covered
 # make memory:  each growth of memory and each start of a thread refused in turn (wants Python 3 and a C compiler)
+# make edits:   the wrong bodies that the gate has no time for (tests/edits), beside those that it tries
 # make linux:   random scripts on the running kernel and on the built program: CASES=n SEED=s PROGRAM=path (wants root;
 #               status 77 where this machine can't compare anything)
 # make bench:   times on large scripts, of single calls and of texts (docs/PROOFS.md has the figures)
@@ -19,7 +20,7 @@ SCRIPT = examples/first.script
 CASES ?= 2000
 SEED ?= 1
 
-.PHONY: try run install put put-whatif uninstall test outside toolchain fuzz memory linux bench
+.PHONY: try run install put put-whatif uninstall test outside toolchain fuzz memory edits linux bench
 
 # tells by a line where another toolchain is installed than everything was proved with
 toolchain:
@@ -79,6 +80,9 @@ fuzz: run
 memory: run
 	@cd crates/tests_spoilt && rt test
 	@python3 tests/memory.py $(PROGRAM) crates/tests_spoilt/out/tests_spoilt_tests:memory::
+
+edits:
+	@bash tests/edits/run
 
 linux:
 	@python3 -m linux.replay --program $(PROGRAM) --random $(CASES) --seed $(SEED) --quiet

@@ -55,6 +55,14 @@ def crates_are_told() -> str | None:
     return None
 
 
+def edits_are_told() -> str | None:
+    """docs/PROOFS.md names each must-fail edit, those of the gate and those of `make edits`."""
+    text = (ROOT / "docs/PROOFS.md").read_text()
+    edits = [*ROOT.glob("crates/*/must-fail/*.edit"), *ROOT.glob("tests/edits/*/*.edit")]
+    missing = sorted({path.stem for path in edits if f"`{path.stem}`" not in text})
+    return f"doesn't name {', '.join(missing)}" if missing else None
+
+
 def words_of_tree() -> set[str]:
     """Each word that code, definitions, proofs and scripts write, and the names of their files."""
     words: set[str] = set()
@@ -164,6 +172,7 @@ def main() -> None:
     tally.run("README.md is short", readme_is_short)
     tally.run("README.md shows what is stored of the examples", dialogues_are_true)
     tally.run("docs/PROVED.md tells of each crate", crates_are_told)
+    tally.run("docs/PROOFS.md names each must-fail edit", edits_are_told)
     tally.run("docs/PROVED.md names the toolchain", toolchain_is_told)
     tally.run("limits that are told are those of the code", limits_are_told)
     for document in DOCUMENTS:

@@ -23,8 +23,6 @@ const MOST_ROUNDS: u32 = 4_000_000;
 enum Runner {
     // nothing but the calls of a node
     Node,
-    // steps of a holder of all callers
-    Steps,
     // a section of a holder of all callers
     Section,
     // workers, each on a thread of its own, on one node
@@ -36,9 +34,8 @@ enum Runner {
     FourNodes,
 }
 
-const RUNNERS: [(&str, Runner); 8] = [
+const RUNNERS: [(&str, Runner); 7] = [
     ("a bare node", Runner::Node),
-    ("steps", Runner::Steps),
     ("a section", Runner::Section),
     ("one worker, one node", Runner::OneWorker),
     ("two workers, one node", Runner::TwoWorkers),
@@ -73,7 +70,6 @@ fn time<R: Clock + CpuClock + AllocGlobal + Threads + Sync>(
 {
     match runner {
         Runner::Node => alone::on_node(rt, rounds),
-        Runner::Steps => alone::by_steps(rt, rounds),
         Runner::Section => alone::by_section(rt, rounds),
         Runner::OneWorker => workers::on_one_node(rt, 1, rounds),
         Runner::TwoWorkers => workers::on_one_node(rt, 2, rounds),

@@ -162,24 +162,17 @@ fn every_page_call(rt: HostRuntime) {
     count_is(&rt, &cell, &mut pass, 0);
 }
 
-// Takes the only page of the queue, pins it, and tries it.
-fn take_pinned(
-    rt: &impl Abort,
-    cell: &NodeCell,
-    pass: &mut Pass,
-    caller: u32,
-    page: PageId,
-) -> Batch
+// Pins the only page of a batch, and tries it.
+fn try_pinned(rt: &impl Abort, cell: &NodeCell, pass: &mut Pass, batch: &mut Batch, page: PageId)
     requires cell { pass.old.cell ≡ cell.now }
-    requires caller { HasCaller pass.old caller }
+    requires caller { HasCaller pass.old batch.old.caller }
+    requires front { IsInFront pass.old.front batch.old }
     ensures same { pass.new ≡ at_front pass.old pass.new.front }
-    ensures caller { result.caller ≡ caller }
-    ensures front { IsInFront pass.new.front result }
+    ensures caller { batch.new.caller ≡ batch.old.caller }
+    ensures front { IsInFront pass.new.front batch.new }
 {
-    let mut batch = take_pages(rt, cell, pass, caller, 8, (page, page));
-    pin_page(rt, cell, pass, caller, page);
-    try_page(rt, cell, pass, &mut batch, Tried::Pinned(page));
-    batch
+    pin_page(rt, cell, pass, batch.caller(), page);
+    try_page(rt, cell, pass, batch, Tried::Pinned(page));
 }
 
 // Tries the pages 0 and 1 of a batch, of which 1 was freed meanwhile, and puts the batch back.
@@ -204,8 +197,9 @@ fn free_across_batches(rt: &impl Abort, cell: &NodeCell, a: &mut Pass, b: &mut P
     ensures b { b.new ≡ at_front b.old b.new.front }
 {
     let of_a = take_pages(rt, cell, a, 0, 2, (PageId(0), PageId(1)));
-    let of_b = take_pinned(rt, cell, b, 1, PageId(2));
+    let mut of_b = take_pages(rt, cell, b, 1, 8, (PageId(2), PageId(2)));
     unmap(rt, cell, b, 1, PageId(1), 1, 511, freed());
+    try_pinned(rt, cell, b, &mut of_b, PageId(2));
     try_and_return(rt, cell, a, of_a);
     return_pages(rt, cell, b, of_b, 1);
     count_is(rt, cell, a, 1);

@@ -3,7 +3,7 @@ use crate::devices::{LARGE, Manner, Source};
 use crate::passages::{FIRST_SCRIPT, JOURNAL, Passed, pass};
 use std::alloc::Global;
 use std::thread::Threads;
-use thp_check::check;
+use thp_check::{CheckFault, check};
 use thp_journal_reader::check_text;
 use thp_journal_writer::{NodeHistory, journal_text};
 use thp_model::{Event, PageId, Shape, What};
@@ -152,6 +152,25 @@ fn a_million_events_of_scans(rt: HostRuntime) {
     assert!(rt; is_scanned(rt.alloc()) == Some(true));
 }
 
+/// More than 2^20 pages, one after the other in one block.
+fn are_numbered(alloc: Global) -> Option<bool> {
+    let shape = Shape { blocks: 1, ..SHAPE };
+    let mut node = Node::new(alloc, shape).ok()?;
+    for number in 0..1_050_000u64 {
+        let page = node.alloc_page(0).ok()?;
+        node.unmap_whole(0, page).ok()?;
+        if page.0 != number {
+            return Some(false);
+        }
+    }
+    Some(node.allocations() == 1_050_000 && node.journal().len() == 2_100_000)
+}
+
+#[test]
+fn a_million_pages(rt: HostRuntime) {
+    assert!(rt; are_numbered(rt.alloc()) == Some(true));
+}
+
 /// A page in each of 4,096 blocks, by a caller of its own, far beyond those that a node has, and one page more.
 fn is_full_history_told(alloc: Global) -> Option<bool> {
     let mut events = Vec::new(alloc);
@@ -168,7 +187,8 @@ fn is_full_history_told(alloc: Global) -> Option<bool> {
             .ok()?;
     }
     let is_full = check(alloc, SHAPE, &events.as_slice()[..4_096]).is_ok();
-    Some(is_full && check(alloc, SHAPE, events.as_slice()).is_err())
+    let fault = check(alloc, SHAPE, events.as_slice());
+    Some(is_full && matches!(fault, Err(CheckFault::Illegal(4_096))))
 }
 
 #[test]

@@ -1,6 +1,0 @@
-use Rattle.thp_sections.specs.Passes.{fronts_in}
-use Rattle.bench_nodes.specs.Ready.{OfTwo}
-use Rattle.bench_nodes.proofs.runners.alone.by_steps.Given as goal
-
-abbrev pub invariant-loop-round : goal.invariant-loop-round
-invariant-loop-round g l = OfTwo (fronts_in l.passes)
