@@ -36,7 +36,7 @@ module _ (old new : Fronts) where
   answered_shared c n step answer a = record { others = a.others; own = a.own; after = a.after; moves = moves_shared c n a.others a.own a.after a.moves; does = a.does }
 
   out_shared : (c n : ℕ) (step : Step) → OutOf c n step old new → OutOf c n step (shared old) (shared new)
-  out_shared c n step o = record { others = o.others; moves = moves_shared c n o.others [] (old.batches c n) o.moves; allowed = o.allowed }
+  out_shared c n step o = record { others = o.others; moves = moves_shared c n o.others [] (old.batches c n) o.moves; allowed = o.allowed; needs = o.needs }
 
   pub goes_shared : (c : ℕ) → Goes c old new → Goes c (shared old) (shared new)
   goes_shared c g = record {

@@ -118,6 +118,7 @@ module _ (callers first end : ℕ) (held : List Held) (n : ℕ) (old new : Held)
     others = h.others;
     moves = rw (before (batch_in c)) (acts_moves c h.others [] (batch_of old c) h.acts);
     allowed = rw (before shape_in, before front_in) h.allowed;
+    needs = rw (before shape_in, before front_in, before (batch_in c)) h.needs;
   }
 
   pub busy_by : new ≡ old → (cell.HasAll old.pass → ⊥) → IsBusy (fronts_of callers first end held) (fronts_of callers first end (set held n new))
