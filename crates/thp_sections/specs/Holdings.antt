@@ -36,6 +36,10 @@ open_in None = None
 abbrev pub batch_of : Held → ℕ → Option Open
 batch_of h c = if nat_le h.pass.first c then open_in (slice_get h.batches (c - h.pass.first)) else None
 
+-- no caller has a batch open on the node
+abbrev pub IsShut : Held → Type 0
+IsShut h = (c : ℕ) → batch_of h c ≡ None
+
 -- the node went on by events of others and then by these of caller c, whose open batch is `after`
 pub record Acts (c : ℕ) (old new : Held) (others own : List Event) (after : Option Open) : Type 0 where
   pub pass : new.pass ≡ at_front old.pass new.pass.front

@@ -1,6 +1,7 @@
 //! Rounds of one thread, which has all callers.
 ghost use Rattle.std.specs.Prelude.{◌≡◌, ◌≤◌, IfOk};
 ghost use Rattle.thp_cell.specs.Views.{HasAll};
+ghost use Rattle.thp_sections.specs.OpenBatches.{HasNoBatch};
 ghost use Rattle.thp_sections.specs.Passes.{fronts_in};
 ghost use Rattle.bench_nodes.specs.Ready.{OfTwo};
 
@@ -64,7 +65,8 @@ fn passes_of<'a>(
     requires cell { pass.cell ≡ cell.now }
     requires all { HasAll pass }
     requires callers { pass.callers ≡ 2 }
-    ensures { IfOk result (λ p. OfTwo (fronts_in p)) }
+    ensures two { IfOk result (λ p. OfTwo (fronts_in p)) }
+    ensures shut { IfOk result (λ p. HasNoBatch 1 (fronts_in p)) }
 {
     let nodes = with_node(alloc, Vec::new(alloc), cell, pass, 2)?;
     Ok(NodePasses::new(nodes, 2, 0, 2))
@@ -77,5 +79,5 @@ fn step(passes: &mut NodePasses<'_>, call: PageCall) -> u64
 {
     let mut reply = Reply::Unit;
     let step = Step::One(NodeCall::Page { page: 0, call });
-    u64::from(passes.step(1, 0, step, &mut reply).is_ok())
+    u64::from(passes.step_into(1, 0, step, &mut reply).is_ok())
 }
