@@ -1,6 +1,7 @@
 //! Nodes for rounds.
-ghost use Rattle.std.specs.Prelude.{◌≡◌, ◌+◌, ◌<◌, [], IfOk, IfSome, length};
+ghost use Rattle.std.specs.Prelude.{◌≡◌, ◌+◌, ◌<◌, [], All, IfOk, IfSome, length};
 ghost use Rattle.thp_cell.specs.Views.{HasAll};
+ghost use Rattle.thp_sections.specs.Holdings.{IsShut};
 ghost use Rattle.thp_sections.specs.Passes.{Agree};
 
 use std::alloc::{AllocError, Global};
@@ -55,8 +56,10 @@ pub(crate) fn with_node<'a>(
     requires callers { pass.callers ≡ callers }
     requires agree { Agree callers 0 callers nodes.items }
     requires few { length nodes.items < 4 }
+    requires shut { All IsShut nodes.items }
     ensures agree { IfOk result (λ r. Agree callers 0 callers r.items) }
     ensures more { IfOk result (λ r. length r.items ≡ length nodes.entry.items + 1) }
+    ensures shut { IfOk result (λ r. All IsShut r.items) }
 {
     let mut nodes = nodes;
     nodes.push(NodePass::new(alloc, cell, pass)?)?;

@@ -1,5 +1,5 @@
 -- What is done on nodes that count as shared is done on the nodes.
-use Rattle.std.proofs.Common.{◌≡◌, ℕ, ◌+◌, ap, arith, inl, inr, List, [], Option, Some, None, Result, Ok, Err, refl}
+use Rattle.std.proofs.Common.{◌≡◌, ℕ, ◌+◌, ap, arith, inl, inr, Bool, List, [], Option, Some, None, Result, Ok, Err, refl}
 use Rattle.thp_model.specs.declared.events.Event.{Event}
 use Rattle.thp_model.specs.declared.refusal.Refusal.TheVariants.{OutOfMemory}
 use Rattle.thp_cell.specs.declared.fault.CellFault.{CellFault}
@@ -36,7 +36,7 @@ module _ (old new : Fronts) where
   answered_shared c n step answer a = record { others = a.others; own = a.own; after = a.after; moves = moves_shared c n a.others a.own a.after a.moves; does = a.does }
 
   out_shared : (c n : ℕ) (step : Step) → OutOf c n step old new → OutOf c n step (shared old) (shared new)
-  out_shared c n step o = record { others = o.others; moves = moves_shared c n o.others [] (old.batches c n) o.moves; allowed = o.allowed }
+  out_shared c n step o = record { others = o.others; moves = moves_shared c n o.others [] (old.batches c n) o.moves; allowed = o.allowed; needs = o.needs }
 
   pub goes_shared : (c : ℕ) → Goes c old new → Goes c (shared old) (shared new)
   goes_shared c g = record {
@@ -68,8 +68,8 @@ module _ (old new : Fronts) (c : ℕ) where
   steps_inside : (ms : List Made) → Steps c old (shared new) ms → Steps c before new ms
   steps_inside ms s = record { each = s.each; in_order = s.in_order; behind = s.behind; own = s.own; carries = s.carries; batches = s.batches }
 
-  begins_inside : (commands : List Command) (answers : List Answer) (begun : Begun) → Begins c old (shared new) commands answers begun → Begins c before new commands answers begun
-  begins_inside commands answers begun b = record {
+  begins_inside : (commands : List Command) (answers : List Answer) (opened : List Bool) (begun : Begun) → Begins c old (shared new) commands answers opened begun → Begins c before new commands answers opened begun
+  begins_inside commands answers opened begun b = record {
     turns = b.turns;
     made = b.made;
     grows = grows_inside b.grows;
@@ -78,10 +78,11 @@ module _ (old new : Fronts) (c : ℕ) where
     done = b.done;
     answered = b.answered;
     next = b.next;
+    known = b.known;
   }
 
-  ends_inside : (commands : List Command) (answers : List Answer) (back : ℕ) → Ends c old (shared new) commands answers back → Ends c before new commands answers back
-  ends_inside commands answers back e = record {
+  ends_inside : (commands : List Command) (answers : List Answer) (opened : List Bool) (back : ℕ) → Ends c old (shared new) commands answers opened back → Ends c before new commands answers opened back
+  ends_inside commands answers opened back e = record {
     turns = e.turns;
     closed = e.closed;
     grows = grows_inside e.grows;
@@ -92,12 +93,13 @@ module _ (old new : Fronts) (c : ℕ) where
     answered = e.answered;
     closes = e.closes;
     count = e.count;
+    known = e.known;
   }
 
-  to_inside : (commands : List Command) (answers : List Answer) (rest : Option Rest) → WorksTo c old (shared new) commands answers rest → WorksTo c before new commands answers rest
-  to_inside commands answers None t = (t.0, ends_inside commands answers t.0 t.1, t.2)
-  to_inside commands answers (Some r) t =
-      (t.0, elim t.1 [ inl b ↦ inl (b.0, begins_inside commands answers _ b.1) | inr e ↦ inr (e.0, ends_inside commands answers r.steps e.1) ])
+  to_inside : (commands : List Command) (answers : List Answer) (opened : List Bool) (rest : Option Rest) → WorksTo c old (shared new) commands answers opened rest → WorksTo c before new commands answers opened rest
+  to_inside commands answers opened None t = (t.0, ends_inside commands answers opened t.0 t.1, t.2)
+  to_inside commands answers opened (Some r) t =
+      (t.0, elim t.1 [ inl b ↦ inl (b.0, begins_inside commands answers opened _ b.1) | inr e ↦ inr (e.0, ends_inside commands answers opened r.steps e.1) ])
 
   pub works_inside : (commands : List Command) (w : Worked) → Works c old (shared new) commands w → WasWorked c new commands w
-  works_inside commands w k = (before, record { to = to_inside commands w.answers.items w.rest k.to; room = k.room })
+  works_inside commands w k = (before, record { to = to_inside commands w.answers.items w.opened.items w.rest k.to; room = k.room })

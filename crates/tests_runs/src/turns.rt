@@ -1,4 +1,4 @@
-//! A gate that lets the commands of two workers through in turn.
+//! A gate that lets the commands of two workers through in turn, and those of others at once.
 use std::sync::atomic::{AtomicU64, Ordering};
 use thp_sections::Gate;
 
@@ -6,14 +6,16 @@ use thp_sections::Gate;
 #[derive(Drop)]
 pub(crate) struct InTurns {
     first: u32,
+    other: u32,
     made: AtomicU64,
     late: AtomicU64,
 }
 
 impl InTurns {
-    pub(crate) fn new(first: u32) -> InTurns {
+    pub(crate) fn new(first: u32, other: u32) -> InTurns {
         InTurns {
             first,
+            other,
             made: AtomicU64::new(0),
             late: AtomicU64::new(0),
         }
@@ -39,6 +41,9 @@ impl InTurns {
 
 impl Gate for InTurns {
     fn pass(&self, worker: u32, index: u32) {
+        if worker != self.first && worker != self.other {
+            return;
+        }
         let (own, wanted) = self.bits(worker, index);
         let _before = self.made.fetch_or(own, Ordering::SeqCst);
         for _ in 0..50_000_000u32 {

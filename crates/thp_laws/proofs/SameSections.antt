@@ -13,7 +13,8 @@ use Rattle.thp_model.specs.Legal.{IsLegal}
 use Rattle.thp_text.specs.declared.script.Command.{Command}
 use Rattle.thp_sections.specs.declared.reply.Answer.{Answer}
 use Rattle.thp_sections.specs.Does.{Open}
-use Rattle.thp_sections.specs.Sections.{ComesBefore, IsMade, IsTurn, Made, Turn, answers_from, batches_after, closing, command_of, is_open, own_events, put_back_on, steps_of, with_batch}
+use Rattle.thp_sections.specs.OpenBatches.{is_open}
+use Rattle.thp_sections.specs.Sections.{ComesBefore, IsMade, IsTurn, Made, Turn, answers_from, batches_after, closing, command_of, own_events, put_back_on, steps_of, with_batch}
 use Rattle.thp_script_runs.specs.Runs.{IsSection, no_batches}
 use Rattle.thp_laws.proofs.SameTurns.{turns_twice}
 use Rattle.thp_laws.proofs.SideBySide.{Pair}

@@ -1,8 +1,8 @@
 -- What is left of the workers' sections, done one after another.
-use Rattle.std.proofs.Common.{◌≡◌, ◌∙◌, ◌++◌, ◌+◌, ◌<◌, ◌≤◌, ap, ℕ, Bool, zero, suc, List, [], ◌∷◌, length, get_or, refl, sym, subst, arith, length-append, append_assoc, Some}
+use Rattle.std.proofs.Common.{◌≡◌, ◌∙◌, ◌++◌, ◌+◌, ◌<◌, ◌≤◌, ap, ℕ, Bool, zero, suc, List, [], ◌∷◌, length, drop, get_or, refl, sym, subst, arith, length-append, append_assoc, Some}
 use Rattle.std.specs.Prelude.{All, Vec, slice_get}
 use Rattle.std.specs.declared.alloc.Global.{Global}
-use Rattle.std.proofs.lemmas.List.{append-nil, length-map}
+use Rattle.std.proofs.lemmas.List.{append-nil, drop_all, length-map}
 use Rattle.std.proofs.lemmas.Option.{slice_get_read}
 use Rattle.std.proofs.lemmas.List.Elements.{All-cons, All-head, All-nil, All-push, All-tail}
 use Rattle.thp_text.specs.declared.script.Command.{Command}
@@ -17,7 +17,7 @@ use Rattle.thp_sections.specs.Halves as halves
 use Rattle.thp_sections.specs.Sections.{AnswersAre, IsDoneFor, Works}
 use Rattle.thp_sections.proofs.HalvesLaws.{works_from, all_work_as}
 use Rattle.thp_sections.proofs.StepLaws.{same_refl, same_trans, has_later}
-use Rattle.thp_script_runs.specs.Sections.{GoesFrom, IsFitScript, IsFitSection, IsNew, RunsTo, SectionAnswersAre, commands_in, numbered}
+use Rattle.thp_script_runs.specs.Sections.{GoesFrom, InOrder, IsFitScript, IsFitSection, IsNew, RunsTo, SectionAnswersAre, commands_in, numbered}
 use Rattle.thp_script_runs.proofs.RunLaws.{all_work-length, same_nodes}
 
 -- ---- callers that went on
@@ -93,8 +93,22 @@ put c old f g (x ∷ vs) v (d ∷ done) w w' rest stay at works a =
       put (c + 1) old f g vs v done w w' rest (λ k lo hi other. stay k (omega (arith, lo)) (omega (arith, hi)) (λ e. other (e ∙ place))) at (subst (λ k. Works k old g v.items w') place works) a.1,
     )
 
+-- the elements from a place on are the one there and those behind it
+drop_one : {A : Type 0} (xs : List A) (n : ℕ) (x : A) → slice_get xs n ≡ Some x → drop n xs ≡ x ∷ drop (suc n) xs
+drop_one [] n x e = absurd (cc)
+drop_one (y ∷ xs) zero x e = let same : y ≡ x = cc in ap (λ z. z ∷ xs) same
+drop_one (y ∷ xs) (suc n) x e = drop_one xs n x e
+
+-- one worker more, in order
+one_more : (c : ℕ) (f g h : Fronts) (all : List (Vec Command Global)) (v : Vec Command Global) (vs : List (Vec Command Global)) (w w' : Worked) (rest more : List Worked) → all ≡ v ∷ vs → Goes c f g
+    → ((old : Fronts) → Works c old f v.items w → Works c old g v.items w') → InOrder (c + 1) g h vs rest more → InOrder c f h all (w ∷ rest) (w' ∷ more)
+unfolding InOrder
+one_more c f g h all v vs w w' rest more is goes works behind = rw is (g, goes, works, behind)
+
 -- what was left of the first sections is done
 pub record RestDone (first f : Fronts) (workers : List (Vec Command Global)) (started done rest : List Worked) : Type 0 where
+  -- whatever goes on in order from here, went on in order from the first worker on
+  pub order : (g : Fronts) (more : List Worked) → InOrder (1 + length done) f g (drop (length done) workers) rest more → InOrder 1 first g workers started (done ++ more)
   pub goes : GoesFrom 1 first f
   pub work : (old : Fronts) → AllWork 1 old first workers started → AllWork 1 old f workers (done ++ rest)
   pub all_done : All IsDoneFor done
@@ -102,6 +116,7 @@ pub record RestDone (first f : Fronts) (workers : List (Vec Command Global)) (st
 
 pub rest_first : (old f : Fronts) (workers : List (Vec Command Global)) (started done rest : List Worked) → AllWork 1 old f workers started → done ≡ [] → rest ≡ started → RestDone f f workers started done rest
 rest_first old f workers started done rest a none is = rw (none, is) (record {
+  order = λ g more ordered. ordered;
   goes = goes_from_refl 1 f;
   work = λ old a. a;
   all_done = All-nil IsDoneFor;
@@ -128,6 +143,11 @@ module _ (first f g : Fronts) (workers : List (Vec Command Global)) (v : Vec Com
   pub rest_more : (w' : Worked) → HasAll first → first.callers ≡ 1 + length workers → slice_get workers (length done) ≡ Some v → Goes (1 + length done) f g
       → ((old : Fronts) → Works (1 + length done) old f v.items w → Works (1 + length done) old g v.items w') → IsDoneFor w' → RestDone first g workers started (done ++ w' ∷ []) rest
   rest_more w' all callers at goes works whole = record {
+    order = λ h more ordered.
+        let len : length (done ++ w' ∷ []) ≡ suc (length done) = omega (arith, length-append done (w' ∷ [])) in
+        let behind : InOrder (1 + length done + 1) g h (drop (suc (length done)) workers) rest more = subst (λ k. InOrder k g h (drop (suc (length done)) workers) rest more) (omega arith) (subst (λ k. InOrder (1 + k) g h (drop k workers) rest more) len ordered) in
+        let here = one_more (1 + length done) f g h (drop (length done) workers) v (drop (suc (length done)) workers) w w' rest more (drop_one workers (length done) v at) goes works behind in
+        subst (InOrder 1 first h workers started) (sym (append_assoc done (w' ∷ []) more)) (r.order h (w' ∷ more) (subst (λ l. InOrder (1 + length done) f h (drop (length done) workers) l (w' ∷ more)) (sym is) here));
     goes = goes_from_trans 1 first f g r.goes (goes_from_one 1 (1 + length done) f g (omega arith) goes);
     work = λ old a.
         let new = put 1 old f g workers v done w w' rest (λ k lo hi other commands x was. stays old k lo hi other commands x was) at (works old (rest_works old a at)) (listed old a) in
@@ -144,6 +164,14 @@ module _ (first f g : Fronts) (workers : List (Vec Command Global)) (v : Vec Com
 pub rest_end : (first f : Fronts) (workers : List (Vec Command Global)) (started done rest : List Worked) → RestDone first f workers started done rest → length rest ≡ 0 → (old : Fronts) → AllWork 1 old first workers started → AllWork 1 old f workers done
 rest_end first f workers started done [] r none old a = subst (AllWork 1 old f workers) (append-nil done) (r.work old a)
 rest_end first f workers started done (w ∷ rest) r none old a = absurd (omega (arith, none))
+
+pub rest_ordered : (first f : Fronts) (workers : List (Vec Command Global)) (started done rest : List Worked) → RestDone first f workers started done rest → length rest ≡ 0 → InOrder 1 first f workers started done
+unfolding InOrder
+rest_ordered first f workers started done [] r none =
+    let past : length workers ≤ length done = let count = r.count in omega (arith, count) in
+    let here = r.order f [] (rw (drop_all (length done) workers past) refl) in
+    subst (InOrder 1 first f workers started) (append-nil done) here
+rest_ordered first f workers started done (w ∷ rest) r none = absurd (omega (arith, none))
 
 -- ---- the whole
 
@@ -175,6 +203,7 @@ module _ (f mid : Fronts) (script : Script) (vs : List (Vec Command Global)) (ne
     high = omega (arith, begins.same.end, new.end, count_vs);
     fits = omega (arith, begins.same.end, new.end, fits.most);
     sections = workers_fit mid.nodes begins.same.nodes;
+    shut = λ c has le n. begins.others_batches c n (λ e. absurd (omega (arith, le, e))) ∙ new.batches c n;
   }
 
   module _ (ran : Fronts) (ws : List Worked) (r : Ran 1 mid ran vs ws) where
@@ -190,7 +219,7 @@ module _ (f mid : Fronts) (script : Script) (vs : List (Vec Command Global)) (ne
     pub few_vs : length vs ≤ max_workers
     few_vs = omega (arith, count_vs, fits.most)
 
-    module _ (end : Fronts) (xs : List Worked) (goes : GoesFrom 1 ran end) (work : AllWork 1 mid end vs xs) where
+    module _ (end : Fronts) (xs : List Worked) (goes : GoesFrom 1 ran end) (work : AllWork 1 mid end vs xs) (order : InOrder 1 ran end vs ws xs) where
       pub few_done : length xs ≤ max_workers
       few_done = let same = all_work-length 1 mid end vs xs work in omega (arith, same, few_vs)
 
@@ -204,6 +233,10 @@ module _ (f mid : Fronts) (script : Script) (vs : List (Vec Command Global)) (ne
         setup_works = works;
         setup_done = setup-done;
         are = are;
+        postponed = ran;
+        started = ws;
+        side_by_side = r;
+        ascending = order;
         goes = goes_from_trans 1 mid ran end (goes_from_ran 1 mid ran vs ws r) goes;
         workers_work = work;
         workers_done = done;

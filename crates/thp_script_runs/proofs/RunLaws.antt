@@ -65,7 +65,7 @@ module _ (c : ℕ) (old new : Fronts) (commands : List Command) (w : Worked) (wo
 
   pub section_by : IsSection old.nodes old.shape new.front c commands w.answers.items
   section_by =
-      let to : WorksTo c old new commands w.answers.items None = subst (WorksTo c old new commands w.answers.items) done works.to in
+      let to : WorksTo c old new commands w.answers.items w.opened.items None = subst (WorksTo c old new commands w.answers.items w.opened.items) done works.to in
       let e = to.1 in
       let st : Steps c old new (steps_of (e.turns ++ e.closed)) = subst (Steps c old new) (sym (steps_of-append e.turns e.closed)) e.steps in
       record {

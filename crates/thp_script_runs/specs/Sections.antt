@@ -10,7 +10,7 @@ use Rattle.thp_sections.specs.declared.answer_log.Answers.{Answers}
 use Rattle.thp_sections.specs.declared.reply.Section.{Section}
 use Rattle.thp_sections.specs.declared.reply.Worked.{Worked}
 use Rattle.thp_sections.specs.Fronts.{Fronts, Goes, HasCaller, SameHolding}
-use Rattle.thp_sections.specs.Halves.{AllWork, KnowsOf}
+use Rattle.thp_sections.specs.Halves.{AllWork, KnowsOf, Ran}
 use Rattle.thp_sections.specs.Sections.{IsCommandFor, IsDoneFor, Works}
 
 -- nodes on which nothing has happened, held with caller 0 and a caller for each worker
@@ -53,7 +53,15 @@ abbrev pub numbered : ℕ → List Worked → List Section
 numbered k [] = []
 numbered k (w ∷ ws) = record { worker = k; answers = w.answers } ∷ numbered (k + 1) ws
 
--- all of setup was done, and then all of the workers' sections
+-- What was left of the sections of the workers from c on was done, one worker after another: each went on where the one before it
+-- had ended.
+unfoldable pub InOrder : ℕ → Fronts → Fronts → List (Vec Command Global) → List Worked → List Worked → Type 0
+InOrder c old new [] [] [] = new ≡ old
+InOrder c old new (v ∷ vs) (w ∷ ws) (d ∷ ds) =
+    (next : Fronts) × Goes c old next × ((first : Fronts) → Works c first old v.items w → Works c first next v.items d) × InOrder (c + 1) next new vs ws ds
+InOrder _ _ _ _ _ _ = ⊥
+
+-- all of setup was done, and then the workers' sections: side by side, and then, workers ascending, what they had postponed
 pub record RunsTo (old new : Fronts) (script : Script) (sections : List Section) : Type 0 where
   pub between : Fronts
   pub setup : Worked
@@ -63,6 +71,10 @@ pub record RunsTo (old new : Fronts) (script : Script) (sections : List Section)
   pub setup_works : Works 0 old between script.setup setup
   pub setup_done : IsDoneFor setup
   pub are : commands_in vectors ≡ script.workers
+  pub postponed : Fronts
+  pub started : List Worked
+  pub side_by_side : Ran 1 between postponed vectors started
+  pub ascending : InOrder 1 postponed new vectors started workers
   pub goes : GoesFrom 1 between new
   pub workers_work : AllWork 1 between new vectors workers
   pub workers_done : All IsDoneFor workers

@@ -5,7 +5,7 @@ ghost use Rattle.thp_sections.specs.Fronts.{Fronts, HasAll};
 ghost use Rattle.thp_sections.specs.Halves.{AllWork, IsSection};
 ghost use Rattle.thp_sections.specs.Sections.{AnswersAre, IsDoneFor};
 ghost use Rattle.thp_text.specs.Limits.{max_workers};
-ghost use Rattle.thp_script_runs.specs.Sections.{commands_in, numbered, GoesFrom, IsFitScript, IsNew, RunsTo, SectionAnswersAre};
+ghost use Rattle.thp_script_runs.specs.Sections.{commands_in, numbered, GoesFrom, InOrder, IsFitScript, IsNew, RunsTo, SectionAnswersAre};
 
 use std::alloc::{AllocError, Global};
 use std::thread::Threads;
@@ -55,7 +55,7 @@ fn vectors(
     Ok(all)
 }
 
-/// Does what is left of the sections of the workers, from worker 1 on, by the passes of all callers.
+/// Does what is left of the sections of the workers, from worker 1 on and in ascending order, by the passes of all callers.
 fn do_rest<P: Steps>(
     alloc: Global,
     workers: &[Vec<Command>],
@@ -69,6 +69,7 @@ fn do_rest<P: Steps>(
     requires worked { (old : Fronts) × AllWork 1 old (P.fronts passes.old) workers.now worked.items }
     ensures goes { IfOk result (λ _. GoesFrom 1 (P.fronts passes.old) (P.fronts passes.new)) }
     ensures work { (old : Fronts) → AllWork 1 old (P.fronts passes.old) workers.now worked.items → IfOk result (λ r. AllWork 1 old (P.fronts passes.new) workers.now r.items) }
+    ensures ascending { IfOk result (λ r. InOrder 1 (P.fronts passes.old) (P.fronts passes.new) workers.now worked.items r.items) }
     ensures done { IfOk result (λ r. All IsDoneFor r.items) }
     ensures answers { (are : Answers) → All (AnswersAre are) worked.items → IfOk result (λ r. All (AnswersAre are) r.items) }
 {

@@ -1,5 +1,5 @@
 -- Workers that come together.
-use Rattle.std.proofs.Common.{◌≡◌, ◌∙◌, ◌++◌, ◌+◌, ◌<◌, ◌≤◌, ap, ℕ, List, [], ◌∷◌, length, sym, subst, inl, inr, arith, append_assoc, length-append, get_or, Option, Some, None}
+use Rattle.std.proofs.Common.{◌≡◌, ◌∙◌, ◌++◌, ◌+◌, ◌<◌, ◌≤◌, ap, ℕ, Bool, List, [], ◌∷◌, length, sym, subst, inl, inr, arith, append_assoc, length-append, get_or, Option, Some, None}
 use Rattle.std.specs.Prelude.{Vec, slice_get}
 use Rattle.std.specs.declared.alloc.Global.{Global}
 use Rattle.thp_model.specs.History.{History, events_of}
@@ -11,8 +11,9 @@ use Rattle.thp_sections.specs.declared.reply.Rest.{Rest}
 use Rattle.thp_sections.specs.declared.reply.Worked.{Worked}
 use Rattle.thp_sections.specs.declared.scanning.Begun.{Begun}
 use Rattle.thp_sections.specs.Fronts.{Fronts, HasCaller, Goes, Grows, SameNodes}
-use Rattle.thp_sections.specs.Sections.{Made, Steps, Works, WorksTo, Begins, Ends, IsNext, begun_of, steps_of}
+use Rattle.thp_sections.specs.Sections.{Made, Steps, Works, WorksTo, Begins, Ends, IsNext, batches_after, begun_of, steps_of}
 use Rattle.thp_sections.specs.Halves.{KnowsOf, IsSplit, CanJoin, IsJoined, AllWork, IsSection, CanRun, Ran}
+use Rattle.thp_sections.proofs.OpenLaws.{known_as}
 use Rattle.thp_sections.proofs.StepLaws.{steps_stay}
 
 -- the same steps, seen from other fronts that say the same of the nodes
@@ -51,8 +52,8 @@ works_from c old old' new new' commands w same front batches later grown knows w
       );
     }
 
-    begins : (answers : List Answer) (b : Begun) → Begins c old new commands answers b → Begins c old' new' commands answers b
-    begins answers b x = record {
+    begins : (answers : List Answer) (opened : List Bool) (b : Begun) → Begins c old new commands answers opened b → Begins c old' new' commands answers opened b
+    begins answers opened b x = record {
       turns = x.turns;
       made = x.made;
       grows = grows x.grows;
@@ -61,10 +62,11 @@ works_from c old old' new new' commands w same front batches later grown knows w
       done = x.done;
       answered = x.answered;
       next = subst (λ bs. IsNext bs (slice_get commands (length x.turns)) x.made b) (sym batches_are) x.next;
+      known = known_as old.nodes old'.nodes opened (batches_after (old.batches c) (steps_of x.turns)) (batches_after (old'.batches c) (steps_of x.turns)) same.nodes (ap (λ bs. batches_after bs (steps_of x.turns)) (λ i n. batches n i)) x.known;
     }
 
-    ends : (answers : List Answer) (k : ℕ) → Ends c old new commands answers k → Ends c old' new' commands answers k
-    ends answers k x =
+    ends : (answers : List Answer) (opened : List Bool) (k : ℕ) → Ends c old new commands answers opened k → Ends c old' new' commands answers opened k
+    ends answers opened k x =
         let bs : old'.batches c ≡ old.batches c = λ i n. batches n i in
         record {
           turns = x.turns;
@@ -77,15 +79,16 @@ works_from c old old' new new' commands w same front batches later grown knows w
           answered = x.answered;
           closes = rw (same.nodes, bs, batches_are) x.closes;
           count = x.count;
+          known = known_as old.nodes old'.nodes opened (new.batches c) (new'.batches c) same.nodes batches_are x.known;
         }
 
-    to_from : (rest : Option Rest) → WorksTo c old new commands w.answers.items rest → WorksTo c old' new' commands w.answers.items rest
-    to_from None t = (t.0, ends w.answers.items t.0 t.1, rw (same.nodes, batches_are) t.2)
+    to_from : (rest : Option Rest) → WorksTo c old new commands w.answers.items w.opened.items rest → WorksTo c old' new' commands w.answers.items w.opened.items rest
+    to_from None t = (t.0, ends w.answers.items w.opened.items t.0 t.1, rw (same.nodes, batches_are) t.2)
     to_from (Some r) t = (
       t.0,
       elim t.1 [
-        | inl b ↦ inl (b.0, begins w.answers.items (begun_of r) b.1)
-        | inr e ↦ inr (e.0, ends w.answers.items r.steps e.1)
+        | inl b ↦ inl (b.0, begins w.answers.items w.opened.items (begun_of r) b.1)
+        | inr e ↦ inr (e.0, ends w.answers.items w.opened.items r.steps e.1)
       ],
     )
 
@@ -129,6 +132,7 @@ module _ (f l r : Fronts) (at first : ℕ) (low high : List (Vec Command Global)
     high = split.middle.0 ∙ is;
     fits = omega (arith, can.fits, can.high, split.middle.0, is, length-append low high);
     sections = rw split.left.same.nodes (all_front (IsSection f.nodes) low high can.sections);
+    shut = λ c has le n. split.left.batches c n has ∙ can.shut c (record { low = omega (arith, has.low, split.first); high = omega (arith, has.high, split.middle.0, is, can.high, length-append low high) }) le n;
   }
 
   pub can_right : 0 < length high → CanRun r at high
@@ -138,6 +142,7 @@ module _ (f l r : Fronts) (at first : ℕ) (low high : List (Vec Command Global)
     high = omega (arith, split.end, can.high, is, length-append low high);
     fits = omega (arith, can.fits, split.end);
     sections = rw split.right.same.nodes (all_back (IsSection f.nodes) low high can.sections);
+    shut = λ c has le n. split.right.batches c n has ∙ can.shut c (record { low = omega (arith, le, is, can.low); high = omega (arith, has.high, split.end) }) (omega (arith, le, is)) n;
   }
 
   module _ (l' r' : Fronts) (ws xs : List Worked) (a : Ran first l l' low ws) (b : Ran at r r' high xs) where

@@ -15,6 +15,7 @@ use Rattle.thp_model.specs.declared.refusal.Refusal.TheVariants.{NoPage, BadRang
 use Rattle.thp_model.specs.declared.shape.Shape.{Shape}
 use Rattle.thp_model.specs.History.{History, by}
 use Rattle.thp_model.specs.Places.{queue}
+use Rattle.thp_model.specs.Runs.{take_events, split_next_events, put_back_events}
 use Rattle.thp_model.specs.Refusals.{Call, refusal}
 use Rattle.thp_model.specs.Refusals as call
 use Rattle.thp_model.specs.PageCalls.{page_call}
@@ -35,7 +36,7 @@ use Rattle.thp_sections.specs.declared.steps.Step.TheVariants as steps
 use Rattle.thp_sections.specs.declared.steps.Step.TheVariants.{Take, SplitNext, PutBack}
 use Rattle.thp_sections.specs.declared.reply.Reply.{Reply}
 use Rattle.thp_sections.specs.declared.reply.Reply.TheVariants as reply
-use Rattle.thp_sections.specs.Does.{Open, Reaction, Does, DoesCall, open_of, refusal_of, refusal_of_call}
+use Rattle.thp_sections.specs.Does.{Open, Reaction, Does, DoesCall, leaves, open_of, refusal_of, refusal_of_call}
 use Rattle.thp_sections.specs.Holdings.{IsHeld, Acts, HeldAnswered, HeldDone, batch_of, open_in, unit_reply, loss_reply, page_reply}
 
 -- a call is never refused at a history for want of memory
@@ -131,12 +132,12 @@ module _ (p q : PassState) (bs : List (Option BatchState)) (c : ℕ) (same : q �
   }
 
   refused_done : (step : Step) (why : Refusal) (f : Follows p q) → ((h : History) → refusal_of p.shape h c step ≡ Some why → Does p.shape h c (batch_of (record { pass = p; batches = bs }) c) step [] (Err why) (batch_of (record { pass = p; batches = bs }) c))
-      → (refusal_of p.shape (p.front ++ f.others.others) c step ≡ Some why) ⊎ ((refusal_of p.shape (p.front ++ f.others.others) c step ≡ None) × (why ≡ OutOfMemory))
+      → (refusal_of p.shape (p.front ++ f.others.others) c step ≡ Some why) ⊎ ((refusal_of p.shape (p.front ++ f.others.others) c step ≡ None) × (why ≡ OutOfMemory) × (0 < leaves p.shape (p.front ++ f.others.others) c (batch_of (record { pass = p; batches = bs }) c) step))
       → HeldDone c step (record { pass = p; batches = bs }) (record { pass = q; batches = bs }) (Err (Refused why))
   refused_done step OutOfMemory f does cause =
       elim cause [
         | inl e ↦ absurd (never_memory p.shape (p.front ++ f.others.others) c step e)
-        | inr none ↦ record { others = f.others.others; acts = acts_followed f; allowed = none.0 }
+        | inr none ↦ record { others = f.others.others; acts = acts_followed f; allowed = none.0; needs = none.2 }
       ]
   refused_done step why f does cause =
       elim cause [
@@ -145,18 +146,18 @@ module _ (p q : PassState) (bs : List (Option BatchState)) (c : ℕ) (same : q �
       ]
 
   -- a step that failed
-  pub held_failed : (step : Step) (m : ℕ) (fault : CellFault) → Failed p q (refusal_of q.shape q.front c step) m fault
+  pub held_failed : (step : Step) (fault : CellFault) → Failed p q (refusal_of q.shape q.front c step) (leaves q.shape q.front c (batch_of (record { pass = p; batches = bs }) c) step) fault
       → ((h : History) (why : Refusal) → refusal_of p.shape h c step ≡ Some why → Does p.shape h c (batch_of (record { pass = p; batches = bs }) c) step [] (Err why) (batch_of (record { pass = p; batches = bs }) c))
       → HeldDone c step (record { pass = p; batches = bs }) (record { pass = q; batches = bs }) (Err fault)
-  held_failed step m Busy failed does = (λ i. record { pass = failed.same i; batches = bs }, λ all. failed.shared (record { from = all.from; to = all.to }))
-  held_failed step m (Refused why) failed does =
+  held_failed step Busy failed does = (λ i. record { pass = failed.same i; batches = bs }, λ all. failed.shared (record { from = all.from; to = all.to }))
+  held_failed step (Refused why) failed does =
       let f = failed.follows in
       let shape : q.shape ≡ p.shape = ap (λ (x : PassState). x.shape) same in
       let cause = failed.cause in
       refused_done step why f (λ h e. does h why e)
       (elim cause [
         | inl e ↦ inl (rw (shape, f.others.goes_on) at e)
-        | inr none ↦ inr (rw (shape, f.others.goes_on) at none.0, none.1)
+        | inr none ↦ inr (rw (shape, f.others.goes_on) at none.0, none.1, rw (shape, f.others.goes_on) at none.2)
       ])
 
 does_refused : (s : Shape) (h : History) (c : ℕ) (k : NodeCall) (batch : Option Open) (why : Refusal) → refusal_of_call s h k ≡ Some why → Does s h c batch (steps.One k) [] (Err why) batch
@@ -182,30 +183,31 @@ count_done p q bs c n f is = record {
   does = does_call p.shape (p.front ++ f.others.others) c node.Count _ [] (reply.Count n) refl (refl, rw (is, ap (λ (x : PassState). x.shape) f.same, f.others.goes_on) refl);
 }
 
-pub call_failed : (p q : PassState) (bs : List (Option BatchState)) (c : ℕ) (k : NodeCall) (m : ℕ) (fault : CellFault) → q ≡ at_front p q.front → Failed p q (refusal_of_call q.shape q.front k) m fault → HeldDone c (steps.One k) (record { pass = p; batches = bs }) (record { pass = q; batches = bs }) (Err fault)
-call_failed p q bs c k m fault same failed = held_failed p q bs c same (steps.One k) m fault failed (λ h why e. does_refused p.shape h c k _ why e)
+pub call_failed : (p q : PassState) (bs : List (Option BatchState)) (c : ℕ) (k : NodeCall) (fault : CellFault) → q ≡ at_front p q.front → Failed p q (refusal_of_call q.shape q.front k) (leaves q.shape q.front c (batch_of (record { pass = p; batches = bs }) c) (steps.One k)) fault
+    → HeldDone c (steps.One k) (record { pass = p; batches = bs }) (record { pass = q; batches = bs }) (Err fault)
+call_failed p q bs c k fault same failed = held_failed p q bs c same (steps.One k) fault failed (λ h why e. does_refused p.shape h c k _ why e)
 
 -- an allocation, done or not
 pub alloc_told : (p q : PassState) (bs : List (Option BatchState)) (c : ℕ) (r : Result ℕ CellFault) → q ≡ at_front p q.front → IfOk r (λ page. Called p q c (DidAlloc p.shape c page)) → IfErr r (Failed p q (refusal_of_call q.shape q.front node.Alloc) 1)
     → HeldDone c (steps.One node.Alloc) (record { pass = p; batches = bs }) (record { pass = q; batches = bs }) (page_reply r)
 alloc_told p q bs c (Ok page) same called failed = alloc_done p q bs c page same called
-alloc_told p q bs c (Err fault) same called failed = call_failed p q bs c node.Alloc 1 fault same failed
+alloc_told p q bs c (Err fault) same called failed = call_failed p q bs c node.Alloc fault same failed
 
 -- a call that tells nothing
-pub unit_done : (p q : PassState) (bs : List (Option BatchState)) (c : ℕ) (k : NodeCall) (w : What) (r : Result (Unit {0}) CellFault) (m : ℕ) (call : Call) → q ≡ at_front p q.front → OnOk r (Called p q c (DidOne p.shape call c w)) → IfErr r (Failed p q (refusal_of_call q.shape q.front k) m)
+pub unit_done : (p q : PassState) (bs : List (Option BatchState)) (c : ℕ) (k : NodeCall) (w : What) (r : Result (Unit {0}) CellFault) (call : Call) → q ≡ at_front p q.front → OnOk r (Called p q c (DidOne p.shape call c w)) → IfErr r (Failed p q (refusal_of_call q.shape q.front k) (leaves q.shape q.front c (batch_of (record { pass = p; batches = bs }) c) (steps.One k)))
     → ((s : Shape) (h : History) → refusal_of_call s h k ≡ refusal s h call) → ((s : Shape) (h : History) (own : List Event) → own ≡ by c w ∷ [] → DoesCall s h c k own (Ok reply.Unit))
     → HeldDone c (steps.One k) (record { pass = p; batches = bs }) (record { pass = q; batches = bs }) (unit_reply r)
-unit_done p q bs c k w (Ok x) m call same called failed is does =
+unit_done p q bs c k w (Ok x) call same called failed is does =
     held_called p q bs c same (steps.One k) reply.Unit (DidOne p.shape call c w) called (λ h own d. does_call p.shape h c k _ own reply.Unit (is p.shape h ∙ d.allowed) (does p.shape h own d.recorded))
-unit_done p q bs c k w (Err fault) m call same called failed is does = call_failed p q bs c k m fault same failed
+unit_done p q bs c k w (Err fault) call same called failed is does = call_failed p q bs c k fault same failed
 
 -- a call that may give frames back
-pub loss_done : (p q : PassState) (bs : List (Option BatchState)) (c page : ℕ) (k : NodeCall) (w : Outcome → List Bool → What) (r : Result Done CellFault) (m : ℕ) (call : Call) → q ≡ at_front p q.front → IfOk r (λ d. Called p q c (DidLose p.shape call c page w d)) → IfErr r (Failed p q (refusal_of_call q.shape q.front k) m)
+pub loss_done : (p q : PassState) (bs : List (Option BatchState)) (c page : ℕ) (k : NodeCall) (w : Outcome → List Bool → What) (r : Result Done CellFault) (call : Call) → q ≡ at_front p q.front → IfOk r (λ d. Called p q c (DidLose p.shape call c page w d)) → IfErr r (Failed p q (refusal_of_call q.shape q.front k) (leaves q.shape q.front c (batch_of (record { pass = p; batches = bs }) c) (steps.One k)))
     → ((s : Shape) (h : History) → refusal_of_call s h k ≡ refusal s h call) → ((s : Shape) (h : History) (own : List Event) (d : Done) → own ≡ by c (w d.outcome d.released) ∷ [] → DoesCall s h c k own (Ok (reply.Done d)))
     → HeldDone c (steps.One k) (record { pass = p; batches = bs }) (record { pass = q; batches = bs }) (loss_reply r)
-loss_done p q bs c page k w (Ok done) m call same called failed is does =
+loss_done p q bs c page k w (Ok done) call same called failed is does =
     held_called p q bs c same (steps.One k) (reply.Done done) (DidLose p.shape call c page w done) called (λ h own d. does_call p.shape h c k _ own (reply.Done done) (is p.shape h ∙ d.allowed) (does p.shape h own done d.recorded))
-loss_done p q bs c page k w (Err fault) m call same called failed is does = call_failed p q bs c k m fault same failed
+loss_done p q bs c page k w (Err fault) call same called failed is does = call_failed p q bs c k fault same failed
 
 -- ---- calls that change an open batch
 
@@ -407,10 +409,10 @@ module _ (p q : PassState) (bs new : List (Option BatchState)) (c place : ℕ) (
   take_held n taken b is now count r =
       rw (now, count) (held_changed p q bs c place same at lt (Some b) (Take n) (reply.Taken (length b.pages)) (DidTake p.shape c n b) r (λ h own d. rw is (take_does p.shape h c n own b d)))
 
-  pub take_failed : (n m : ℕ) (fault : CellFault) → slice_get bs place ≡ Some None → Failed p q (refusal q.shape q.front (call.take c)) m fault → HeldDone c (Take n) (record { pass = p; batches = bs }) (record { pass = q; batches = bs }) (Err fault)
-  take_failed n m fault is failed =
+  pub take_failed : (n : ℕ) (fault : CellFault) → slice_get bs place ≡ Some None → Failed p q (refusal q.shape q.front (call.take c)) (length (take_events q.shape q.front c n)) fault → HeldDone c (Take n) (record { pass = p; batches = bs }) (record { pass = q; batches = bs }) (Err fault)
+  take_failed n fault is failed =
       let found : batch_of (record { pass = p; batches = bs }) c ≡ None = batch_old p q bs c place same at lt ∙ ap open_in is in
-      held_failed p q bs c same (Take n) m fault failed (λ h why e. rw found (refused_take p.shape h c n why e))
+      held_failed p q bs c same (Take n) fault (rw found failed) (λ h why e. rw found (refused_take p.shape h c n why e))
 
   pub split_held : (b b' : BatchState) (t : Tried) → b.caller ≡ c → slice_get bs place ≡ Some (Some b) → new ≡ set (set bs place None) place (Some b') → b'.pages ≡ b.pages → Called p q b.caller (DidTry p.shape b b' t)
       → HeldAnswered c SplitNext (record { pass = p; batches = bs }) (record { pass = q; batches = new }) (Ok (reply.Tried t))
@@ -428,15 +430,17 @@ module _ (p q : PassState) (bs new : List (Option BatchState)) (c place : ℕ) (
   put_again : (b b' : BatchState) → slice_get bs place ≡ Some (Some b) → b' ≡ b → new ≡ set (set bs place None) place (Some b') → new ≡ bs
   put_again b b' is e now = now ∙ set_twice bs place None (Some b') ∙ set_same bs place (Some b') (is ∙ ap (λ (x : BatchState). Some (Some x)) (sym e))
 
-  pub split_failed : (b b' : BatchState) (m : ℕ) (fault : CellFault) → slice_get bs place ≡ Some (Some b) → b' ≡ b → new ≡ set (set bs place None) place (Some b') → Failed p q None m fault → HeldDone c SplitNext (record { pass = p; batches = bs }) (record { pass = q; batches = new }) (Err fault)
-  split_failed b b' m fault is e now failed =
+  pub split_failed : (b b' : BatchState) (fault : CellFault) → b.caller ≡ c → slice_get bs place ≡ Some (Some b) → b' ≡ b → new ≡ set (set bs place None) place (Some b') → Failed p q None (length (split_next_events q.shape q.front b.caller (rest b))) fault → HeldDone c SplitNext (record { pass = p; batches = bs }) (record { pass = q; batches = new }) (Err fault)
+  split_failed b b' fault caller is e now failed =
+      let found : batch_of (record { pass = p; batches = bs }) c ≡ Some (open_of b) = batch_old p q bs c place same at lt ∙ ap open_in is in
       subst (λ (x : List (Option BatchState)). HeldDone c SplitNext (record { pass = p; batches = bs }) (record { pass = q; batches = x }) (Err fault)) (sym (put_again b b' is e now))
-      (held_failed p q bs c same SplitNext m fault failed (λ h why f. absurd (cc)))
+      (held_failed p q bs c same SplitNext fault (rw (found, ← caller) failed) (λ h why f. absurd (cc)))
 
-  pub back_failed : (b b' : BatchState) (m : ℕ) (fault : CellFault) → slice_get bs place ≡ Some (Some b) → b' ≡ b → new ≡ set (set bs place None) place (Some b') → Failed p q None m fault → HeldDone c PutBack (record { pass = p; batches = bs }) (record { pass = q; batches = new }) (Err fault)
-  back_failed b b' m fault is e now failed =
+  pub back_failed : (b b' : BatchState) (fault : CellFault) → b.caller ≡ c → slice_get bs place ≡ Some (Some b) → b' ≡ b → new ≡ set (set bs place None) place (Some b') → Failed p q None (length (put_back_events q.shape q.front b.caller b.pages)) fault → HeldDone c PutBack (record { pass = p; batches = bs }) (record { pass = q; batches = new }) (Err fault)
+  back_failed b b' fault caller is e now failed =
+      let found : batch_of (record { pass = p; batches = bs }) c ≡ Some (open_of b) = batch_old p q bs c place same at lt ∙ ap open_in is in
       subst (λ (x : List (Option BatchState)). HeldDone c PutBack (record { pass = p; batches = bs }) (record { pass = q; batches = x }) (Err fault)) (sym (put_again b b' is e now))
-      (held_failed p q bs c same PutBack m fault failed (λ h why f. absurd (cc)))
+      (held_failed p q bs c same PutBack fault (rw (found, ← caller) failed) (λ h why f. absurd (cc)))
 
 -- batches that stay in front do so whoever's they are
 pub others_stay : (p q : PassState) (c : ℕ) → BatchesStay p q → OtherBatchesStay c p q

@@ -1,8 +1,9 @@
 -- A step on one node, as a step of the holder of all nodes' passes.
-use Rattle.std.proofs.Common.{◌≡◌, ◌∙◌, ◌≢◌, ◌++◌, ◌<◌, ◌==◌, ap, ℕ, Bool, true, false, List, [], ◌∷◌, length, refl, sym, subst, Option, Some, Ok, Err, set, map, zero, suc}
-use Rattle.std.specs.Prelude.{slice_get, Result}
+use Rattle.std.proofs.Common.{◌≡◌, ◌∙◌, ◌≢◌, ◌++◌, ◌<◌, ◌==◌, ap, ℕ, Bool, true, false, List, [], ◌∷◌, length, refl, sym, subst, Option, Some, None, Ok, Err, set, map, zero, suc}
+use Rattle.std.specs.Prelude.{All, slice_get, Result}
 use Rattle.std.proofs.lemmas.Bool.{eqb-true, eqb-false}
 use Rattle.std.proofs.lemmas.Option.{slice_get_within}
+use Rattle.std.proofs.lemmas.List.Elements.{All-head, All-tail}
 use Rattle.thp_model.specs.declared.events.Event.{Event}
 use Rattle.thp_model.specs.declared.refusal.Refusal.TheVariants.{OutOfMemory}
 use Rattle.thp_cell.specs.declared.fault.CellFault.{CellFault}
@@ -14,7 +15,8 @@ use Rattle.thp_sections.specs.declared.steps.Step.{Step}
 use Rattle.thp_sections.specs.declared.reply.Reply.{Reply}
 use Rattle.thp_sections.specs.Does.{Open, Reaction}
 use Rattle.thp_sections.specs.Fronts.{Fronts, Moves, Answered, OutOf, IsBusy, StepDone, Goes}
-use Rattle.thp_sections.specs.Holdings.{Held, Acts, HeldAnswered, HeldOutOf, HeldDone, batch_of}
+use Rattle.thp_sections.specs.Holdings.{Held, Acts, HeldAnswered, HeldOutOf, HeldDone, IsShut, batch_of}
+use Rattle.thp_sections.specs.OpenBatches.{HasNoBatch}
 use Rattle.thp_sections.specs.Passes.{cell_in, shape_in, front_in, batch_in, fronts_of, IsOf, Agree}
 use Rattle.thp_sections.proofs.HoldingLaws.{slice_get-set_same, slice_get-set_other, set_same, length-set_same}
 use Rattle.thp_sections.proofs.StepLaws.{goes_refl, moves_goes}
@@ -118,6 +120,7 @@ module _ (callers first end : ℕ) (held : List Held) (n : ℕ) (old new : Held)
     others = h.others;
     moves = rw (before (batch_in c)) (acts_moves c h.others [] (batch_of old c) h.acts);
     allowed = rw (before shape_in, before front_in) h.allowed;
+    needs = rw (before shape_in, before front_in, before (batch_in c)) h.needs;
   }
 
   pub busy_by : new ≡ old → (cell.HasAll old.pass → ⊥) → IsBusy (fronts_of callers first end held) (fronts_of callers first end (set held n new))
@@ -138,3 +141,12 @@ goes_done c n step old new (Ok reply) d = moves_goes c n old new d.others d.own 
 goes_done c n step old new (Err Busy) d = rw d.same (goes_refl c old)
 goes_done c n step old new (Err (Refused OutOfMemory)) d = moves_goes c n old new d.others [] (old.batches c n) d.moves
 goes_done c n step old new (Err (Refused why)) d = moves_goes c n old new d.others d.own d.after d.moves
+
+-- where no caller has a batch open on any node, none has one
+pub all_shut : (callers first end : ℕ) (held : List Held) → All IsShut held → (c : ℕ) → HasNoBatch c (fronts_of callers first end held)
+all_shut callers first end held shut c n = at held shut n
+  where
+    at : (hs : List Held) → All IsShut hs → (n : ℕ) → batch_in c (slice_get hs n) ≡ None
+    at [] all n = refl
+    at (h ∷ hs) all zero = All-head IsShut h hs all c
+    at (h ∷ hs) all (suc n) = at hs (All-tail IsShut h hs all) n

@@ -1,11 +1,13 @@
 -- Commands, one after another, and the put-backs at a section's end.
-use Rattle.std.proofs.Common.{◌≡◌, ◌∙◌, ◌⊎◌, ◌++◌, ◌+◌, ◌-◌, ◌<◌, ◌≤◌, ap, ℕ, zero, suc, Bool, true, false, List, [], ◌∷◌, length, take, map, refl, sym, subst, inl, inr, arith, append_assoc, length-append, Option, Some, None, Ok, Err}
-use Rattle.std.specs.Prelude.{slice_get, Result}
+use Rattle.std.proofs.Common.{◌≡◌, ◌∙◌, ◌⊎◌, ◌++◌, set, ◌+◌, ◌-◌, ◌<◌, ◌≤◌, ap, ℕ, zero, suc, Bool, true, false, List, [], ◌∷◌, length, take, map, refl, sym, subst, inl, inr, arith, append_assoc, length-append, Option, Some, None, Ok, Err}
+use Rattle.std.specs.Prelude.{All, Vec, replicate, slice_get, Result}
+use Rattle.std.specs.declared.alloc.Global.{Global}
 use Rattle.std.proofs.lemmas.List.{append-nil, map-append, length-map, take_all}
 use Rattle.std.proofs.lemmas.Bool.{cases_lt}
 use Rattle.std.proofs.lemmas.Option.{slice_get_past}
 use Rattle.std.proofs.lemmas.Grind.{flat_map-append}
 use Rattle.std.proofs.lemmas.List.Elements.{All-nil, All-push, All-append}
+use Rattle.thp_cell.proofs.Fronts.{all_back}
 use Rattle.thp_cell.specs.declared.fault.CellFault.{CellFault}
 use Rattle.thp_cell.specs.declared.fault.CellFault.TheVariants.{Busy, Refused}
 use Rattle.thp_model.specs.declared.refusal.Refusal.{Refusal}
@@ -21,8 +23,10 @@ use Rattle.thp_sections.specs.Logs.{LogState}
 use Rattle.thp_sections.specs.Does.{Open, Reaction}
 use Rattle.thp_sections.specs.Fronts.{Fronts, Goes}
 use Rattle.thp_sections.specs.Turns.{Progress, On, Ended, Comes, Told, IsBegun, TurnsOut, first_begun}
-use Rattle.thp_sections.specs.Sections.{Made, Steps, Proceeds, told_by, Turn, IsTurn, command_of, steps_of, batches_after, is_open, put_back_on, closing_from, closing, answers_from, IsBegunOn, IsNext, Begins, Ends, PutsBack, Works, begun_of}
-use Rattle.thp_sections.proofs.StepLaws.{steps_none, steps_then, goes_grows, grows_refl, grows_trans, batches_elsewhere, closed_by}
+use Rattle.thp_sections.specs.OpenBatches.{HasNoBatch, OpenOn, is_open, leaves_open, marked}
+use Rattle.thp_sections.specs.Sections.{Made, IsMade, Steps, Carries, Proceeds, told_by, Turn, IsTurn, command_of, steps_of, batches_after, put_back_on, closing_from, closing, answers_from, IsBegunOn, IsNext, Begins, Ends, PutsBack, Works, begun_of}
+use Rattle.thp_sections.proofs.OpenLaws.{carries_behind, known_as, known_more, known_none, known_shut, opens_by}
+use Rattle.thp_sections.proofs.StepLaws.{steps_none, steps_then, goes_grows, grows_refl, grows_trans, batches_after-append, batches_elsewhere, closed_by}
 
 -- below the next is below or there
 split_lt : (k n : ℕ) → k < suc n → (k < n) ⊎ (k ≡ n)
@@ -63,8 +67,9 @@ is_next_first bs None = (refl, refl)
 is_next_first bs (Some command) = record { on_node = All-nil (λ (m : Made). m.node ≡ command.node); begun = not_begun command.op; ready = inl refl }
 
 -- no command yet
-pub begins_first : (c : ℕ) (f : Fronts) (commands : List Command) (answers : List Answer) → answers ≡ [] → Begins c f f commands answers first_begun
-begins_first c f commands answers none = record {
+pub begins_first : (c : ℕ) (f : Fronts) (commands : List Command) (answers : List Answer) (opened : List Bool) → answers ≡ [] → opened ≡ replicate f.nodes false → HasNoBatch c f → Begins c f f commands answers opened first_begun
+unfolding batches_after
+begins_first c f commands answers opened none shut no-batch = record {
   turns = [];
   made = [];
   grows = grows_refl f;
@@ -73,6 +78,7 @@ begins_first c f commands answers none = record {
   done = refl;
   answered = none;
   next = is_next_first (f.batches c) (slice_get commands 0);
+  known = known_none f.nodes opened (f.batches c) shut no-batch;
 }
 
 take_one_more : {A : Type 0} (xs : List A) (n : ℕ) (x : A) → slice_get xs n ≡ Some x → take (suc n) xs ≡ take n xs ++ x ∷ []
@@ -80,7 +86,7 @@ take_one_more [] n x e = absurd (cc)
 take_one_more (y ∷ xs) zero x e = let heads : y ≡ x = cc in ap (λ z. z ∷ []) heads
 take_one_more (y ∷ xs) (suc n) x e = ap (λ l. y ∷ l) (take_one_more xs n x e)
 
-module _ (c : ℕ) (old mid new : Fronts) (commands : List Command) (answers : List Answer) (begun : Begun) (command : Command) (at : slice_get commands (length answers) ≡ Some command) (b : Begins c old mid commands answers begun) (g : Goes c mid new) where
+module _ (c : ℕ) (old mid new : Fronts) (commands : List Command) (answers : List Answer) (opened : List Bool) (begun : Begun) (command : Command) (at : slice_get commands (length answers) ≡ Some command) (b : Begins c old mid commands answers opened begun) (g : Goes c mid new) where
   as_many : length b.turns ≡ length answers
   as_many = sym (ap length b.answered ∙ length-answers 0 b.turns)
 
@@ -91,12 +97,16 @@ module _ (c : ℕ) (old mid new : Fronts) (commands : List Command) (answers : L
   next = subst (λ o. IsNext (mid.batches c) o b.made begun) here b.next
 
   -- the command that comes next was done
-  pub begins_more : (answer : Reaction) → Proceeds c command begun mid new (Ended answer) → Begins c old new commands (answers ++ record { command = length answers; node = command.node; reply = answer } ∷ []) first_begun
-  begins_more answer p =
+  pub begins_more : (answer : Reaction) → command.node < mid.nodes → Proceeds c command begun mid new (Ended answer) → Begins c old new commands (answers ++ record { command = length answers; node = command.node; reply = answer } ∷ []) (marked opened command answer) first_begun
+  begins_more answer lt p =
       let turn : Turn = record { command = command; steps = b.made ++ p.made; answer = answer } in
       let st : Steps c old new ((steps_of b.turns ++ b.made) ++ p.made) = steps_then c old mid new (steps_of b.turns ++ b.made) p.made b.grows (goes_grows c mid new g) b.steps p.steps in
       let all : steps_of (b.turns ++ turn ∷ []) ++ [] ≡ (steps_of b.turns ++ b.made) ++ p.made = append-nil (steps_of (b.turns ++ turn ∷ [])) ∙ steps_of-push b.turns turn ∙ sym (append_assoc (steps_of b.turns) b.made p.made) in
       let told : told_by (b.made ++ p.made) ≡ told_by b.made ++ told_by p.made = map-append (λ (m : Made). m.told) b.made p.made in
+      let on : All (λ (m : Made). m.node ≡ command.node) turn.steps = All-append (λ (m : Made). m.node ≡ command.node) b.made p.made next.on_node p.on_node in
+      let out : TurnsOut command.op (told_by turn.steps) answer = subst (λ (l : List Told). TurnsOut command.op l answer) (sym told) (p.turned (told_by b.made) next.begun) in
+      let before = batches_after (old.batches c) (steps_of b.turns) in
+      let whole : Steps c old new (steps_of b.turns ++ turn.steps) = subst (Steps c old new) (append_assoc (steps_of b.turns) b.made p.made) st in
       let len : length (b.turns ++ turn ∷ []) ≡ suc (length b.turns) = omega (arith, length-append b.turns (turn ∷ [])) in
       let said : answers_from 0 b.turns ++ record { command = length b.turns; node = command.node; reply = answer } ∷ [] ≡ answers ++ record { command = length answers; node = command.node; reply = answer } ∷ [] = λ i. sym b.answered i ++ record { command = as_many i; node = command.node; reply = answer } ∷ [] in
       record {
@@ -104,17 +114,18 @@ module _ (c : ℕ) (old mid new : Fronts) (commands : List Command) (answers : L
         made = [];
         grows = grows_trans old mid new b.grows (goes_grows c mid new g);
         steps = subst (Steps c old new) (sym all) st;
-        each = All-push IsTurn b.turns turn b.each (record {
-          on_node = All-append (λ (m : Made). m.node ≡ command.node) b.made p.made next.on_node p.on_node;
-          turns_out = subst (λ (l : List Told). TurnsOut command.op l answer) (sym told) (p.turned (told_by b.made) next.begun);
-        });
+        each = All-push IsTurn b.turns turn b.each (record { on_node = on; turns_out = out });
         done = map-append command_of b.turns (turn ∷ []) ∙ ap (λ l. l ++ command ∷ []) b.done ∙ sym (take_one_more commands (length b.turns) command here) ∙ ap (λ n. take n commands) (sym len);
         answered = sym (answers-push_first b.turns turn ∙ said);
         next = is_next_first (new.batches c) (slice_get commands (length (b.turns ++ turn ∷ [])));
+        known = known_as old.nodes old.nodes (marked opened command answer) (batches_after before turn.steps) (batches_after (old.batches c) (steps_of (b.turns ++ turn ∷ []))) refl
+            (ap (batches_after (old.batches c)) (steps_of-push b.turns turn) ∙ batches_after-append (old.batches c) (steps_of b.turns) turn.steps)
+            (known_more old.nodes opened before command answer turn.steps b.known (omega (arith, lt, b.grows.same.nodes)) on
+            (opens_by old.shape new.front c command.node command.op answer before turn.steps on (all_back (IsMade old.shape new.front c) (steps_of b.turns) turn.steps whole.each) (carries_behind (old.batches c) (steps_of b.turns) turn.steps whole.carries) out));
       }
 
   -- the command that comes next is postponed
-  pub begins_stop : (more : Begun) → Proceeds c command begun mid new (On more) → Begins c old new commands answers more
+  pub begins_stop : (more : Begun) → Proceeds c command begun mid new (On more) → Begins c old new commands answers opened more
   begins_stop more p =
       let st : Steps c old new ((steps_of b.turns ++ b.made) ++ p.made) = steps_then c old mid new (steps_of b.turns ++ b.made) p.made b.grows (goes_grows c mid new g) b.steps p.steps in
       let told : told_by (b.made ++ p.made) ≡ told_by b.made ++ told_by p.made = map-append (λ (m : Made). m.told) b.made p.made in
@@ -132,17 +143,18 @@ module _ (c : ℕ) (old mid new : Fronts) (commands : List Command) (answers : L
         done = b.done;
         answered = b.answered;
         next = subst (λ o. IsNext (new.batches c) o (b.made ++ p.made) more) (sym here) on;
+        known = b.known;
       }
 
 -- a command that was begun can go on
-pub begun_on : (c : ℕ) (old mid : Fronts) (commands : List Command) (answers : List Answer) (begun : Begun) (command : Command) → slice_get commands (length answers) ≡ Some command → (b : Begins c old mid commands answers begun) → IsBegunOn (mid.batches c) command b.made begun
-begun_on c old mid commands answers begun command at b =
+pub begun_on : (c : ℕ) (old mid : Fronts) (commands : List Command) (answers : List Answer) (opened : List Bool) (begun : Begun) (command : Command) → slice_get commands (length answers) ≡ Some command → (b : Begins c old mid commands answers opened begun) → IsBegunOn (mid.batches c) command b.made begun
+begun_on c old mid commands answers opened begun command at b =
     let count : length b.turns ≡ length answers = sym (ap length b.answered ∙ length-answers 0 b.turns) in
     subst (λ o. IsNext (mid.batches c) o b.made begun) (ap (slice_get commands) count ∙ at) b.next
 
 -- all commands were done
-pub ends_first : (c : ℕ) (old mid : Fronts) (commands : List Command) (answers : List Answer) (begun : Begun) → length commands ≤ length answers → Begins c old mid commands answers begun → Ends c old mid commands answers 0
-ends_first c old mid commands answers begun le b =
+pub ends_first : (c : ℕ) (old mid : Fronts) (commands : List Command) (answers : List Answer) (opened : List Bool) (begun : Begun) → length commands ≤ length answers → Begins c old mid commands answers opened begun → Ends c old mid commands answers opened 0
+ends_first c old mid commands answers opened begun le b =
     let count : length b.turns ≡ length answers = sym (ap length b.answered ∙ length-answers 0 b.turns) in
     let past : length commands ≤ length b.turns = omega (arith, le, count) in
     let none = subst (λ o. IsNext (mid.batches c) o b.made begun) (slice_get_past commands (length b.turns) past) b.next in
@@ -160,6 +172,7 @@ ends_first c old mid commands answers begun le b =
       answered = b.answered;
       closes = ap (λ bs. closing old.nodes bs) batches;
       count = refl;
+      known = known_as old.nodes old.nodes opened (batches_after (old.batches c) (steps_of b.turns)) (mid.batches c) refl (sym batches) b.known;
     }
 
 -- ---- put-backs
@@ -261,21 +274,21 @@ puts_back_comes c n old new begun (Err (Refused r)) p = by_reason r p where
   by_reason why.NoBlock p = puts_back c n old new (Ended (Err why.NoBlock)) p
   by_reason why.HasBatch p = puts_back c n old new (Ended (Err why.HasBatch)) p
 
-module _ (c n : ℕ) (old mid : Fronts) (commands : List Command) (answers : List Answer) (back : ℕ) (e : Ends c old mid commands answers back) (lt : n < old.nodes) (below : (k : ℕ) → k < n → mid.batches c k ≡ None) (opened : is_open (mid.batches c n) ≡ true) where
+module _ (c n : ℕ) (old mid : Fronts) (commands : List Command) (answers : List Answer) (opened : List Bool) (back : ℕ) (e : Ends c old mid commands answers opened back) (lt : n < old.nodes) (below : (k : ℕ) → k < n → mid.batches c k ≡ None) (is-open : is_open (mid.batches c n) ≡ true) where
   -- there are no more put-backs than nodes
   pub room_for_one : back + 1 ≤ old.nodes
   room_for_one =
       let all = ap length e.closes in
-      let one = ap length (first_open (mid.batches c) n old.nodes lt below opened) in
+      let one = ap length (first_open (mid.batches c) n old.nodes lt below is-open) in
       omega (arith, all, one, e.count, length-map e.closed command_of, length-append (map command_of e.closed) (closing old.nodes (mid.batches c)), length-closing (batches_after (old.batches c) (steps_of e.turns)) 0 old.nodes)
 
   -- one batch more went back
-  pub ends_more : (new : Fronts) (answer : Reaction) → Goes c mid new → PutsBack c n mid new (Ended answer) → Ends c old new commands answers (back + 1)
+  pub ends_more : (new : Fronts) (answer : Reaction) → Goes c mid new → PutsBack c n mid new (Ended answer) → Ends c old new commands answers (set opened n false) (back + 1)
   ends_more new answer g p =
       let shut : (k : ℕ) → k < suc n → new.batches c k ≡ None = λ k le. shut_below k le in
       let closed-is : map command_of (e.closed ++ p.turn ∷ []) ≡ map command_of e.closed ++ put_back_on n ∷ [] = map-append command_of e.closed (p.turn ∷ []) ∙ ap (λ t. map command_of e.closed ++ t ∷ []) p.is in
       let left : closing old.nodes (mid.batches c) ≡ put_back_on n ∷ closing old.nodes (new.batches c) =
-      first_open (mid.batches c) n old.nodes lt below opened ∙ ap (λ l. put_back_on n ∷ l) (sym (closing_same (mid.batches c) (new.batches c) (n + 1) (old.nodes - suc n) (λ k le. p.elsewhere k (λ same. absurd (omega (arith, le, same))))) ∙ sym (behind_open (new.batches c) n old.nodes lt shut)) in
+      first_open (mid.batches c) n old.nodes lt below is-open ∙ ap (λ l. put_back_on n ∷ l) (sym (closing_same (mid.batches c) (new.batches c) (n + 1) (old.nodes - suc n) (λ k le. p.elsewhere k (λ same. absurd (omega (arith, le, same))))) ∙ sym (behind_open (new.batches c) n old.nodes lt shut)) in
       let st = steps_then c old mid new (steps_of e.turns ++ steps_of e.closed) p.turn.steps e.grows (goes_grows c mid new g) e.steps p.steps in
       let all : (steps_of e.turns ++ steps_of e.closed) ++ p.turn.steps ≡ steps_of e.turns ++ steps_of (e.closed ++ p.turn ∷ []) = append_assoc (steps_of e.turns) (steps_of e.closed) p.turn.steps ∙ ap (λ l. steps_of e.turns ++ l) (sym (steps_of-push e.closed p.turn)) in
       record {
@@ -289,6 +302,7 @@ module _ (c n : ℕ) (old mid : Fronts) (commands : List Command) (answers : Lis
         answered = e.answered;
         closes = e.closes ∙ ap (λ l. map command_of e.closed ++ l) left ∙ sym (append_assoc (map command_of e.closed) (put_back_on n ∷ []) (closing old.nodes (new.batches c))) ∙ ap (λ l. l ++ closing old.nodes (new.batches c)) (sym closed-is);
         count = omega (arith, length-append e.closed (p.turn ∷ []), e.count);
+        known = known_shut old.nodes opened (mid.batches c) (new.batches c) n e.known lt p.shut p.elsewhere;
       }
     where
       by_place : (k : ℕ) → (k < n) ⊎ (k ≡ n) → new.batches c k ≡ None
@@ -299,9 +313,9 @@ module _ (c n : ℕ) (old mid : Fronts) (commands : List Command) (answers : Lis
       shut_below k le = by_place k (split_lt k n le)
 
 -- a put-back that is postponed leaves what was done
-pub ends_stop : (c n : ℕ) (old mid new : Fronts) (commands : List Command) (answers : List Answer) (back : ℕ) (more : Begun) → Ends c old mid commands answers back → Goes c mid new → PutsBack c n mid new (On more) → Ends c old new commands answers back
+pub ends_stop : (c n : ℕ) (old mid new : Fronts) (commands : List Command) (answers : List Answer) (opened : List Bool) (back : ℕ) (more : Begun) → Ends c old mid commands answers opened back → Goes c mid new → PutsBack c n mid new (On more) → Ends c old new commands answers opened back
 unfolding batches_after
-ends_stop c n old mid new commands answers back more e g p =
+ends_stop c n old mid new commands answers opened back more e g p =
     let st = steps_then c old mid new (steps_of e.turns ++ steps_of e.closed) [] e.grows (goes_grows c mid new g) e.steps p in
     let batches : mid.batches c ≡ new.batches c = λ i k. sym (p.batches k) i in
     record {
@@ -315,6 +329,7 @@ ends_stop c n old mid new commands answers back more e g p =
       answered = e.answered;
       closes = e.closes ∙ ap (λ bs. map command_of e.closed ++ closing old.nodes bs) batches;
       count = e.count;
+      known = known_as old.nodes old.nodes opened (mid.batches c) (new.batches c) refl (sym batches) e.known;
     }
 
 -- the batches below a node are shut, where those below the one before were and that one is
@@ -333,26 +348,26 @@ not_open None e = refl
 not_open (Some b) e = absurd (cc)
 
 -- as many answers as commands
-pub ends_answers : (c : ℕ) (old mid : Fronts) (commands : List Command) (answers : List Answer) (back : ℕ) → Ends c old mid commands answers back → length commands ≡ length answers
-ends_answers c old mid commands answers back e =
+pub ends_answers : (c : ℕ) (old mid : Fronts) (commands : List Command) (answers : List Answer) (opened : List Bool) (back : ℕ) → Ends c old mid commands answers opened back → length commands ≡ length answers
+ends_answers c old mid commands answers opened back e =
     let all : length (map command_of e.turns) ≡ length commands = ap length e.done in
     let said : length answers ≡ length (answers_from 0 e.turns) = ap length e.answered in
     omega (arith, all, said, length-map e.turns command_of, length-answers 0 e.turns)
 
 -- the section came to its end
-pub works_end : (c : ℕ) (old mid : Fronts) (commands : List Command) (answers : LogState) (back node : ℕ) → length commands ≤ answers.room → Ends c old mid commands answers.items back → old.nodes ≤ node → ((k : ℕ) → k < node → mid.batches c k ≡ None) → Works c old mid commands (record { answers = answers; rest = None })
-works_end c old mid commands answers back node room e all shut = record {
+pub works_end : (c : ℕ) (old mid : Fronts) (commands : List Command) (answers : LogState) (opened : Vec Bool Global) (back node : ℕ) → length commands ≤ answers.room → Ends c old mid commands answers.items opened.items back → old.nodes ≤ node → ((k : ℕ) → k < node → mid.batches c k ≡ None) → Works c old mid commands (record { answers = answers; rest = None; opened = opened })
+works_end c old mid commands answers opened back node room e all shut = record {
   to = (back, e, closing_all (mid.batches c) old.nodes (λ k lt. shut k (omega (arith, lt, all))));
   room = room;
 }
 
 -- or stops within its put-backs
-pub works_closing : (c : ℕ) (old mid : Fronts) (commands : List Command) (answers : LogState) (back : ℕ) (r : Rest) → length commands ≤ answers.room → Ends c old mid commands answers.items back → r.command ≡ length commands → r.steps ≡ back → Works c old mid commands (record { answers = answers; rest = Some r })
-works_closing c old mid commands answers back r room e at is = record {
-  to = (at ∙ ends_answers c old mid commands answers.items back e, inr (at, rw is e));
+pub works_closing : (c : ℕ) (old mid : Fronts) (commands : List Command) (answers : LogState) (opened : Vec Bool Global) (back : ℕ) (r : Rest) → length commands ≤ answers.room → Ends c old mid commands answers.items opened.items back → r.command ≡ length commands → r.steps ≡ back → Works c old mid commands (record { answers = answers; rest = Some r; opened = opened })
+works_closing c old mid commands answers opened back r room e at is = record {
+  to = (at ∙ ends_answers c old mid commands answers.items opened.items back e, inr (at, rw is e));
   room = room;
 }
 
 -- or at a command
-pub works_stop : (c : ℕ) (old mid : Fronts) (commands : List Command) (answers : LogState) (r : Rest) → length commands ≤ answers.room → Begins c old mid commands answers.items (begun_of r) → r.command ≡ length answers.items → r.command < length commands → Works c old mid commands (record { answers = answers; rest = Some r })
-works_stop c old mid commands answers r room b at lt = record { to = (at, inl (lt, b)); room = room }
+pub works_stop : (c : ℕ) (old mid : Fronts) (commands : List Command) (answers : LogState) (opened : Vec Bool Global) (r : Rest) → length commands ≤ answers.room → Begins c old mid commands answers.items opened.items (begun_of r) → r.command ≡ length answers.items → r.command < length commands → Works c old mid commands (record { answers = answers; rest = Some r; opened = opened })
+works_stop c old mid commands answers opened r room b at lt = record { to = (at, inl (lt, b)); room = room }

@@ -298,7 +298,7 @@ batches_elsewhere bs n k (m ∷ ms) on other =
     rest ∙ rw (ne_eqb k m.node (λ e. other (e ∙ here))) refl
 
 -- a put-back leaves no open batch
-after_put_back : (s : Shape) (h : History) (c : ℕ) (batch : Option Open) (own : List Event) (answer : Reaction) (after : Option Open) → Does s h c batch PutBack own answer after → after ≡ None
+pub after_put_back : (s : Shape) (h : History) (c : ℕ) (batch : Option Open) (own : List Event) (answer : Reaction) (after : Option Open) → Does s h c batch PutBack own answer after → after ≡ None
 unfolding Does
 after_put_back s h c None own answer after d = d.2
 after_put_back s h c (Some b) own answer after d = d.2

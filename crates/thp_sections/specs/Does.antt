@@ -101,6 +101,15 @@ Does s h c None PutBack own answer after = Nothing None own answer after (Ok rep
 Does s h c (Some b) PutBack own answer after =
     (own ≡ put_back_events s h c b.pages) × (answer ≡ Ok (reply.Back (back_reply s h (still_flying h c b.pages)))) × (after ≡ None)
 
+-- how many events caller c's step would leave at h, with this open batch, where nothing refuses it
+abbrev pub leaves : Shape → History → ℕ → Option Open → Step → ℕ
+leaves s h c batch (One node.Count) = 0
+leaves s h c batch (One k) = 1
+leaves s h c None (Take n) = length (take_events s h c n)
+leaves s h c (Some b) SplitNext = length (split_next_events s h c b.left)
+leaves s h c (Some b) PutBack = length (put_back_events s h c b.pages)
+leaves s h c batch step = 0
+
 -- a step that there is: a take is of as many pages as a batch holds
 abbrev pub IsStep : Step → Type 0
 IsStep (Take n) = n ≤ max_batch

@@ -10,7 +10,7 @@ use Rattle.thp_cell.specs.declared.fault.CellFault.{CellFault}
 use Rattle.thp_cell.specs.declared.fault.CellFault.TheVariants.{Busy, Refused}
 use Rattle.thp_sections.specs.declared.steps.Step.{Step}
 use Rattle.thp_sections.specs.declared.reply.Reply.{Reply}
-use Rattle.thp_sections.specs.Does.{Open, Does, Reaction, refusal_of}
+use Rattle.thp_sections.specs.Does.{Open, Does, Reaction, leaves, refusal_of}
 
 -- which cells the nodes are in, how many nodes there are, the shape of each and its history so far, how many callers there are, which of them the holder
 -- has, those from `first` on and before `end`, and the open batch of each caller on each node
@@ -67,11 +67,12 @@ pub record Answered (c n : ℕ) (step : Step) (old new : Fronts) (answer : React
   pub moves : Moves c n old new others own after
   pub does : Does (old.shape n) (old.front n ++ others) c (old.batches c n) step own answer after
 
--- a step for whose events there was no memory; nothing else refuses it
+-- a step for whose events there was no memory; it would leave one at least, and nothing else refuses it
 pub record OutOf (c n : ℕ) (step : Step) (old new : Fronts) : Type 0 where
   pub others : List Event
   pub moves : Moves c n old new others [] (old.batches c n)
   pub allowed : refusal_of (old.shape n) (old.front n ++ others) c step ≡ None
+  pub needs : 0 < leaves (old.shape n) (old.front n ++ others) c (old.batches c n) step
 
 -- another holder has the node: nothing changes, and the holder hasn't all callers
 pub record IsBusy (old new : Fronts) : Type 0 where

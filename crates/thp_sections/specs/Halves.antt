@@ -6,6 +6,7 @@ use Rattle.thp_model.specs.Legal.{IsLegal}
 use Rattle.thp_text.specs.declared.script.Command.{Command}
 use Rattle.thp_sections.specs.declared.reply.Worked.{Worked}
 use Rattle.thp_sections.specs.Fronts.{Fronts, HasCaller, SameNodes}
+use Rattle.thp_sections.specs.OpenBatches.{HasNoBatch}
 use Rattle.thp_sections.specs.Sections.{IsCommandFor, Works}
 
 -- g knows of caller c what f knows, or more of what others did
@@ -55,13 +56,14 @@ pub record IsSection (nodes : ℕ) (v : Vec Command Global) : Type 0 where
   pub few : length v.items < 2 ^ 32
   pub commands : All (IsCommandFor nodes) v.items
 
--- the passes have the workers from `from` on, and these are all that they have from there on
+-- the passes have the workers from `from` on, and these are all that they have from there on; none has a batch open
 pub record CanRun (f : Fronts) (from : ℕ) (workers : List (Vec Command Global)) : Type 0 where
   pub some : 0 < length workers
   pub low : f.first ≤ from
   pub high : f.end ≡ from + length workers
   pub fits : f.end < 2 ^ 32
   pub sections : All (IsSection f.nodes) workers
+  pub shut : (c : ℕ) → HasCaller f c → from ≤ c → HasNoBatch c f
 
 -- the workers from `from` on did their sections behind what was known, and the passes' other callers did nothing
 pub record Ran (from : ℕ) (old new : Fronts) (workers : List (Vec Command Global)) (done : List Worked) : Type 0 where

@@ -1,5 +1,5 @@
 -- What the holder of a pass of one node has, and what a step does to it.
-use Rattle.std.specs.Prelude.{◌≡◌, ◌≢◌, ℕ, ◌+◌, ◌-◌, nat_le, List, [], ◌++◌, All, Option, Some, None, Result, Ok, Err, length, slice_get, take, drop, if◌then◌else◌}
+use Rattle.std.specs.Prelude.{◌≡◌, ◌≢◌, ◌<◌, ℕ, ◌+◌, ◌-◌, nat_le, List, [], ◌++◌, All, Option, Some, None, Result, Ok, Err, length, slice_get, take, drop, if◌then◌else◌}
 use Rattle.atomic_table.specs.Seated.{TableId}
 use Rattle.thp_model.specs.declared.events.Event.{Event}
 use Rattle.thp_model.specs.declared.refusal.Refusal.TheVariants.{OutOfMemory}
@@ -14,7 +14,7 @@ use Rattle.thp_cell.specs.Views.{PassState, HasAll, HasCaller}
 use Rattle.thp_sections.specs.declared.steps.Step.{Step}
 use Rattle.thp_sections.specs.declared.reply.Reply.{Reply}
 use Rattle.thp_sections.specs.declared.reply.Reply.TheVariants as reply
-use Rattle.thp_sections.specs.Does.{Open, Reaction, Does, open_of, refusal_of}
+use Rattle.thp_sections.specs.Does.{Open, Reaction, Does, leaves, open_of, refusal_of}
 
 -- the pass, and of each of its callers the open batch on the node
 pub record Held : Type 0 where
@@ -36,6 +36,10 @@ open_in None = None
 abbrev pub batch_of : Held → ℕ → Option Open
 batch_of h c = if nat_le h.pass.first c then open_in (slice_get h.batches (c - h.pass.first)) else None
 
+-- no caller has a batch open on the node
+abbrev pub IsShut : Held → Type 0
+IsShut h = (c : ℕ) → batch_of h c ≡ None
+
 -- the node went on by events of others and then by these of caller c, whose open batch is `after`
 pub record Acts (c : ℕ) (old new : Held) (others own : List Event) (after : Option Open) : Type 0 where
   pub pass : new.pass ≡ at_front old.pass new.pass.front
@@ -54,11 +58,12 @@ pub record HeldAnswered (c : ℕ) (step : Step) (old new : Held) (answer : React
   pub acts : Acts c old new others own after
   pub does : Does old.pass.shape (old.pass.front ++ others) c (batch_of old c) step own answer after
 
--- a step for whose events there was no memory
+-- a step for whose events, one at least, there was no memory
 pub record HeldOutOf (c : ℕ) (step : Step) (old new : Held) : Type 0 where
   pub others : List Event
   pub acts : Acts c old new others [] (batch_of old c)
   pub allowed : refusal_of old.pass.shape (old.pass.front ++ others) c step ≡ None
+  pub needs : 0 < leaves old.pass.shape (old.pass.front ++ others) c (batch_of old c) step
 
 -- a step of caller c
 abbrev pub HeldDone : ℕ → Step → Held → Held → Result Reply CellFault → Type 0

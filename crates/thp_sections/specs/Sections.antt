@@ -1,5 +1,5 @@
 -- What the commands of a section did, as far as they were done, in histories that go on.
-use Rattle.std.specs.Prelude.{◌≡◌, ◌⊎◌, ℕ, ◌+◌, ◌<◌, ◌≤◌, nat_eq, ⊤, Bool, true, false, List, [], ◌∷◌, ◌++◌, All, AllPairs, Option, Some, None, length, take, drop, map, flat_map, filter, slice_get, if◌then◌else◌}
+use Rattle.std.specs.Prelude.{◌≡◌, ◌⊎◌, ℕ, ◌+◌, ◌<◌, ◌≤◌, nat_eq, ⊤, Bool, List, [], ◌∷◌, ◌++◌, All, AllPairs, Option, Some, None, length, take, drop, map, flat_map, filter, slice_get, if◌then◌else◌}
 use Rattle.std.specs.List.{range_with_len}
 use Rattle.thp_model.specs.declared.events.Event.{Event}
 use Rattle.thp_model.specs.declared.shape.Shape.{Shape}
@@ -13,6 +13,7 @@ use Rattle.thp_sections.specs.declared.reply.Worked.{Worked}
 use Rattle.thp_sections.specs.declared.scanning.Begun.{Begun}
 use Rattle.thp_sections.specs.Does.{Open, Reaction, Does, IsFit}
 use Rattle.thp_sections.specs.Fronts.{Fronts, Grows}
+use Rattle.thp_sections.specs.OpenBatches.{is_open, OpenOn}
 use Rattle.thp_sections.specs.Turns.{Progress, On, Ended, Told, Turned, TurnsOut, IsBegun, IsReady, StaysReady, first_begun}
 
 -- A step that a caller made: its node, how many of the node's events it comes after, the caller's open batch there before
@@ -97,11 +98,6 @@ pub record Done (c : ℕ) (old new : Fronts) (commands : List Command) (ts : Lis
   pub each : All IsTurn ts
   pub are : map command_of ts ≡ commands
 
--- there is an open batch
-abbrev pub is_open : Option Open → Bool
-is_open None = false
-is_open (Some b) = true
-
 abbrev pub put_back_on : ℕ → Command
 put_back_on n = record { node = n; op = op.PutBack }
 
@@ -135,8 +131,8 @@ IsNext bs (Some command) ms begun = IsBegunOn bs command ms begun
 IsNext bs None ms begun = (ms ≡ []) × (begun ≡ first_begun)
 
 -- Caller c did the first commands of its section, and of the next one the steps that `begun` counts. The steps and the answers
--- of each are its turn.
-pub record Begins (c : ℕ) (old new : Fronts) (commands : List Command) (answers : List Answer) (begun : Begun) : Type 0 where
+-- of each are its turn, and `opened` tells on which nodes they left a batch open.
+pub record Begins (c : ℕ) (old new : Fronts) (commands : List Command) (answers : List Answer) (opened : List Bool) (begun : Begun) : Type 0 where
   pub turns : List Turn
   pub made : List Made
   pub grows : Grows old new
@@ -145,9 +141,11 @@ pub record Begins (c : ℕ) (old new : Fronts) (commands : List Command) (answer
   pub done : map command_of turns ≡ take (length turns) commands
   pub answered : answers ≡ answers_from 0 turns
   pub next : IsNext (new.batches c) (slice_get commands (length turns)) made begun
+  pub known : OpenOn old.nodes opened (batches_after (old.batches c) (steps_of turns))
 
--- Caller c did all commands of its section, and put back `back` of the batches that they left open, nodes ascending.
-pub record Ends (c : ℕ) (old new : Fronts) (commands : List Command) (answers : List Answer) (back : ℕ) : Type 0 where
+-- Caller c did all commands of its section, and put back `back` of the batches that they left open, nodes ascending; `opened`
+-- tells on which nodes one is still open.
+pub record Ends (c : ℕ) (old new : Fronts) (commands : List Command) (answers : List Answer) (opened : List Bool) (back : ℕ) : Type 0 where
   pub turns : List Turn
   pub closed : List Turn
   pub grows : Grows old new
@@ -158,6 +156,7 @@ pub record Ends (c : ℕ) (old new : Fronts) (commands : List Command) (answers 
   pub answered : answers ≡ answers_from 0 turns
   pub closes : closing old.nodes (batches_after (old.batches c) (steps_of turns)) ≡ map command_of closed ++ closing old.nodes (new.batches c)
   pub count : length closed ≡ back
+  pub known : OpenOn old.nodes opened (new.batches c)
 
 -- The open batch on node n was put back, by this turn; the other open batches stay.
 pub record PutBackDone (c n : ℕ) (old new : Fronts) (answer : Reaction) : Type 0 where
@@ -177,16 +176,16 @@ abbrev pub begun_of : Rest → Begun
 begun_of r = record { steps = r.steps; so_far = r.so_far }
 
 -- a section that is done, with no open batch, or that stopped at a command or at a put-back of its end
-abbrev pub WorksTo : ℕ → Fronts → Fronts → List Command → List Answer → Option Rest → Type 0
-WorksTo c old new commands answers None = (n : ℕ) × Ends c old new commands answers n × (closing old.nodes (new.batches c) ≡ [])
-WorksTo c old new commands answers (Some r) =
+abbrev pub WorksTo : ℕ → Fronts → Fronts → List Command → List Answer → List Bool → Option Rest → Type 0
+WorksTo c old new commands answers opened None = (n : ℕ) × Ends c old new commands answers opened n × (closing old.nodes (new.batches c) ≡ [])
+WorksTo c old new commands answers opened (Some r) =
     (r.command ≡ length answers)
-    × (((r.command < length commands) × Begins c old new commands answers (begun_of r)) ⊎ ((r.command ≡ length commands) × Ends c old new commands answers r.steps))
+    × (((r.command < length commands) × Begins c old new commands answers opened (begun_of r)) ⊎ ((r.command ≡ length commands) × Ends c old new commands answers opened r.steps))
 
 -- Caller c did the commands of its section and the put-backs at its end, all or up to where it stopped. There is room for the
 -- answers to all commands.
 pub record Works (c : ℕ) (old new : Fronts) (commands : List Command) (w : Worked) : Type 0 where
-  pub to : WorksTo c old new commands w.answers.items w.rest
+  pub to : WorksTo c old new commands w.answers.items w.opened.items w.rest
   pub room : length commands ≤ w.answers.room
 
 -- this becomes of the section's answers

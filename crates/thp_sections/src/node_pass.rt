@@ -4,8 +4,7 @@ ghost use Rattle.thp_model.specs.Legal.{IsLegal};
 ghost use Rattle.thp_cell.specs.Calls.{IsJoined, PartsStay};
 ghost use Rattle.thp_cell.specs.Views.{HasCaller};
 ghost use Rattle.thp_sections.specs.Does.{answer_of, IsStep};
-ghost use Rattle.thp_sections.specs.Sections.{is_open};
-ghost use Rattle.thp_sections.specs.Holdings.{batch_of, lower_part, loss_reply, page_reply, unit_reply, upper_part, HeldDone, IsSomeBatch, OpenStay};
+ghost use Rattle.thp_sections.specs.Holdings.{batch_of, lower_part, loss_reply, page_reply, unit_reply, upper_part, HeldDone, IsShut, IsSomeBatch, OpenStay};
 
 use crate::reply::Reply;
 use crate::steps::{NodeCall, Step};
@@ -40,7 +39,7 @@ impl<'a> NodePass<'a> {
         requires cell { pass.cell ≡ cell.now }
         requires some { pass.first ≤ pass.end }
         ensures pass { IfOk result (λ p. p.pass ≡ pass) }
-        ensures none { IfOk result (λ p. (c : ℕ) → batch_of p c ≡ None) }
+        ensures none { IfOk result IsShut }
     {
         let (first, end) = pass.callers();
         let mut batches = Vec::new(alloc);
@@ -64,15 +63,6 @@ impl<'a> NodePass<'a> {
             batches: _,
         } = self;
         pass
-    }
-
-    /// The caller has an open batch.
-    pub(crate) fn is_open(&self, caller: u32) -> bool
-        requires { HasCaller self.now.pass caller }
-        ensures { result ≡ is_open (batch_of self.now caller) }
-    {
-        let (first, _) = self.pass.callers();
-        is_open(&self.batches, (caller - first) as usize)
     }
 
     /// One step of a caller. What it is replied stands in `reply`, which after a fault says nothing.

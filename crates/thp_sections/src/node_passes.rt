@@ -1,6 +1,8 @@
 //! Passes of all nodes, with the open batches of their callers.
-ghost use Rattle.std.specs.Prelude.{◌≡◌, ◌++◌, All, IfOk, map};
-ghost use Rattle.thp_sections.specs.Passes.{fronts_of, high_part, low_part, Agree, EachAdjoins, EachJoint, IsCut};
+ghost use Rattle.std.specs.Prelude.{◌≡◌, ◌<◌, ◌++◌, All, IfOk, map};
+ghost use Rattle.thp_sections.specs.Does.{answer_of, IsStep};
+ghost use Rattle.thp_sections.specs.Fronts.{Goes, HasCaller, StepDone};
+ghost use Rattle.thp_sections.specs.Passes.{fronts_in, fronts_of, high_part, low_part, Agree, EachAdjoins, EachJoint, IsCut};
 
 use crate::halves::Passes;
 use crate::node_pass::NodePass;
@@ -38,18 +40,22 @@ impl<'a> Steps for NodePasses<'a> {
         self.nodes.len() as u32
     }
 
-    fn is_open(&self, caller: u32, node: u32) -> bool {
-        self.nodes[node as usize].is_open(caller)
+    fn step(&mut self, caller: u32, node: u32, step: Step) -> Result<Reply, CellFault> {
+        let mut reply = Reply::Unit;
+        match self.step_in_place(caller, node, step, &mut reply) {
+            Ok(()) => Ok(reply),
+            Err(fault) => Err(fault),
+        }
     }
 
-    fn step(
+    fn step_into(
         &mut self,
         caller: u32,
         node: u32,
         step: Step,
         reply: &mut Reply,
     ) -> Result<(), CellFault> {
-        self.nodes[node as usize].step(caller, step, reply)
+        self.step_in_place(caller, node, step, reply)
     }
 }
 
@@ -65,6 +71,24 @@ impl<'a> NodePasses<'a> {
             end,
             nodes,
         }
+    }
+
+    // One step of a caller. What it is replied stands in `reply`, which after a fault says nothing.
+    #[inline(always)]
+    fn step_in_place(
+        &mut self,
+        caller: u32,
+        node: u32,
+        step: Step,
+        reply: &mut Reply,
+    ) -> Result<(), CellFault>
+        requires caller { HasCaller (fronts_in self.old) caller }
+        requires node { node < (fronts_in self.old).nodes }
+        requires step { IsStep step }
+        ensures goes { Goes caller (fronts_in self.old) (fronts_in self.new) }
+        ensures done { StepDone caller node step (fronts_in self.old) (fronts_in self.new) (answer_of result reply.new) }
+    {
+        self.nodes[node as usize].step(caller, step, reply)
     }
 
     /// The passes of the nodes.

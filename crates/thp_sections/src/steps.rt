@@ -3,7 +3,6 @@ ghost use Rattle.std.specs.Bool.{OnTrue, OnFalse};
 ghost use Rattle.std.specs.Prelude.{◌≡◌, ◌≢◌, ◌<◌, Err};
 ghost use Rattle.thp_sections.specs.Does.{answer_of, IsStep};
 ghost use Rattle.thp_sections.specs.Fronts.{Fronts, Goes, HasCaller, StepDone};
-ghost use Rattle.thp_sections.specs.Sections.{is_open};
 ghost use Rattle.thp_sections.specs.Turns.{by_cell};
 
 use crate::limits::MAX_TRIES;
@@ -47,14 +46,17 @@ pub trait Steps {
     fn nodes(&self) -> u32
         ensures { result ≡ (fronts self.now).nodes };
 
-    /// The caller has an open batch on the node.
-    fn is_open(&self, caller: u32, node: u32) -> bool
-        requires caller { HasCaller (fronts self.now) caller }
-        requires node { node < (fronts self.now).nodes }
-        ensures { result ≡ is_open ((fronts self.now).batches caller node) };
+    /// One step of a caller: one call of a node at most.
+    fn step(&mut self, caller: u32, node: u32, step: Step) -> Result<Reply, CellFault>
+        requires caller { HasCaller (fronts self.old) caller }
+        requires node { node < (fronts self.old).nodes }
+        requires step { IsStep step }
+        ensures goes { Goes caller (fronts self.old) (fronts self.new) }
+        ensures done { StepDone caller node step (fronts self.old) (fronts self.new) result };
 
-    /// One step of a caller: one call of a node at most. What it is replied stands in `reply`, which after a fault says nothing.
-    fn step(
+    /// One step of a caller, as by `step`. What it is replied stands in `reply`, which after a fault says nothing. A holder that
+    /// can write a reply where it stays has its own.
+    fn step_into(
         &mut self,
         caller: u32,
         node: u32,
@@ -65,7 +67,11 @@ pub trait Steps {
         requires node { node < (fronts self.old).nodes }
         requires step { IsStep step }
         ensures goes { Goes caller (fronts self.old) (fronts self.new) }
-        ensures done { StepDone caller node step (fronts self.old) (fronts self.new) (answer_of result reply.new) };
+        ensures done { StepDone caller node step (fronts self.old) (fronts self.new) (answer_of result reply.new) }
+    {
+        *reply = self.step(caller, node, step)?;
+        Ok(())
+    }
 }
 
 /// A step, tried again where the node is busy, `MAX_TRIES` times in all, with a pause between two tries.
@@ -83,13 +89,13 @@ pub(crate) fn try_step<S: Steps>(
     ensures done { StepDone caller node step (S.fronts steps.old) (S.fronts steps.new) (answer_of result reply.new) }
 {
     for tries in 0..MAX_TRIES - 1 {
-        let called = steps.step(caller, node, step, reply);
+        let called = steps.step_into(caller, node, step, reply);
         if !is_busy(called) {
             return called;
         }
         pause(tries);
     }
-    steps.step(caller, node, step, reply)
+    steps.step_into(caller, node, step, reply)
 }
 
 /// A pause that doubles from one to the next, 1 spin at first, and 64 from the seventh on.

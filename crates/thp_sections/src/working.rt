@@ -2,12 +2,14 @@
 ghost use Rattle.std.specs.Prelude.{◌≡◌, ◌^◌, ◌≤◌, ◌<◌, All, IfOk, length};
 ghost use Rattle.thp_sections.specs.Does.{answer_of};
 ghost use Rattle.thp_sections.specs.Fronts.{Fronts, Goes, HasAll, HasCaller};
+ghost use Rattle.thp_sections.specs.OpenBatches.{HasNoBatch};
 ghost use Rattle.thp_sections.specs.Turns.{Comes, first_begun, IsShared};
 ghost use Rattle.thp_sections.specs.Sections.{Begins, Ends, IsCommandFor, IsDoneFor, AnswersAre, PutsBack, Works};
 
 use crate::answer_log::{AnswerLog, Answers};
 use crate::command::do_command;
 use crate::gate::{Gate, NoGate};
+use crate::open_batches::{is_marked, mark, none_open, shut};
 use crate::reply::{Reply, Rest, Worked};
 use crate::scanning::{Begun, first_begun};
 use crate::steps::{Steps, is_busy, lacks_memory, told};
@@ -30,13 +32,15 @@ pub fn work<S: Steps, G: Gate>(
     requires caller { HasCaller (S.fronts steps.old) worker }
     requires few { length commands.now < 2 ^ 32 }
     requires commands { All (IsCommandFor (S.fronts steps.old).nodes) commands.now }
+    requires shut { HasNoBatch worker (S.fronts steps.old) }
     ensures goes { Goes worker (S.fronts steps.old) (S.fronts steps.new) }
     ensures works { IfOk result (Works worker (S.fronts steps.old) (S.fronts steps.new) commands.now) }
     ensures answers { IfOk result (AnswersAre answers) }
     ensures done { HasAll (S.fronts steps.old) → IfOk result IsDoneFor }
 {
     let log = AnswerLog::new(alloc, commands.len(), answers)?;
-    go_on(commands, worker, log, first_begun(), steps, gate)
+    let opened = none_open(alloc, steps.nodes())?;
+    go_on(commands, worker, log, opened, first_begun(), steps, gate)
 }
 
 /// Does what is left of a section that stopped, by the passes of all callers, which are never busy: the rest of the command
@@ -56,21 +60,26 @@ pub fn work_rest<S: Steps>(
     ensures answers { IfOk result (AnswersAre worked.answers.are) }
     ensures done { HasAll (S.fronts steps.old) → IfOk result IsDoneFor }
 {
-    let Worked { answers, rest } = worked;
+    let Worked {
+        answers,
+        rest,
+        opened,
+    } = worked;
     let Some(rest) = rest else {
         return Ok(Worked {
             answers,
             rest: None,
+            opened,
         });
     };
     if rest.command as usize == commands.len() {
-        return close(commands, worker, answers, rest.steps, steps);
+        return close(commands, worker, answers, opened, rest.steps, steps);
     }
     let begun = Begun {
         steps: rest.steps,
         so_far: rest.so_far,
     };
-    go_on(commands, worker, answers, begun, steps, &NoGate)
+    go_on(commands, worker, answers, opened, begun, steps, &NoGate)
 }
 
 /// Does the commands behind those that are answered, the next one from where it was begun, and the put-backs.
@@ -78,6 +87,7 @@ fn go_on<S: Steps, G: Gate>(
     commands: &[Command],
     worker: u32,
     answers: AnswerLog,
+    opened: Vec<bool>,
     begun: Begun,
     steps: &mut S,
     gate: &G,
@@ -86,13 +96,14 @@ fn go_on<S: Steps, G: Gate>(
     requires few { length commands.now < 2 ^ 32 }
     requires commands { All (IsCommandFor (S.fronts steps.old).nodes) commands.now }
     requires room { length commands.now ≤ answers.room }
-    requires begun { (old : Fronts) × Begins worker old (S.fronts steps.old) commands.now answers.items begun }
+    requires begun { (old : Fronts) × Begins worker old (S.fronts steps.old) commands.now answers.items opened.items begun }
     ensures goes { Goes worker (S.fronts steps.old) (S.fronts steps.new) }
-    ensures works { (old : Fronts) → Begins worker old (S.fronts steps.old) commands.now answers.items begun → IfOk result (Works worker old (S.fronts steps.new) commands.now) }
+    ensures works { (old : Fronts) → Begins worker old (S.fronts steps.old) commands.now answers.items opened.items begun → IfOk result (Works worker old (S.fronts steps.new) commands.now) }
     ensures answers { IfOk result (AnswersAre answers.are) }
     ensures done { HasAll (S.fronts steps.old) → IfOk result IsDoneFor }
 {
     let mut answers = answers;
+    let mut opened = opened;
     let mut begun = begun;
     let mut reply = Reply::Unit;
     for index in answers.len()..commands.len() {
@@ -113,13 +124,16 @@ fn go_on<S: Steps, G: Gate>(
             return Ok(Worked {
                 answers,
                 rest: Some(rest),
+                opened,
             });
         }
-        answers.push(number, node, told(called), &reply);
+        let said = told(called);
+        mark(&mut opened, command, said);
+        answers.push(number, node, said, &reply);
         begun = first_begun();
     }
     gate.pass(worker, commands.len() as u32);
-    close(commands, worker, answers, 0, steps)
+    close(commands, worker, answers, opened, 0, steps)
 }
 
 /// Puts back the open batches of a caller whose commands are all answered, nodes ascending; so many went back already.
@@ -127,23 +141,25 @@ fn close<S: Steps>(
     commands: &[Command],
     worker: u32,
     answers: AnswerLog,
+    opened: Vec<bool>,
     closed: u32,
     steps: &mut S,
 ) -> Result<Worked, AllocError>
     requires caller { HasCaller (S.fronts steps.old) worker }
     requires few { length commands.now < 2 ^ 32 }
     requires room { length commands.now ≤ answers.room }
-    requires ends { (old : Fronts) × Ends worker old (S.fronts steps.old) commands.now answers.items closed }
+    requires ends { (old : Fronts) × Ends worker old (S.fronts steps.old) commands.now answers.items opened.items closed }
     ensures goes { Goes worker (S.fronts steps.old) (S.fronts steps.new) }
-    ensures works { (old : Fronts) → Ends worker old (S.fronts steps.old) commands.now answers.items closed → IfOk result (Works worker old (S.fronts steps.new) commands.now) }
+    ensures works { (old : Fronts) → Ends worker old (S.fronts steps.old) commands.now answers.items opened.items closed → IfOk result (Works worker old (S.fronts steps.new) commands.now) }
     ensures answers { IfOk result (AnswersAre answers.are) }
     ensures done { HasAll (S.fronts steps.old) → IfOk result IsDoneFor }
 {
+    let mut opened = opened;
     let mut closed = closed;
     let mut reply = Reply::Unit;
     let nodes = steps.nodes();
     for node in 0..nodes {
-        if steps.is_open(worker, node) {
+        if is_marked(&opened, node) {
             let called = put_back(worker, node, steps, &mut reply);
             if lacks_memory(called) {
                 return Err(AllocError);
@@ -157,14 +173,17 @@ fn close<S: Steps>(
                 return Ok(Worked {
                     answers,
                     rest: Some(rest),
+                    opened,
                 });
             }
+            shut(&mut opened, node);
             closed += 1;
         }
     }
     Ok(Worked {
         answers,
         rest: None,
+        opened,
     })
 }
 

@@ -1,6 +1,7 @@
 //! Rounds of one thread, which has all callers.
 ghost use Rattle.std.specs.Prelude.{◌≡◌, ◌≤◌, IfOk};
 ghost use Rattle.thp_cell.specs.Views.{HasAll};
+ghost use Rattle.thp_sections.specs.OpenBatches.{HasNoBatch};
 ghost use Rattle.thp_sections.specs.Passes.{fronts_in};
 
 use crate::nodes::{new_cell, new_node, with_node};
@@ -51,6 +52,7 @@ fn passes_of<'a>(
     ensures nodes { IfOk result (λ p. (fronts_in p).nodes ≡ 1) }
     ensures first { IfOk result (λ p. (fronts_in p).first ≡ 0) }
     ensures end { IfOk result (λ p. (fronts_in p).end ≡ 2) }
+    ensures shut { IfOk result (λ p. HasNoBatch 1 (fronts_in p)) }
 {
     let nodes = with_node(alloc, Vec::new(alloc), cell, pass, 2)?;
     Ok(NodePasses::new(nodes, 2, 0, 2))

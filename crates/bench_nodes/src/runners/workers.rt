@@ -1,5 +1,6 @@
 //! Rounds of workers, each on a thread of its own.
-ghost use Rattle.std.specs.Prelude.{◌≡◌, ◌+◌, ◌≤◌, ◌<◌, length};
+ghost use Rattle.std.specs.Prelude.{◌≡◌, ◌+◌, ◌≤◌, ◌<◌, All, length};
+ghost use Rattle.thp_sections.specs.Holdings.{IsShut};
 ghost use Rattle.thp_sections.specs.Passes.{Agree};
 
 use crate::nodes::{new_cell, with_node};
@@ -69,6 +70,7 @@ fn time<R: Clock + CpuClock + AllocGlobal + Threads + Sync>(
 ) -> Result<Times>
     requires agree { Agree (workers + 1) 0 (workers + 1) nodes.items }
     requires nodes { 0 < length nodes.items }
+    requires shut { All IsShut nodes.items }
     requires some { 0 < workers }
     requires few { workers ≤ 4 }
     requires rounds { rounds ≤ 4000000 }

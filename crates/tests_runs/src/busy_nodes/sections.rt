@@ -1,6 +1,8 @@
 //! Sections on one node of two callers, from its making on.
 ghost use Rattle.std.specs.Prelude.{◌≡◌, ◌<◌, ◌^◌, All, length};
 ghost use Rattle.thp_sections.specs.Does.{IsStep};
+ghost use Rattle.thp_sections.specs.Fronts.{Goes};
+ghost use Rattle.thp_sections.specs.OpenBatches.{HasNoBatch};
 ghost use Rattle.thp_sections.specs.Passes.{fronts_in};
 ghost use Rattle.thp_sections.specs.Sections.{IsCommandFor};
 ghost use Rattle.tests_runs.specs.Sharing.{OfTwo, WasWorked};
@@ -43,6 +45,7 @@ pub fn passes_of<'a>(
     requires first { pass.first ≡ 0 }
     requires end { pass.end ≡ 2 }
     ensures two { OfTwo (fronts_in result) }
+    ensures shut { HasNoBatch 1 (fronts_in result) }
 {
     let node = NodePass::new(alloc, cell, pass).expect(rt, "room");
     let mut nodes = Vec::new(alloc);
@@ -56,10 +59,9 @@ pub fn step(passes: &mut NodePasses<'_>, caller: u32, step: Step) -> Result<Repl
     requires caller { caller < 2 }
     requires step { IsStep step }
     ensures two { OfTwo (fronts_in passes.new) }
+    ensures goes { Goes caller (fronts_in passes.old) (fronts_in passes.new) }
 {
-    let mut reply = Reply::NoBatch;
-    passes.step(caller, 0, step, &mut reply)?;
-    Ok(reply)
+    passes.step(caller, 0, step)
 }
 
 // The calls from `from` on and before `to` find the node busy, of every `period` calls.
@@ -79,6 +81,7 @@ pub fn begin<'a>(
     commands: &[Command],
 ) -> (NodePasses<'a>, Worked)
     requires two { OfTwo (fronts_in passes) }
+    requires shut { HasNoBatch 1 (fronts_in passes) }
     requires few { length commands.now < 2 ^ 32 }
     requires commands { All (IsCommandFor 1) commands.now }
     ensures two { OfTwo (fronts_in result.0) }
@@ -122,6 +125,7 @@ pub fn go_on(
 fn queue(rt: &impl Abort, passes: &mut NodePasses<'_>, page: u64)
     requires two { OfTwo (fronts_in passes.old) }
     ensures two { OfTwo (fronts_in passes.new) }
+    ensures goes { Goes 0 (fronts_in passes.old) (fronts_in passes.new) }
 {
     let alloc = Step::One(NodeCall::Alloc);
     assert!(rt; matches!(step(passes, 0, alloc), Ok(Reply::Page(_))));
@@ -140,7 +144,9 @@ fn queue(rt: &impl Abort, passes: &mut NodePasses<'_>, page: u64)
 // Pages 0 and 1 are queued, and page 1 is pinned.
 fn queue_two(rt: &impl Abort, passes: &mut NodePasses<'_>)
     requires two { OfTwo (fronts_in passes.old) }
+    requires shut { HasNoBatch 1 (fronts_in passes.old) }
     ensures two { OfTwo (fronts_in passes.new) }
+    ensures shut { HasNoBatch 1 (fronts_in passes.new) }
 {
     queue(rt, passes, 0);
     queue(rt, passes, 1);
@@ -219,6 +225,7 @@ fn go_through(
     behind: (u32, Step),
 ) -> Told
     requires two { OfTwo (fronts_in passes) }
+    requires shut { HasNoBatch 1 (fronts_in passes) }
     requires few { length commands.now < 2 ^ 32 }
     requires commands { All (IsCommandFor 1) commands.now }
     requires caller { behind.0 < 2 }

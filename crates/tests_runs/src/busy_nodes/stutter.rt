@@ -28,17 +28,7 @@ impl<'a> Steps for Stutter<'a> {
         self.inner.nodes()
     }
 
-    fn is_open(&self, caller: u32, node: u32) -> bool {
-        self.inner.is_open(caller, node)
-    }
-
-    fn step(
-        &mut self,
-        caller: u32,
-        node: u32,
-        step: Step,
-        reply: &mut Reply,
-    ) -> Result<(), CellFault> {
+    fn step(&mut self, caller: u32, node: u32, step: Step) -> Result<Reply, CellFault> {
         let call = self.calls;
         self.calls = if call.wrapping_add(1) >= self.period {
             0
@@ -48,6 +38,6 @@ impl<'a> Steps for Stutter<'a> {
         if self.from <= call && call < self.to {
             return Err(CellFault::Busy);
         }
-        self.inner.step(caller, node, step, reply)
+        self.inner.step(caller, node, step)
     }
 }

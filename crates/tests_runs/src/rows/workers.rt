@@ -15,7 +15,7 @@ fn in_turns<R: Threads + Sync>(
     report: Report,
 ) -> Option<Vec<u8>> {
     let settings = Settings::new(1, 16, 2, report)?;
-    let gate = InTurns::new(first);
+    let gate = InTurns::new(first, 3u32.saturating_sub(first));
     let told = report_of(rt, alloc, &settings, TWO_EACH.as_bytes(), &gate)?;
     if gate.held() { Some(told) } else { None }
 }

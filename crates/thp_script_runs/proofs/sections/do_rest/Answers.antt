@@ -4,7 +4,7 @@ use Rattle.std.specs.Vec.Iter.{into_iter_items}
 use Rattle.std.proofs.lemmas.List.Elements.{All-head, All-nil, All-push, All-rest}
 use Rattle.thp_sections.specs.Fronts.{Fronts, Goes}
 use Rattle.thp_sections.specs.Sections.{AnswersAre, Works}
-use Rattle.thp_script_runs.proofs.RestLaws.{at_index, below, has_all_later, rest_first, rest_more, rest_works}
+use Rattle.thp_script_runs.proofs.RestLaws.{at_index, below, has_all_later, rest_first, rest_more, rest_ordered, rest_works}
 use Rattle.thp_script_runs.proofs.sections.do_rest.Goals as goal
 
 pub loop-worked-init : goal.loop-worked-init
@@ -72,3 +72,8 @@ loop-worked-preserved g c =
 
 pub returns-clause-answers : goal.returns-clause-answers
 returns-clause-answers g c = λ are all. (c.loop-worked.invariant.answers are all).0
+
+pub returns-clause-ascending : goal.returns-clause-ascending
+returns-clause-ascending g c =
+    let fronts = g.P.Steps.fronts in
+    rest_ordered (fronts c.args.passes.now) (fronts c.loop-worked.passes) c.args.workers.now c.args.worked.items c.loop-worked.done.items (into_iter_items c.loop-worked.worked-iterator) c.loop-worked.invariant.rest (c.loop-worked.invariant.left ∙ c.in-None.ensures.steps.0)

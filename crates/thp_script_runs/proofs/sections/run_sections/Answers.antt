@@ -2,6 +2,7 @@ use Rattle.std.proofs.Common.{◌∙◌, ◌∷◌, subst, sym}
 use Rattle.std.proofs.lemmas.List.Elements.{All-cons}
 use Rattle.thp_sections.specs.Halves.{AllWork, Ran}
 use Rattle.thp_sections.specs.Sections.{AnswersAre, Works}
+use Rattle.thp_script_runs.specs.Sections.{InOrder}
 use Rattle.thp_script_runs.proofs.RestLaws.{can_run, few_done, answers_numbered, ran_fit, runs_to}
 use Rattle.thp_script_runs.proofs.sections.run_sections.Goals as goal
 
@@ -30,7 +31,8 @@ sections-requires g c =
     let xs = c.in_ok-done.done.items in
     let r : Ran 1 mid ran vs ws = subst (λ l. Ran 1 mid ran l ws) c.as_slice-2.ensures.value c.in_ok-passes.ensures.ran in
     let all : AllWork 1 mid end vs xs = subst (λ l. AllWork 1 mid end l xs) c.as_slice-3.ensures.value (c.in_ok-done.ensures.work mid (subst (λ l. AllWork 1 mid ran l ws) (sym c.as_slice-3.ensures.value) r.work)) in
-    few_done f mid c.args.script vs c.requires.new c.requires.fits c.in_ok-setup.ensures.goes c.in_ok-workers.ensures ran ws r end xs c.in_ok-done.ensures.goes all
+    let order : InOrder 1 ran end vs ws xs = subst (λ l. InOrder 1 ran end l ws xs) c.as_slice-3.ensures.value c.in_ok-done.ensures.ascending in
+    few_done f mid c.args.script vs c.requires.new c.requires.fits c.in_ok-setup.ensures.goes c.in_ok-workers.ensures ran ws r end xs c.in_ok-done.ensures.goes all order
 
 pub returns-clause-runs : goal.returns-clause-runs
 returns-clause-runs g c =
@@ -44,8 +46,9 @@ returns-clause-runs g c =
     let new = c.requires.new in
     let r : Ran 1 mid ran vs ws = subst (λ l. Ran 1 mid ran l ws) c.as_slice-2.ensures.value c.in_ok-passes.ensures.ran in
     let all : AllWork 1 mid end vs xs = subst (λ l. AllWork 1 mid end l xs) c.as_slice-3.ensures.value (c.in_ok-done.ensures.work mid (subst (λ l. AllWork 1 mid ran l ws) (sym c.as_slice-3.ensures.value) r.work)) in
+    let order : InOrder 1 ran end vs ws xs = subst (λ l. InOrder 1 ran end l ws xs) c.as_slice-3.ensures.value c.in_ok-done.ensures.ascending in
     let setup : Works 0 f mid c.args.script.setup c.in_ok-setup.setup = subst (λ cs. Works 0 f mid cs c.in_ok-setup.setup) c.as_slice.ensures c.in_ok-setup.ensures.works in
-    runs_to f mid c.args.script vs new c.requires.fits c.in_ok-setup.ensures.goes c.in_ok-workers.ensures ran ws r end xs c.in_ok-done.ensures.goes all c.in_ok-setup.setup c.in_ok-sections.sections.items setup
+    runs_to f mid c.args.script vs new c.requires.fits c.in_ok-setup.ensures.goes c.in_ok-workers.ensures ran ws r end xs c.in_ok-done.ensures.goes all order c.in_ok-setup.setup c.in_ok-sections.sections.items setup
     (c.in_ok-setup.ensures.done (record { low = new.first; high = new.end ∙ sym new.callers })) c.in_ok-done.ensures.done c.in_ok-sections.ensures
 
 pub returns-clause-answers : goal.returns-clause-answers

@@ -1,10 +1,11 @@
-use Rattle.std.proofs.Common.{◌∙◌, arith, sym, refl}
+use Rattle.std.proofs.Common.{◌∙◌, ◌<◌, arith, sym, refl, false}
+use Rattle.std.proofs.lemmas.List.{length-set}
 use Rattle.thp_sections.specs.Turns.{first_begun}
 use Rattle.thp_sections.specs.Sections.{PutsBack}
 use Rattle.thp_sections.proofs.StepLaws.{goes_trans}
 use Rattle.thp_sections.proofs.CommandLaws.{ended_comes}
 use Rattle.thp_sections.proofs.SectionLaws.{room_for_one, ends_more, ends_stop, shut_more, shut_put, not_open, works_end, works_closing}
-use Rattle.thp_sections.proofs.working.close.Goals.{then-is_open+else-lacks_memory+else-is_busy, else-is_open}
+use Rattle.thp_sections.proofs.working.close.Goals.{then-is_marked+else-lacks_memory+else-is_busy, else-is_marked}
 use Rattle.thp_sections.proofs.working.close.Goals as goal
 
 pub returns-then-lacks_memory-clause-goes : goal.returns-then-lacks_memory-clause-goes
@@ -19,7 +20,8 @@ overflow_add-closed g c =
     let old = c.requires.ends.0 in
     let e = inv.ends old c.requires.ends.1 in
     let nodes = c.requires.ends.1.grows.same.nodes in
-    let room = room_for_one c.args.worker c.loop-node.node old (fronts c.loop-node.steps) c.args.commands.now c.args.answers.items c.loop-node.closed e (omega (arith, c.loop-node-test.true, c.nodes-nodes.ensures, nodes)) inv.shut (sym c.is_open.ensures ∙ c.if-is_open.true) in
+    let lt : c.loop-node.node < old.nodes = omega (arith, c.loop-node-test.true, c.nodes-nodes.ensures, nodes) in
+    let room = room_for_one c.args.worker c.loop-node.node old (fronts c.loop-node.steps) c.args.commands.now c.args.answers.items c.loop-node.opened.items c.loop-node.closed e lt inv.shut (sym (e.known.each c.loop-node.node lt) ∙ sym c.is_marked.ensures ∙ c.if-is_marked.true) in
     omega (arith, room, nodes, c.nodes-nodes.ensures, c.nodes-nodes.type_inv)
 
 pub returns-then-is_busy-clause-goes : goal.returns-then-is_busy-clause-goes
@@ -31,8 +33,8 @@ pub returns-then-is_busy-clause-works : goal.returns-then-is_busy-clause-works
 returns-then-is_busy-clause-works g c =
     let fronts = g.S.Steps.fronts in
     let back = rw c.if-is_busy.ensures.busy at c.put_back-called.ensures.back in
-    λ old e. rw c.loop-node.invariant.same (works_closing c.args.worker old (fronts c.put_back-called.new.steps) c.args.commands.now c.args.answers c.loop-node.closed _ c.requires.room
-    (ends_stop c.args.worker c.loop-node.node old (fronts c.loop-node.steps) (fronts c.put_back-called.new.steps) c.args.commands.now c.args.answers.items c.loop-node.closed first_begun (c.loop-node.invariant.ends old e) c.put_back-called.ensures.goes back) refl refl)
+    λ old e. rw c.loop-node.invariant.same (works_closing c.args.worker old (fronts c.put_back-called.new.steps) c.args.commands.now c.args.answers c.loop-node.opened c.loop-node.closed _ c.requires.room
+    (ends_stop c.args.worker c.loop-node.node old (fronts c.loop-node.steps) (fronts c.put_back-called.new.steps) c.args.commands.now c.args.answers.items c.loop-node.opened.items c.loop-node.closed first_begun (c.loop-node.invariant.ends old e) c.put_back-called.ensures.goes back) refl refl)
 
 pub loop-node-preserved : goal.loop-node-preserved
 loop-node-preserved g c =
@@ -42,26 +44,34 @@ loop-node-preserved g c =
     let mid = fronts c.loop-node.steps in
     let who = c.args.worker in
     let node = c.loop-node.node in
-    elim c.if-is_open.branch [
-      | then-is_open+else-lacks_memory+else-is_busy w ↦
+    elim c.if-is_marked.branch [
+      | then-is_marked+else-lacks_memory+else-is_busy w ↦
           let new = fronts w.put_back-called.new.steps in
           let back = ended_comes first_begun (PutsBack who node mid new) w.put_back-called.result w.put_back-called.new.reply w.if-is_busy.ensures.free w.if-lacks_memory.ensures.some w.put_back-called.ensures.back in
-          rw (w.steps-is, w.closed-is) (record {
+          rw (w.steps-is, w.closed-is, w.opened-is, w.shut.ensures) (record {
             goes = goes_trans who f0 mid new inv.goes w.put_back-called.ensures.goes;
-            ends = λ old e. ends_more who node old mid c.args.commands.now c.args.answers.items c.loop-node.closed (inv.ends old e) (omega (arith, c.loop-node-test.true, c.nodes-nodes.ensures, e.grows.same.nodes)) inv.shut (sym c.is_open.ensures ∙ w.if-is_open.true) new back.0 w.put_back-called.ensures.goes back.1;
+            ends = λ old e.
+                let lt : node < old.nodes = omega (arith, c.loop-node-test.true, c.nodes-nodes.ensures, e.grows.same.nodes) in
+                let now = inv.ends old e in
+                ends_more who node old mid c.args.commands.now c.args.answers.items c.loop-node.opened.items c.loop-node.closed now lt inv.shut (sym (now.known.each node lt) ∙ sym c.is_marked.ensures ∙ w.if-is_marked.true) new back.0 w.put_back-called.ensures.goes back.1;
             same = inv.same;
+            count = length-set c.loop-node.opened.items node false ∙ inv.count;
             shut = shut_put who node mid new back.0 inv.shut back.1;
           })
-      | else-is_open w ↦
-          rw (w.steps-is, w.closed-is) (record {
+      | else-is_marked w ↦
+          rw (w.steps-is, w.closed-is, w.opened-is) (record {
             goes = inv.goes;
             ends = inv.ends;
             same = inv.same;
-            shut = shut_more who node mid inv.shut (not_open (mid.batches who node) (sym c.is_open.ensures ∙ w.if-is_open.false));
+            count = inv.count;
+            shut =
+                let e = inv.ends c.requires.ends.0 c.requires.ends.1 in
+                let lt : node < c.requires.ends.0.nodes = omega (arith, c.loop-node-test.true, c.nodes-nodes.ensures, c.requires.ends.1.grows.same.nodes) in
+                shut_more who node mid inv.shut (not_open (mid.batches who node) (sym (e.known.each node lt) ∙ sym c.is_marked.ensures ∙ w.if-is_marked.false));
           })
     ]
 
 pub returns-clause-works : goal.returns-clause-works
 returns-clause-works g c =
     let fronts = g.S.Steps.fronts in
-    λ old e. rw c.loop-node.invariant.same (works_end c.args.worker old (fronts c.loop-node.steps) c.args.commands.now c.args.answers c.loop-node.closed c.loop-node.node c.requires.room (c.loop-node.invariant.ends old e) (omega (arith, c.loop-node-test.false, c.nodes-nodes.ensures, e.grows.same.nodes)) c.loop-node.invariant.shut)
+    λ old e. rw c.loop-node.invariant.same (works_end c.args.worker old (fronts c.loop-node.steps) c.args.commands.now c.args.answers c.loop-node.opened c.loop-node.closed c.loop-node.node c.requires.room (c.loop-node.invariant.ends old e) (omega (arith, c.loop-node-test.false, c.nodes-nodes.ensures, e.grows.same.nodes)) c.loop-node.invariant.shut)

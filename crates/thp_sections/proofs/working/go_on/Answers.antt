@@ -1,11 +1,14 @@
-use Rattle.std.proofs.Common.{◌≡◌, ◌≤◌, ◌∙◌, ◌++◌, ◌∷◌, [], ℕ, ap, arith, sym, subst, get_or, length, Some}
+use Rattle.std.proofs.Common.{◌≡◌, ◌<◌, ◌≤◌, ◌∙◌, ◌++◌, ◌∷◌, [], ℕ, Bool, List, ap, arith, sym, subst, get_or, length, Some}
 use Rattle.std.specs.Prelude.{slice_get}
+use Rattle.std.proofs.lemmas.List.{length-set}
 use Rattle.std.proofs.lemmas.Option.{slice_get-get_or}
 use Rattle.thp_text.specs.declared.script.Op.TheVariants.{Alloc}
 use Rattle.thp_sections.specs.Does.{Reaction, answer_of}
+use Rattle.thp_sections.specs.OpenBatches.{marked}
 use Rattle.thp_sections.specs.Turns.{first_begun}
 use Rattle.thp_sections.specs.Sections.{Begins, Proceeds}
 use Rattle.thp_sections.proofs.CommandLaws.{cell_comes}
+use Rattle.thp_sections.proofs.OpenLaws.{marked_alike}
 use Rattle.thp_sections.proofs.StepLaws.{goes_trans}
 use Rattle.thp_sections.proofs.SectionLaws.{begun_on, begins_more, begins_stop, ends_first, works_stop}
 use Rattle.thp_sections.proofs.working.go_on.Goals as goal
@@ -19,7 +22,7 @@ do_command-called-requires-clause-ready g c =
     let command = get_or commands i (record { node = 0; op = Alloc }) in
     let len : length c.loop-index.answers.items ≡ i = inv.count in
     let at : slice_get commands (length c.loop-index.answers.items) ≡ Some command = ap (slice_get commands) len ∙ slice_get-get_or commands i (record { node = 0; op = Alloc }) c.loop-index-test.true in
-    (begun_on c.args.worker c.requires.begun.0 (fronts c.loop-index.steps) commands c.loop-index.answers.items c.loop-index.begun command at (inv.begins c.requires.begun.0 c.requires.begun.1)).ready
+    (begun_on c.args.worker c.requires.begun.0 (fronts c.loop-index.steps) commands c.loop-index.answers.items c.loop-index.opened.items c.loop-index.begun command at (inv.begins c.requires.begun.0 c.requires.begun.1)).ready
 
 pub returns-then-lacks_memory-clause-goes : goal.returns-then-lacks_memory-clause-goes
 returns-then-lacks_memory-clause-goes g c =
@@ -41,8 +44,8 @@ returns-then-is_busy-clause-works g c =
     let len : length c.loop-index.answers.items ≡ i = inv.count in
     let at : slice_get commands (length c.loop-index.answers.items) ≡ Some command = ap (slice_get commands) len ∙ slice_get-get_or commands i (record { node = 0; op = Alloc }) c.loop-index-test.true in
     let p = rw c.if-is_busy.ensures.busy at c.do_command-called.ensures.proceeds in
-    λ old b. works_stop c.args.worker old (fronts c.do_command-called.new.steps) commands c.loop-index.answers _ inv.room
-    (begins_stop c.args.worker old (fronts c.loop-index.steps) (fronts c.do_command-called.new.steps) commands c.loop-index.answers.items c.loop-index.begun command at (inv.begins old b) c.do_command-called.ensures.goes c.do_command-called.new.begun p)
+    λ old b. works_stop c.args.worker old (fronts c.do_command-called.new.steps) commands c.loop-index.answers c.loop-index.opened _ inv.room
+    (begins_stop c.args.worker old (fronts c.loop-index.steps) (fronts c.do_command-called.new.steps) commands c.loop-index.answers.items c.loop-index.opened.items c.loop-index.begun command at (inv.begins old b) c.do_command-called.ensures.goes c.do_command-called.new.begun p)
     (sym len) c.loop-index-test.true
 
 pub loop-index-preserved : goal.loop-index-preserved
@@ -58,14 +61,22 @@ loop-index-preserved g c =
     let command = get_or commands i (record { node = 0; op = Alloc }) in
     let len : length answers ≡ i = inv.count in
     let at : slice_get commands (length answers) ≡ Some command = ap (slice_get commands) len ∙ slice_get-get_or commands i (record { node = 0; op = Alloc }) c.loop-index-test.true in
-    let p = cell_comes c.do_command-called.new.begun (Proceeds c.args.worker command c.loop-index.begun mid new) c.do_command-called.result c.told.result c.do_command-called.new.reply c.told.ensures c.if-lacks_memory.ensures.some c.do_command-called.ensures.proceeds in
-    let answer : Reaction = answer_of c.told.result c.do_command-called.new.reply in
+    let p = cell_comes c.do_command-called.new.begun (Proceeds c.args.worker command c.loop-index.begun mid new) c.do_command-called.result c.told-said.result c.do_command-called.new.reply c.told-said.ensures c.if-lacks_memory.ensures.some c.do_command-called.ensures.proceeds in
+    let answer : Reaction = answer_of c.told-said.result c.do_command-called.new.reply in
+    let opened = c.loop-index.opened.items in
+    let now : List Bool = marked opened command answer in
+    let many : length c.mark.new.opened.items ≡ length opened = ap length c.mark.ensures ∙ length-set opened command.node _ in
+    let told : c.mark.new.opened.items ≡ now = c.mark.ensures ∙ marked_alike opened command c.told-said.result c.do_command-called.new.reply in
     record {
       goes = goes_trans c.args.worker f0 mid new inv.goes c.do_command-called.ensures.goes;
       begins = λ old b.
-          rw (c.push.ensures.items, c.first_begun-begun.ensures)
-          (subst (λ (k : ℕ). Begins c.args.worker old new commands (answers ++ record { command = k; node = command.node; reply = answer } ∷ []) first_begun) len
-          (begins_more c.args.worker old mid new commands answers c.loop-index.begun command at (inv.begins old b) c.do_command-called.ensures.goes answer p));
+          let was = inv.begins old b in
+          let here : command.node < f0.nodes = (c.requires.commands i (record { node = 0; op = Alloc }) c.loop-index-test.true).node_exists in
+          let lt : command.node < mid.nodes = rw inv.goes.same.nodes here in
+          rw (c.push.ensures.items, c.first_begun-begun.ensures, told)
+          (subst (λ (k : ℕ). Begins c.args.worker old new commands (answers ++ record { command = k; node = command.node; reply = answer } ∷ []) now first_begun) len
+          (begins_more c.args.worker old mid new commands answers opened c.loop-index.begun command at was c.do_command-called.ensures.goes answer lt p));
+      nodes = many ∙ inv.nodes;
       count = omega (arith, c.push.ensures.count, inv.count);
       are = c.push.ensures.are ∙ inv.are;
       room = omega (arith, c.push.ensures.room, inv.room);
@@ -76,7 +87,7 @@ close-requires-clause-ends g c =
     let fronts = g.S.Steps.fronts in
     let inv = c.loop-index.invariant in
     let le : length c.args.commands.now ≤ length c.loop-index.answers.items = omega (arith, inv.count, c.loop-index-test.false) in
-    (c.requires.begun.0, ends_first c.args.worker c.requires.begun.0 (fronts c.loop-index.steps) c.args.commands.now c.loop-index.answers.items c.loop-index.begun le (inv.begins c.requires.begun.0 c.requires.begun.1))
+    (c.requires.begun.0, ends_first c.args.worker c.requires.begun.0 (fronts c.loop-index.steps) c.args.commands.now c.loop-index.answers.items c.loop-index.opened.items c.loop-index.begun le (inv.begins c.requires.begun.0 c.requires.begun.1))
 
 pub returns-clause-goes : goal.returns-clause-goes
 returns-clause-goes g c =
@@ -88,4 +99,4 @@ returns-clause-works g c =
     let fronts = g.S.Steps.fronts in
     let inv = c.loop-index.invariant in
     let le : length c.args.commands.now ≤ length c.loop-index.answers.items = omega (arith, inv.count, c.loop-index-test.false) in
-    λ old b. c.close.ensures.works old (ends_first c.args.worker old (fronts c.loop-index.steps) c.args.commands.now c.loop-index.answers.items c.loop-index.begun le (inv.begins old b))
+    λ old b. c.close.ensures.works old (ends_first c.args.worker old (fronts c.loop-index.steps) c.args.commands.now c.loop-index.answers.items c.loop-index.opened.items c.loop-index.begun le (inv.begins old b))

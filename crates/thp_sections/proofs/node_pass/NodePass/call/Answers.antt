@@ -25,4 +25,4 @@ returns-in-Count c = rw (c.in-Count.is, ← c.self-in-Count.view_is, c.count-in-
 pub returns-in-Close : goal.returns-in-Close
 returns-in-Close c =
     rw (c.in-Close.is, ← c.self-in-Close.view_is, c.unit.ensures)
-    (unit_done c.self-in-Close.inside.pass c.close.new.pass c.self-in-Close.inside.batches.items c.args.caller node.Close what.Close c.close.result 1 call.close c.close.ensures.same c.close.ensures.recorded c.close.ensures.failed (λ s h. refl) (λ s h own e. (e, refl)))
+    (unit_done c.self-in-Close.inside.pass c.close.new.pass c.self-in-Close.inside.batches.items c.args.caller node.Close what.Close c.close.result call.close c.close.ensures.same c.close.ensures.recorded c.close.ensures.failed (λ s h. refl) (λ s h own e. (e, refl)))

@@ -16,11 +16,11 @@ returns-in-Gain c =
     let page = c.args.page in
     let gain = c.in-Gain.gain in
     rw (c.in-Gain.is, ← c.self.view_is, c.unit.ensures)
-    (unit_done c.self.inside.pass c.gain.new.pass c.self.inside.batches.items c.args.caller (node.Page page (either.Gain gain)) (gain_what gain page) c.gain.result 1 (gain_call gain page) c.gain.ensures.same c.gain.ensures.recorded c.gain.ensures.failed (λ s h. refl) (λ s h own e. (e, refl)))
+    (unit_done c.self.inside.pass c.gain.new.pass c.self.inside.batches.items c.args.caller (node.Page page (either.Gain gain)) (gain_what gain page) c.gain.result (gain_call gain page) c.gain.ensures.same c.gain.ensures.recorded c.gain.ensures.failed (λ s h. refl) (λ s h own e. (e, refl)))
 
 pub returns-in-Loss : goal.returns-in-Loss
 returns-in-Loss c =
     let page = c.args.page in
     let loss = c.in-Loss.kind in
     rw (c.in-Loss.is, ← c.self.view_is, c.loss.ensures)
-    (loss_done c.self.inside.pass c.lose.new.pass c.self.inside.batches.items c.args.caller page (node.Page page (either.Loss loss)) (loss_what loss page) c.lose.result 1 (loss_call loss page) c.lose.ensures.same c.lose.ensures.recorded c.lose.ensures.failed (λ s h. refl) (λ s h own d e. (d, e, refl)))
+    (loss_done c.self.inside.pass c.lose.new.pass c.self.inside.batches.items c.args.caller page (node.Page page (either.Loss loss)) (loss_what loss page) c.lose.result (loss_call loss page) c.lose.ensures.same c.lose.ensures.recorded c.lose.ensures.failed (λ s h. refl) (λ s h own d e. (d, e, refl)))

@@ -100,4 +100,4 @@ returns-in-Err c =
     let own = mine c.self.inside.cell.now p bs who place c.in-Some.batch c.self.invariant at.0 is in
     let e : c.in-Err.batch ≡ c.in-Some.batch = search rules in
     subst (λ x. HeldDone who PutBack x (record { pass = c.put_back.new.pass; batches = c.put_at.new.batches.items }) (Err c.in-Err.fault)) c.self.view_is
-    (back_failed p c.put_back.new.pass bs c.put_at.new.batches.items who place c.put_back.ensures.same at.0 at.1 c.in-Some.batch c.in-Err.batch _ c.in-Err.fault is e (rw c.take_at.ensures.now at c.put_at.ensures) (rw c.in-Err.fault-is at c.in-Err.ensures.failed))
+    (back_failed p c.put_back.new.pass bs c.put_at.new.batches.items who place c.put_back.ensures.same at.0 at.1 c.in-Some.batch c.in-Err.batch c.in-Err.fault own.0 is e (rw c.take_at.ensures.now at c.put_at.ensures) (rw c.in-Err.fault-is at c.in-Err.ensures.failed))

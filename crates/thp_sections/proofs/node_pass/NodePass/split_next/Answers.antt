@@ -63,5 +63,5 @@ returns c =
     subst (λ x. HeldDone who SplitNext x (record { pass = q; batches = new }) (answer_of c.match-split_next.result c.match-split_next.reply)) c.self.view_is
     (elim c.match-split_next.branch [
       | in-Ok w ↦ rw (w.result-is, w.reply-is) (split_held p q bs new who place e.same at.0 at.1 c.in-Some.batch c.split_next.new.batch w.in-Ok.tried own.0 is now e.same_pages w.in-Ok.ensures.recorded)
-      | in-Err w ↦ rw w.result-is (split_failed p q bs new who place e.same at.0 at.1 c.in-Some.batch c.split_next.new.batch _ w.in-Err.fault is w.in-Err.ensures.kept now w.in-Err.ensures.failed)
+      | in-Err w ↦ rw w.result-is (split_failed p q bs new who place e.same at.0 at.1 c.in-Some.batch c.split_next.new.batch w.in-Err.fault own.0 is w.in-Err.ensures.kept now w.in-Err.ensures.failed)
     ])

@@ -59,4 +59,4 @@ returns-in-Err c =
     let at = place_in c.self.inside.cell.now p bs who c.callers-first.result.0 c.self.invariant has c.callers-first.ensures.first in
     let is = rw c.if-is_open.false at c.is_open.ensures in
     subst (λ x. HeldDone who (Take c.args.count) x (record { pass = c.take.new.pass; batches = bs }) (Err c.in-Err.fault)) c.self.view_is
-    (take_failed p c.take.new.pass bs bs who place c.take.ensures.same at.0 at.1 c.args.count _ c.in-Err.fault is c.in-Err.ensures.failed)
+    (take_failed p c.take.new.pass bs bs who place c.take.ensures.same at.0 at.1 c.args.count c.in-Err.fault is c.in-Err.ensures.failed)

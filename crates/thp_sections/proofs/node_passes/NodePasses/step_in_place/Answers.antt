@@ -4,7 +4,7 @@ use Rattle.thp_sections.specs.Does.{answer_of}
 use Rattle.thp_sections.specs.Fronts.{Goes, StepDone}
 use Rattle.thp_sections.specs.Passes.{fronts_in, fronts_of}
 use Rattle.thp_sections.proofs.PassLaws.{done_same, agree_after, step_done, goes_done}
-use Rattle.thp_sections.proofs.node_passes.NodePassesSteps.step.Goals as goal
+use Rattle.thp_sections.proofs.node_passes.NodePasses.step_in_place.Goals as goal
 
 pub invariant_of-self : goal.invariant_of-self
 invariant_of-self c =

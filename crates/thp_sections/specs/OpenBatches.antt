@@ -1,0 +1,33 @@
+-- On which nodes a caller has a batch open, as its section knows from its own answers.
+use Rattle.std.specs.Prelude.{◌≡◌, ℕ, ◌<◌, Bool, true, false, List, Option, Some, None, Result, Ok, get_or, length, slice_set}
+use Rattle.thp_model.specs.declared.refusal.Refusal.{Refusal}
+use Rattle.thp_text.specs.declared.script.Command.{Command}
+use Rattle.thp_text.specs.declared.script.Op.{Op}
+use Rattle.thp_text.specs.declared.script.Op.TheVariants as op
+use Rattle.thp_sections.specs.Does.{Open}
+use Rattle.thp_sections.specs.Fronts.{Fronts}
+
+-- there is an open batch
+abbrev pub is_open : Option Open → Bool
+is_open None = false
+is_open (Some b) = true
+
+-- caller c has no batch open
+abbrev pub HasNoBatch : ℕ → Fronts → Type 0
+HasNoBatch c f = (n : ℕ) → f.batches c n ≡ None
+
+-- of each node it is told whether there is an open batch
+pub record OpenOn (nodes : ℕ) (opened : List Bool) (bs : ℕ → Option Open) : Type 0 where
+  pub count : length opened ≡ nodes
+  pub each : (n : ℕ) → n < nodes → get_or opened n false ≡ is_open (bs n)
+
+-- Whether there is an open batch behind a command that was answered, by whether there was one before: a take opens one, and a
+-- put-back ends it. A scan ends its own, and is refused where there is one.
+abbrev pub leaves_open : {A : Type 0} → Op → Result A Refusal → Bool → Bool
+leaves_open (op.Take n) (Ok x) was = true
+leaves_open op.PutBack answer was = false
+leaves_open o answer was = was
+
+-- what is told behind a command that was answered
+abbrev pub marked : {A : Type 0} → List Bool → Command → Result A Refusal → List Bool
+marked opened command answer = slice_set opened command.node (leaves_open command.op answer (get_or opened command.node false))
