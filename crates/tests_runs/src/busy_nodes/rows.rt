@@ -1,5 +1,7 @@
 //! Rows of a section on a node that is busy at chosen calls.
-use crate::busy_nodes::sections::{BusyCalls, Told, section_on_new, section_on_queued};
+use crate::busy_nodes::sections::{
+    BusyCalls, Told, section_on_new, section_on_pinned, section_on_queued,
+};
 use thp_model::{PageId, Refusal};
 use thp_node::{ScanReply, Tried};
 use thp_sections::{Answer, AnswerLog, Command, NodeCall, Op, Reply, Step};
@@ -36,7 +38,9 @@ fn is_done(told: &Told, answers: usize) -> bool {
 
 // The section stopped at this command, when so many of its steps and so many commands were answered.
 fn stopped_at(told: &Told, command: u32, steps: u32, answers: usize) -> bool {
-    told.stopped == Some((command, steps)) && told.answered_then.len() == answers
+    let is_there =
+        matches!(told.stopped, Some((at, so_many, _)) if at == command && so_many == steps);
+    is_there && told.answered_then.len() == answers
 }
 
 #[test]
@@ -94,6 +98,25 @@ fn scan_often_busy(rt: HostRuntime) {
     assert!(rt; is_scanned(&told));
 }
 
+// A scan that has taken two pages and split one of them by then.
+fn has_split_one_of_two(told: &Told) -> bool {
+    matches!(
+        told.stopped,
+        Some((
+            _,
+            _,
+            ScanReply {
+                taken: 2,
+                split: 1,
+                pinned: 0,
+                back: 0,
+                dropped: 0,
+                used: 0,
+            }
+        ))
+    )
+}
+
 #[test]
 fn scan_interrupted(rt: HostRuntime) {
     let busy = BusyCalls {
@@ -103,6 +126,7 @@ fn scan_interrupted(rt: HostRuntime) {
     };
     let told = section_on_queued(&rt, rt.alloc(), busy, &SCAN, COUNT);
     assert!(rt; stopped_at(&told, 0, 2, 0));
+    assert!(rt; has_split_one_of_two(&told));
     assert!(rt; is_scanned(&told));
 }
 
@@ -127,20 +151,20 @@ fn open_batch_postponed(rt: HostRuntime) {
         to: 65,
         period: 1000,
     };
-    let put_back = (1, Step::PutBack);
-    let told = section_on_queued(&rt, rt.alloc(), busy, &commands, put_back);
+    let told = section_on_pinned(&rt, rt.alloc(), busy, &commands, COUNT);
     assert!(rt; stopped_at(&told, 1, 0, 1));
     assert!(rt; is_done(&told, 3));
     let answers = &told.worked.answers;
-    assert!(rt; matches!(reply_at(answers, 0), Some(Ok(Reply::Taken(2)))));
+    assert!(rt; matches!(reply_at(answers, 0), Some(Ok(Reply::Taken(1)))));
     assert!(rt;
         matches!(
             reply_at(answers, 1),
-            Some(Ok(Reply::Tried(Tried::Split(PageId(0)))))
+            Some(Ok(Reply::Tried(Tried::Pinned(PageId(0)))))
         )
     );
     assert!(rt; matches!(reply_at(answers, 2), Some(Ok(Reply::Unit))));
-    assert!(rt; matches!(told.behind, Ok(Reply::NoBatch)));
+    // the page was dropped, since the node was closed
+    assert!(rt; matches!(told.behind, Ok(Reply::Count(0))));
 }
 
 #[test]

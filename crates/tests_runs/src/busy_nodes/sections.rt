@@ -12,7 +12,7 @@ use std::alloc::Global;
 use std::process::Abort;
 use thp_cell::{CellFault, NodeCell, Pass};
 use thp_model::{Gain, Loss, PageCall, Shape};
-use thp_node::Node;
+use thp_node::{Node, ScanReply};
 use thp_sections::{
     Answer, AnswerLog, Answers, Command, NoGate, NodeCall, NodePass, NodePasses, Reply, Step,
     Steps, Worked, work, work_rest,
@@ -141,6 +141,21 @@ fn queue(rt: &impl Abort, passes: &mut NodePasses<'_>, page: u64)
     assert!(rt; matches!(step(passes, 0, unmap), Ok(Reply::Done(_))));
 }
 
+// Queues the next page, and pins it.
+fn queue_pinned(rt: &impl Abort, passes: &mut NodePasses<'_>, page: u64)
+    requires two { OfTwo (fronts_in passes.old) }
+    requires shut { HasNoBatch 1 (fronts_in passes.old) }
+    ensures two { OfTwo (fronts_in passes.new) }
+    ensures shut { HasNoBatch 1 (fronts_in passes.new) }
+{
+    queue(rt, passes, page);
+    let pin = Step::One(NodeCall::Page {
+        page,
+        call: PageCall::Gain(Gain::Pin),
+    });
+    assert!(rt; matches!(step(passes, 0, pin), Ok(Reply::Unit)));
+}
+
 // Pages 0 and 1 are queued, and page 1 is pinned.
 fn queue_two(rt: &impl Abort, passes: &mut NodePasses<'_>)
     requires two { OfTwo (fronts_in passes.old) }
@@ -149,12 +164,7 @@ fn queue_two(rt: &impl Abort, passes: &mut NodePasses<'_>)
     ensures shut { HasNoBatch 1 (fronts_in passes.new) }
 {
     queue(rt, passes, 0);
-    queue(rt, passes, 1);
-    let pin = Step::One(NodeCall::Page {
-        page: 1,
-        call: PageCall::Gain(Gain::Pin),
-    });
-    assert!(rt; matches!(step(passes, 0, pin), Ok(Reply::Unit)));
+    queue_pinned(rt, passes, 1);
 }
 
 // All answers of a log.
@@ -170,8 +180,8 @@ fn answers_in(rt: &impl Abort, alloc: Global, log: &AnswerLog) -> Vec<Answer> {
 // What became of a section that was gone on with where it stopped.
 #[derive(Drop)]
 pub struct Told {
-    // the command where it stopped, and how many of its steps were answered by then
-    pub stopped: Option<(u32, u32)>,
+    // the command where it stopped, how many of its steps were answered by then, and what these came to
+    pub stopped: Option<(u32, u32, ScanReply)>,
     pub answered_then: Vec<Answer>,
     pub worked: Worked,
     // the answer to a step behind the section
@@ -216,6 +226,25 @@ pub fn section_on_queued(
     go_through(rt, alloc, passes, busy, commands, behind)
 }
 
+// The same on a node whose queue has page 0 alone, which is pinned.
+pub fn section_on_pinned(
+    rt: &impl Abort,
+    alloc: Global,
+    busy: BusyCalls,
+    commands: &[Command],
+    behind: (u32, Step),
+) -> Told
+    requires few { length commands.now < 2 ^ 32 }
+    requires commands { All (IsCommandFor 1) commands.now }
+    requires caller { behind.0 < 2 }
+    requires step { IsStep behind.1 }
+{
+    let (cell, pass) = cell_of(rt, alloc);
+    let mut passes = passes_of(rt, alloc, &cell, pass);
+    queue_pinned(rt, &mut passes, 0);
+    go_through(rt, alloc, passes, busy, commands, behind)
+}
+
 fn go_through(
     rt: &impl Abort,
     alloc: Global,
@@ -233,7 +262,7 @@ fn go_through(
 {
     let (mut passes, worked) = begin(rt, alloc, passes, busy, commands);
     let stopped = match &worked.rest {
-        Some(rest) => Some((rest.command, rest.steps)),
+        Some(rest) => Some((rest.command, rest.steps, rest.so_far)),
         None => None,
     };
     let answered_then = answers_in(rt, alloc, &worked.answers);
