@@ -11,7 +11,7 @@ from __future__ import annotations
 from collections import Counter as Tallies
 from collections import defaultdict
 from dataclasses import dataclass, replace
-from typing import Callable, Dict, List, Optional, Tuple
+from typing import Callable, Dict, Iterator, List, Optional, Tuple
 
 from ..common.files import BASE, PMD_ORDER
 from ..common.journal import Event, NodeJournal, journal_text
@@ -39,6 +39,16 @@ class Settings:
     page_size: int = 64  # bytes of struct page
 
 
+def batches_of(total: int, freeable: int) -> Iterator[Tuple[int, int]]:
+    """The batches of one scan, as (first, count): so many pages of the queue as the shrinkers' core asks for at a time
+    (mm/shrinker.c: do_shrink_slab)."""
+    first = 0
+    while total >= min(freeable, BATCH) > 0:
+        count = min(BATCH, total)
+        yield first, count
+        first, total = first + count, total - count
+
+
 class Journalist:
     """Makes events of records."""
 
@@ -61,12 +71,16 @@ class Journalist:
     # what comes out
 
     def text(self) -> str:
-        """The journal, without the pages that are left out; a page that goes takes its number with it."""
+        """The journal of this node alone."""
+        return journal_text([self.journal()])
+
+    def journal(self) -> NodeJournal:
+        """What was told, without the pages that are left out; a page that goes takes its number with it."""
         numbers: Dict[Page, int] = {}
         events = [replace(line.event, page=numbers.setdefault(line.page, len(numbers)))
                   for line in self.lines if not line.page.lost]
         blocks = min(MOST_BLOCKS, self._most + 8)
-        return journal_text([NodeJournal(blocks, self._settings.order, self._settings.threshold, events)])
+        return NodeJournal(blocks, self._settings.order, self._settings.threshold, events)
 
     def lost_pages(self) -> int:
         return sum(bool(page.lost) for page in self._pages)
@@ -426,14 +440,23 @@ class Journalist:
         if total < min(freeable, BATCH) or not start.queue:
             self._agree(record.queue)
             return
-        if record.queue is None or len(start.queue) > BATCH:
+        if record.queue is None:
             self.seen["scans not followed"] += 1
             return
         self.seen["scans"] += 1
         self._freed_by_now(folios, record.queue)
-        pages = [page for page in folios[:total] if page and page in self._queue]
         found = [self._at.get(folio) for folio in record.queue]
-        stay = [page for page in found if page and page in pages]
+        back: List[Page] = []
+        for first, count in batches_of(total, freeable):
+            batch = [page for page in folios[first : first + count] if page and page in self._queue]
+            stay = [page for page in found if page and page in batch]
+            self._batch(record, batch, folios, stay)
+            back += stay
+        self._tell_later([page for page in found if page], back)
+        self._agree(record.queue)
+
+    def _batch(self, record: Record, pages: List[Page], folios: List[Optional[Page]], stay: List[Page]) -> None:
+        """Tells one batch of a scan: `stay` are those put back, in the kernel's order."""
         for page in pages:
             if page in stay or self._is_too_full(page):
                 self._partly_by_now(page, record.queue)
@@ -453,8 +476,6 @@ class Journalist:
             page.join = None
         self._queue += stay
         self._told += back
-        self._tell_later([page for page in found if page], stay)
-        self._agree(record.queue)
 
     def _freed_by_now(self, folios: List[Optional[Page]], queue: Optional[List[int]]) -> None:
         """A page that was freed while the scan ran: where nothing told so yet, a call that still runs did it."""
@@ -497,7 +518,9 @@ class Journalist:
         self, pages: List[Page], folios: List[Optional[Page]], stay: List[Page]
     ) -> Tuple[List[Page], List[Page]]:
         """The pages in the journal's order: those taken, those put back."""
-        if len(pages) < len([page for page in self._queue if page in folios]):
+        mine = {page for page in pages if not page.lost}
+        oldest = [page for page in self._told if not page.lost][: len(mine)]
+        if len(pages) < len([page for page in self._queue if page in folios]) and set(oldest) != mine:
             for page in self._queue:
                 self._lose(page, "a scan of a part of the queue")
         taken = [page for page in self._told if page in pages]
