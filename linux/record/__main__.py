@@ -1,9 +1,10 @@
 """Records a memory control group's deferred split queue, writes it as a journal, and lets `thpsplit --check` judge it.
 
     thprecord [--own THREADS,STEPS,SEED[,zeros]]     a workload of its own
+    thprecord --own .. --groups 3 --order 9,4        a workload for each order in each of three control groups
     thprecord -- COMMAND ARGS..                      a command in a control group of its own
 
-Prints the verdict, with the line where the journal is illegal, and what was seen, inferred and left out. Wants root.
+A node of the journal is a control group and an order. Prints the verdict, with the line where the journal is illegal, and what was seen, inferred and left out. Wants root.
 Status 0: legal; 1: illegal, or records were lost; 2: a fault in the words; 77: nothing could be recorded, or nothing
 was.
 """
@@ -25,16 +26,18 @@ from ..common.errors import DIFFERS, DONE, SKIPPED, InputFault, Unavailable, run
 from ..common.files import COLLAPSE_SLEEP, PMD_ORDER, PTES_NONE, SWITCH, read, size_folder, write
 from ..common.groups import Groups
 from ..common.helpers import helper
+from ..common.journal import journal_text
 from ..common.keeper import Keeper
 from ..common.kernel_memory import KernelMemory
 from ..common.program import Program
 from .journalist import Journalist, Settings
-from .records import Record
+from .records import Record, record_from
 from .tampering import Spoil, tampered
 from .tap import Tap
 
 NAME = "thprecord"
 NEEDED = ["root", "huge pages", "page sizes", "memory control groups"]
+NODES = 8  # of a journal (docs/FORMATS.md)
 QUIET = 3600000  # milliseconds between khugepaged's rounds
 PAUSE, AFTER = 0.002, 0.05  # seconds between two looks into the ring, and for what comes after the command's end
 
@@ -44,12 +47,13 @@ def words() -> argparse.Namespace:
     parser = argparse.ArgumentParser(prog=NAME, description=__doc__, formatter_class=form)
     parser.add_argument("--program", metavar="PATH", help="the thpsplit that judges")
     parser.add_argument("--own", default="1,300,1", metavar="THREADS,STEPS,SEED[,zeros]")
-    parser.add_argument("--order", type=int, default=PMD_ORDER, help="the order of the pages that are followed")
+    parser.add_argument("--order", default=str(PMD_ORDER), metavar="LIST", help="the orders of pages that are followed")
+    parser.add_argument("--groups", type=int, default=1, metavar="N", help="control groups, each with the workload")
     parser.add_argument("--underused", default="off", help="off, a threshold, or as-is: leave the machine's setting")
     parser.add_argument("--every", type=float, default=0.02, help="seconds between two reclaims; 0: none")
     parser.add_argument("--straighten", action="store_true", help="tell away E (order of putting back) and B (zeros)")
     parser.add_argument("--out", metavar="FILE", help="write the journal there")
-    parser.add_argument("--records", metavar="FILE", help="write the records there, one JSON list a line")
+    parser.add_argument("--records", metavar="FILE", help="write the records there; further groups' to FILE.2 ..")
     parser.add_argument("--tamper", type=int, default=0, metavar="N", help="check N spoilt copies of a legal journal")
     parser.add_argument("--least", type=int, default=0, metavar="EVENTS", help="more seeds until so many events")
     parser.add_argument("command", nargs="*")
@@ -57,7 +61,7 @@ def words() -> argparse.Namespace:
 
 
 class Recorder:
-    """A control group, and records of what is run in it."""
+    """Control groups, and records of what is run in them."""
 
     def __init__(self, asked: argparse.Namespace, keeper: Keeper, memory: KernelMemory) -> None:
         self._asked, self._keeper, self._memory = asked, keeper, memory
@@ -68,52 +72,76 @@ class Recorder:
                 keeper.set(SWITCH, int(asked.underused != "off"))
             if asked.underused != "off":
                 keeper.set(PTES_NONE, asked.underused)
-            keeper.set(f"{size_folder(asked.order)}/enabled", "madvise")
+            for order in asked.orders:
+                keeper.set(f"{size_folder(order)}/enabled", "madvise")
         self._groups = Groups(keeper, NAME)
-        self._path = self._groups.add("node0")
+        self._paths = [self._groups.add(f"node{number}") for number in range(asked.groups)]
         on = os.path.exists(SWITCH) and read(SWITCH).strip() == "1"
-        self.threshold: Optional[int] = int(read(PTES_NONE)) if on else None
+        self._threshold: Optional[int] = int(read(PTES_NONE)) if on else None
 
-    def settings(self) -> Settings:
+    def settings(self, order: int) -> Settings:
+        """How pages of this order are told: only those of PMD size are ever underused."""
         page_size = self._memory.types.struct_size("page")
-        return Settings(self._asked.order, self.threshold, self._asked.straighten, page_size)
+        threshold = self._threshold if order == PMD_ORDER else None
+        return Settings(order, threshold, self._asked.straighten, page_size)
 
-    def record(self, command: List[str]) -> Tuple[List[Record], int]:
-        """The records of a command, and how many were lost."""
-        tap = Tap(self._memory, self._memory.group(self._path))
-        records: List[Record] = []
+    def record(self, commands: List[List[str]]) -> Tuple[List[List[Record]], int]:
+        """The records of these commands in each group, and how many were lost."""
+        taps = [Tap(self._memory, self._memory.group(path)) for path in self._paths]
+        records: List[List[Record]] = [[] for _ in taps]
+
+        def take() -> None:
+            for own, tap in zip(records, taps):
+                own += tap.read()
+
         try:
-            child = subprocess.Popen(command, preexec_fn=lambda: write(f"{self._path}/cgroup.procs", os.getpid()))
-            self._keeper.own(child.pid)
+            children = [self._start(command, path) for path in self._paths for command in commands]
             ended = threading.Event()
             reclaimer = threading.Thread(target=self._reclaim, args=(ended,))
             reclaimer.start()
             try:
-                while child.poll() is None:
+                while any(child.poll() is None for child in children):
                     time.sleep(PAUSE)
-                    records += tap.read()
+                    take()
             finally:
                 ended.set()
                 reclaimer.join()
-            self._keeper.disown(child.pid)
+            for child in children:
+                self._keeper.disown(child.pid)
             time.sleep(AFTER)
-            return records + tap.read(), tap.lost()
+            take()
+            return records, sum(tap.lost() for tap in taps)
         finally:
-            tap.close()
+            for tap in taps:
+                tap.close()
+
+    def _start(self, command: List[str], path: str) -> subprocess.Popen[bytes]:
+        child = subprocess.Popen(command, preexec_fn=lambda: write(f"{path}/cgroup.procs", os.getpid()))
+        self._keeper.own(child.pid)
+        return child
 
     def _reclaim(self, ended: threading.Event) -> None:
         """Reclaims again and again, beside the reader of records, which must not wait for it."""
         while self._asked.every and not ended.wait(self._asked.every):
-            self._groups.reclaim(self._path)
+            for path in self._paths:
+                self._groups.reclaim(path)
 
 
-def workload(own: List[str], order: int, seed: int) -> List[str]:
-    return [helper("record/workload.c"), own[0], own[1], str(seed), str(order), *own[3:]]
+def workloads(asked: argparse.Namespace, own: List[str], seed: int) -> List[List[str]]:
+    """The command given, or a workload for each order."""
+    if asked.command:
+        return [asked.command]
+    return [[helper("record/workload.c"), own[0], own[1], str(seed), str(order), *own[3:]] for order in asked.orders]
+
+
+def events_in(text: str) -> int:
+    """The events of a journal."""
+    return text.count("\n") - text.count("\nnode ") - 2
 
 
 def judge(text: str, program: Program) -> Tuple[bool, str]:
     """Whether a journal is legal, and what is said of it: an empty one is no legal one."""
-    events = text.count("\n") - 3
+    events = events_in(text)
     if not events:
         return False, "empty: no huge page was followed"
     verdict = program.check(text)
@@ -133,32 +161,53 @@ def tamper(text: str, program: Program, copies: int) -> None:
         print(f"{found[spoil] - legal[spoil]:9} of {found[spoil]} copies with {spoil.value} are illegal")
 
 
+def tell(asked: argparse.Namespace, recorder: Recorder, records: List[List[Record]]) -> List[Journalist]:
+    """What the records of each group say of each order."""
+    out = []
+    for own in records:
+        for order in asked.orders:
+            journalist = Journalist(recorder.settings(order))
+            journalist.tell([record_from(record.plain()) for record in own])
+            out.append(journalist)
+    return out
+
+
 def one(
-    asked: argparse.Namespace, recorder: Recorder, program: Program, command: List[str], sums: Dict[str, int]
+    asked: argparse.Namespace, recorder: Recorder, program: Program, commands: List[List[str]], sums: Dict[str, int]
 ) -> Tuple[bool, int]:
     """Records and judges once: whether it is legal and complete, and the number of events."""
-    records, lost = recorder.record(command)
-    journalist = Journalist(recorder.settings())
-    journalist.tell(records)
-    text = journalist.text()
+    records, lost = recorder.record(commands)
+    if asked.records:
+        for number, own in enumerate(records, 1):
+            path = asked.records + (f".{number}" if number > 1 else "")
+            write(path, "".join(json.dumps(record.plain()) + "\n" for record in own))
+    journalists = tell(asked, recorder, records)
+    text = journal_text([journalist.journal() for journalist in journalists])
     if asked.out:
         write(asked.out, text)
-    if asked.records:
-        write(asked.records, "".join(json.dumps(record.plain()) + "\n" for record in records))
     legal, told = judge(text, program)
     complete = f"incomplete: {lost} records were lost; " if lost else ""
-    pages = f"{journalist.pages() - journalist.lost_pages()} of {journalist.pages()} pages told"
-    print(f"{complete}{told}, {len(records)} records, {pages}", flush=True)
-    for what, many in journalist.seen.items():
-        sums[what] += many
-    events = text.count("\n") - 3
+    pages = sum(journalist.pages() for journalist in journalists)
+    followed = pages - sum(journalist.lost_pages() for journalist in journalists)
+    print(f"{complete}{told}, {sum(map(len, records))} records, {followed} of {pages} pages told", flush=True)
+    for journalist in journalists:
+        for what, many in journalist.seen.items():
+            sums[what] += many
     sums["recordings"] += 1
     sums["recordings that are legal"] += legal
-    sums["events in journals"] += events
-    sums["pages"] += journalist.pages()
+    sums["events in journals"] += events_in(text)
+    sums["pages"] += pages
     if asked.tamper and legal:
         tamper(text, program, asked.tamper)
-    return legal and not lost, events
+    return legal and not lost, events_in(text)
+
+
+def orders_of(text: str) -> List[int]:
+    """Orders from text, each once."""
+    orders = text.split(",")
+    if not all(order.isdigit() and 2 <= int(order) <= PMD_ORDER for order in orders) or len({*orders}) < len(orders):
+        raise InputFault(f"--order wants different numbers from 2 to {PMD_ORDER}, joined by commas")
+    return [int(order) for order in orders]
 
 
 def record(asked: argparse.Namespace) -> int:
@@ -167,6 +216,9 @@ def record(asked: argparse.Namespace) -> int:
         raise InputFault("--own wants THREADS,STEPS,SEED, and perhaps zeros")
     if asked.underused not in ("off", "as-is") and not asked.underused.isdigit():
         raise InputFault("--underused wants off, a number, or as-is")
+    asked.orders = orders_of(asked.order)
+    if not 1 <= asked.groups * len(asked.orders) <= NODES or (asked.command and asked.groups > 1):
+        raise InputFault(f"--groups times --order are at most {NODES} nodes, and a command runs in one group")
     machine.demand(machine.common_parts(), NEEDED)
     memory, parts = machine.memory()
     if memory is None:
@@ -178,7 +230,7 @@ def record(asked: argparse.Namespace) -> int:
         recorder = Recorder(asked, keeper, memory)
         seed = int(own[2])
         while True:
-            legal, more = one(asked, recorder, program, asked.command or workload(own, asked.order, seed), sums)
+            legal, more = one(asked, recorder, program, workloads(asked, own, seed), sums)
             good, events, seed = good and legal, events + more, seed + 1
             if asked.command or events >= asked.least:
                 break

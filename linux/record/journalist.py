@@ -11,11 +11,11 @@ from __future__ import annotations
 from collections import Counter as Tallies
 from collections import defaultdict
 from dataclasses import dataclass, replace
-from typing import Callable, Dict, List, Optional, Tuple
+from typing import Callable, Dict, Iterator, List, Optional, Tuple
 
 from ..common.files import BASE, PMD_ORDER
 from ..common.journal import Event, NodeJournal, journal_text
-from ..common.subpages import bits_of, runs
+from ..common.subpages import bits_of, runs, size
 from .folios import Line, Mapping, Page
 from .records import Kind, Record, lines_with_ends
 from .tap import MADVISE, MPROTECT, MREMAP, MUNMAP
@@ -37,6 +37,16 @@ class Settings:
     threshold: Optional[int]
     straighten: bool
     page_size: int = 64  # bytes of struct page
+
+
+def batches_of(total: int, freeable: int) -> Iterator[Tuple[int, int]]:
+    """The batches of one scan, as (first, count): so many pages of the queue as the shrinkers' core asks for at a time
+    (mm/shrinker.c: do_shrink_slab)."""
+    first = 0
+    while total >= min(freeable, BATCH) > 0:
+        count = min(BATCH, total)
+        yield first, count
+        first, total = first + count, total - count
 
 
 class Journalist:
@@ -61,12 +71,16 @@ class Journalist:
     # what comes out
 
     def text(self) -> str:
-        """The journal, without the pages that are left out; a page that goes takes its number with it."""
+        """The journal of this node alone."""
+        return journal_text([self.journal()])
+
+    def journal(self) -> NodeJournal:
+        """What was told, without the pages that are left out; a page that goes takes its number with it."""
         numbers: Dict[Page, int] = {}
         events = [replace(line.event, page=numbers.setdefault(line.page, len(numbers)))
                   for line in self.lines if not line.page.lost]
         blocks = min(MOST_BLOCKS, self._most + 8)
-        return journal_text([NodeJournal(blocks, self._settings.order, self._settings.threshold, events)])
+        return NodeJournal(blocks, self._settings.order, self._settings.threshold, events)
 
     def lost_pages(self) -> int:
         return sum(bool(page.lost) for page in self._pages)
@@ -141,8 +155,8 @@ class Journalist:
         page = Page.new(len(self._pages), folio, order)
         self._pages.append(page)
         self._at[folio] = page
-        size = BASE << order
-        page.maps[record.space] = Mapping(fault.values[0] // size * size, True, page.every)
+        length = BASE << order
+        page.maps[record.space] = Mapping(fault.values[0] // length * length, True, page.every)
         self._spaces[record.space][page] = page.maps[record.space]
         self._live += 1
         self._most = max(self._most, self._live)
@@ -285,7 +299,20 @@ class Journalist:
         if newly and page not in self._queue and (queue is None or seen or not last or page.freed):
             self.seen["queued, seen" if seen else "queued, inferred"] += 1
             return "queued", 0
+        if newly and page not in self._queue and self._caught(page):
+            return "queued", 0
         return "stays", 0
+
+    def _caught(self, page: Page) -> bool:
+        """Whether a scan that still runs may have taken the page: one that takes more pages than were in the queue when
+        its start was recorded."""
+        for start, folios in self._scans.values():
+            if start.queue is not None and len(folios) < start.values[0]:
+                folios.append(page)
+                start.queue.append(page.folio)
+                self.seen["pages that joined between a scan's start and its taking"] += 1
+                return True
+        return False
 
     def _last_unmap(self, record: Record, page: Page) -> Tuple[str, int]:
         if not page.freed and not page.pins and any(page in pages for _, pages in self._scans.values()):
@@ -413,15 +440,26 @@ class Journalist:
         if total < min(freeable, BATCH) or not start.queue:
             self._agree(record.queue)
             return
-        if record.queue is None or len(start.queue) > BATCH:
+        if record.queue is None:
             self.seen["scans not followed"] += 1
             return
         self.seen["scans"] += 1
-        pages = [page for page in folios[:total] if page and page in self._queue]
+        self._freed_by_now(folios, record.queue)
         found = [self._at.get(folio) for folio in record.queue]
-        stay = [page for page in found if page and page in pages]
-        for page in stay:
-            self._partly_by_now(page, record.queue)
+        back: List[Page] = []
+        for first, count in batches_of(total, freeable):
+            batch = [page for page in folios[first : first + count] if page and page in self._queue]
+            stay = [page for page in found if page and page in batch]
+            self._batch(record, batch, folios, stay)
+            back += stay
+        self._tell_later([page for page in found if page], back)
+        self._agree(record.queue)
+
+    def _batch(self, record: Record, pages: List[Page], folios: List[Optional[Page]], stay: List[Page]) -> None:
+        """Tells one batch of a scan: `stay` are those put back, in the kernel's order."""
+        for page in pages:
+            if page in stay or self._is_too_full(page):
+                self._partly_by_now(page, record.queue)
         if len(stay) > 1 and stay == [page for page in reversed(pages) if page in stay]:
             self.seen["scans that put back two pages or more, turned around (E)"] += 1
         taken, back = pages, stay
@@ -438,15 +476,27 @@ class Journalist:
             page.join = None
         self._queue += stay
         self._told += back
-        self._tell_later([page for page in found if page], stay)
-        self._agree(record.queue)
+
+    def _freed_by_now(self, folios: List[Optional[Page]], queue: Optional[List[int]]) -> None:
+        """A page that was freed while the scan ran: where nothing told so yet, a call that still runs did it."""
+        for page in folios:
+            for task, asked in list(self._pending.items()):
+                if page and page.live and page.freed and asked.space in page.maps and self._reaches(asked, page):
+                    self._apply(self._pending.pop(task), queue)
+                    self.seen["calls told before their end"] += 1
 
     def _partly_by_now(self, page: Page, queue: Optional[List[int]]) -> None:
-        """What is put back is partly mapped: where nothing told so yet, a call that still runs did it."""
+        """A page that is put back, or split with too few zeros, is partly mapped: where nothing told so yet, a call
+        that still runs did it."""
         for task, asked in list(self._pending.items()):
             if not page.partly and asked.space in page.maps and self._reaches(asked, page):
                 self._apply(self._pending.pop(task), queue)
                 self.seen["calls told before their end"] += 1
+
+    def _is_too_full(self, page: Page) -> bool:
+        """Whether what a split gave back is too little for an underused page."""
+        given = size(page.freed_frames & page.held)
+        return bool(given) and not page.freed and given <= (self._settings.threshold or page.subpages)
 
     def _tell_later(self, kernels: List[Page], stay: List[Page]) -> None:
         """Pages that joined while the scan ran, and stand behind what it put back, are told after it."""
@@ -468,13 +518,17 @@ class Journalist:
         self, pages: List[Page], folios: List[Optional[Page]], stay: List[Page]
     ) -> Tuple[List[Page], List[Page]]:
         """The pages in the journal's order: those taken, those put back."""
-        if len(pages) < len([page for page in self._queue if page in folios]):
+        mine = {page for page in pages if not page.lost}
+        oldest = [page for page in self._told if not page.lost][: len(mine)]
+        if len(pages) < len([page for page in self._queue if page in folios]) and set(oldest) != mine:
             for page in self._queue:
                 self._lose(page, "a scan of a part of the queue")
         taken = [page for page in self._told if page in pages]
         return taken, [page for page in taken if page in stay]
 
     def _tried(self, record: Record, page: Page, stays: bool) -> None:
+        if stays and not page.partly:
+            self._lose(page, "put back, though not partly mapped: another task held its lock (L)")
         if stays:
             if not page.pins:
                 page.pins = 1
@@ -504,6 +558,8 @@ class Journalist:
             return
         if page.held & ~used & ~given:
             self._lose(page, "a frame was held beyond the split")
+        if self._settings.threshold is not None and not page.partly and size(given) <= self._settings.threshold:
+            self._lose(page, "written while a scan split it (Z)")
         zeros = given & used
         if self._settings.threshold is not None:
             for first, count in runs(zeros & page.written):

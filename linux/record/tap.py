@@ -18,6 +18,7 @@ from .records import COUNT_AT, FOLIOS_AT, QUEUE_MOST, SIZE, VALUES_AT, Kind, Rec
 
 RING = 1 << 26  # bytes of the ring buffer
 LENGTH_AT = 104
+TRIES = 3  # of sending a record
 MUNMAP, MPROTECT, MREMAP, MADVISE = 11, 10, 25, 28  # system calls of x86-64
 _HEAD_PAGE = mmap.PAGESIZE
 _BUSY, _DISCARDED, _LENGTH = 1 << 31, 1 << 30, (1 << 30) - 1  # bits of a record's head in the ring
@@ -125,8 +126,11 @@ class Tap:
         return value
 
     def _output(self, code: Assembler, size: int) -> Assembler:
-        """Sends the record; one that finds no room is counted."""
-        code.map(1, self._ring).move(2, 7).set(3, size).set(4, 0).call(Helper.RINGBUF_OUTPUT).jump("out", "==", 0, 0)
+        """Sends the record; one that finds no room is counted. It is tried again, since the ring's lock may be refused
+        once, to a processor that waited long for it."""
+        for _ in range(TRIES):
+            code.map(1, self._ring).move(2, 7).set(3, size).set(4, 0).call(Helper.RINGBUF_OUTPUT)
+            code.jump("out", "==", 0, 0)
         code.store_number(10, -4, 0, 4).move(2, 10).add(2, -4).map(1, self._lost).call(Helper.MAP_LOOKUP)
         code.jump("out", "==", 0, 0).set(1, 1).put(0xDB, 0, 1, 0, 0)  # atomic add
         return code.jump("out")

@@ -10,11 +10,13 @@ import tempfile
 import time
 import unittest
 from pathlib import Path
+from unittest import mock
 
 from ..common.btf import Missing, Types
 from ..common.errors import InputFault, Unavailable
 from ..common.files import chosen
 from ..common.groups import find_hierarchy
+from ..common.guardian import Guardian, write
 from ..common.journal import journal_of, journal_text
 from ..common.keeper import Keeper
 from ..common.kernel_memory import QueueFields
@@ -200,6 +202,20 @@ class KeeperTest(unittest.TestCase):
         finally:
             child.kill()
             child.wait()
+
+    def test_a_setting_that_a_group_holds_goes_back_after_it(self) -> None:
+        """Version 2: a group's subtree_control can't be taken back while a group of ours below it uses it."""
+        guardian = Guardian()
+        (self.folder / "group").mkdir()
+        guardian.take({"file": str(self.folder / "setting"), "text": "former"})
+        guardian.take({"group": str(self.folder / "group")})
+
+        def held(path: str, text: str) -> str:
+            return "busy" if (self.folder / "group").exists() else write(path, text)
+
+        with mock.patch("linux.common.guardian.write", held):
+            guardian.put_back()
+        self.assertEqual(((self.folder / "setting").read_text(), guardian.problems), ("former", []))
 
     def test_one_tool_at_a_time(self) -> None:
         with Keeper(lock=str(self.folder / "lock")):

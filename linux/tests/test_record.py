@@ -11,7 +11,7 @@ from pathlib import Path
 from typing import List, Optional, Sequence
 
 from ..common.program import Program
-from ..record.journalist import Journalist, Settings
+from ..record.journalist import Journalist, Settings, batches_of
 from ..record.records import COUNT_AT, FOLIOS_AT, QUEUE_MOST, SIZE, Kind, Record, record_from, record_of
 from ..record.tampering import Spoil, tampered
 
@@ -184,3 +184,63 @@ class ScanTest(unittest.TestCase):
         words = [line.split(" ", 1)[1] for line in journalist.text().splitlines()[2:-1]]
         self.assertLess(words.index("back 0"), words.index("alloc 1"))
         self.assertEqual(verdict(journalist.text()), "legal")
+
+    def told(self, story: Story, threshold: Optional[int], seen: str) -> List[str]:
+        """The words of the journal, which is legal; `seen` was counted once."""
+        journalist = Journalist(Settings(9, threshold, True))
+        journalist.tell(story.records)
+        self.assertEqual(verdict(journalist.text()), "legal")
+        self.assertEqual((journalist.seen[seen], journalist.seen["queues that differ"]), (1, 0))
+        return [line.split(" ", 1)[1] for line in journalist.text().splitlines()[2:-1]]
+
+    def by_another(self, story: Story, kind: Kind, values: Sequence[int], queue: List[int]) -> None:
+        """A record of the task that scans."""
+        padded = (*values, *[0] * (9 - len(values)))
+        story.records.append(Record(kind, len(story.records), TASK + 1, SPACE, padded, queue))
+
+    def test_batches(self) -> None:
+        rows = {(10, 10): [(0, 10)], (4, 166): [], (300, 300): [(0, 128), (128, 128)], (200, 150): [(0, 128)], (0, 0): []}
+        for (total, freeable), wanted in rows.items():
+            self.assertEqual(list(batches_of(total, freeable)), wanted)
+
+    def test_a_page_that_joins_before_a_scan_takes_is_taken(self) -> None:
+        story = Story()
+        first, second = story.page(0), story.page(1)
+        story.drop(0, 0, 8, [first])
+        self.by_another(story, Kind.SCAN, [2, 1], [first])
+        story.drop(1, 0, 8, [])
+        for frame in frames_of(0, 0, 8) + frames_of(1, 0, 8):
+            story.add(Kind.FREE, [frame, 0])
+        self.by_another(story, Kind.SCANNED, [2], [])
+        words = self.told(story, None, "pages that joined between a scan's start and its taking")
+        self.assertEqual(words[-4:], ["taken 0", "taken 1", "split 1 0-7", "split 0 0-7"])
+        self.assertIsNotNone(second)
+
+    def test_a_page_freed_while_a_scan_runs_is_told_before_it(self) -> None:
+        story = Story()
+        pages = [story.page(0), story.page(1)]
+        for number in (0, 1):
+            story.drop(number, 0, 8, pages[: number + 1])
+        self.by_another(story, Kind.SCAN, [2, 2], pages)
+        call = [MUNMAP, HUGE * 10, HUGE, 0]
+        story.add(Kind.ENTER, call)
+        story.add(Kind.FREE, [pages[0], 9])
+        self.by_another(story, Kind.SCANNED, [0], pages[1:])
+        story.add(Kind.EXIT, [*call, 0], pages[1:])
+        words = self.told(story, None, "calls told before their end")
+        self.assertEqual(words[-5:], ["unmapsub 0 8 504 freed 0-511", "taken 1", "pin 1", "pinned 1", "back 1"])
+
+    def test_a_page_written_while_it_is_split_is_left_out(self) -> None:
+        story = Story()
+        page = story.page(0)
+        story.add(Kind.EXIT, [MADVISE, 0, 0, 0, 0], [page])
+        story.scan([page], frames_of(0, 490, 22), [])
+        self.assertEqual(self.told(story, 100, "pages left out: written while a scan split it (Z)"), [])
+
+    def test_a_page_put_back_though_mapped_whole_is_left_out(self) -> None:
+        story = Story()
+        page = story.page(0)
+        story.add(Kind.EXIT, [MADVISE, 0, 0, 0, 0], [page])
+        story.scan([page], [], [page])
+        why = "pages left out: put back, though not partly mapped: another task held its lock (L)"
+        self.assertEqual(self.told(story, 100, why), [])

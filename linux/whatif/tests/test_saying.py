@@ -2,12 +2,15 @@
 
 from __future__ import annotations
 
+import random
 import unittest
+from collections import Counter
 from typing import List
 
 from ...common.subpages import bits_of
 from ..folios import Folio, Mapping
-from ..saying import LEVELS, Reason, Unsayable, begin, prepare, state
+from ..saying import LEVELS, Reason, Unsayable, begin, levels_of, prepare, state
+from ..snapshot import Snapshot
 from .made_up import folio, holed
 
 FULL = bits_of(0, 512)
@@ -73,6 +76,26 @@ class Saying(unittest.TestCase):
         one = prepare(folio(whole=0, totals=[1000] * 512))
         self.assertTrue(one.is_capped)
         self.assertEqual(len(one.levels), LEVELS)
+
+    def test_counts_beside_a_plain_reading(self) -> None:
+        chance = random.Random(5)
+        for most in (1, 2, 3, 40, 254, 256, 65535):
+            totals = [chance.randrange(most + 1) for _ in range(512)]
+            for whole in (0, min(totals), 2):
+                highest = max(0, min(max(totals) - whole, LEVELS))
+                plain = [
+                    sum(1 << i for i, total in enumerate(totals) if total >= whole + level)
+                    for level in range(1, highest + 1)
+                ]
+                self.assertEqual(levels_of(totals, whole, highest), plain)
+
+    def test_locked_pages_before_they_were_passed_over(self) -> None:
+        self.assertTrue(prepare(folio(is_locked=True), locked_are_tried=True).is_standing)
+        with self.assertRaises(Unsayable) as raised:
+            prepare(folio(is_locked=True, zero=3), locked_are_tried=True)
+        self.assertIs(raised.exception.reason, Reason.ZEROS_STAY)
+        for kernel, tried in (("Linux 6.12.117+deb13-amd64", True), ("Linux 6.18.44", False), ("Linux 7.3.4", False)):
+            self.assertEqual(Snapshot([], {}, Counter(), kernel=kernel).locked_are_tried, tried)
 
     def test_comment(self) -> None:
         page = holed(3, bits_of(0, 500), zero=bits_of(0, 9), pins=1)
