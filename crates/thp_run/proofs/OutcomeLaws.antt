@@ -1,10 +1,10 @@
 -- From what each part of the program did to what the whole of it did.
-use Rattle.std.proofs.Common.{◌≡◌, ℕ, Bool, List, Option, Ok, Err, inl, inr}
+use Rattle.std.proofs.Common.{◌≡◌, ℕ, List, Ok, Err, inl, inr}
 use Rattle.std.specs.Prelude.{Result}
 use Rattle.clap.specs.Words.{kind_of}
 use Rattle.thp_options.specs.declared.line.Line.{Line}
 use Rattle.thp_text.specs.declared.fault.TextKind.{TextKind}
-use Rattle.thp_run.specs.Outcomes.{ended_by, Answers, Device, Does, IsEndedAs, IsToldAs, Served, WasAnswered}
+use Rattle.thp_run.specs.Outcomes.{clap_text, ended_by, Answers, Device, Does, IsEndedAs, IsToldAs, Served, Source, WasAnswered}
 use Rattle.thp_run.specs.declared.ending.ProgramFault.{ProgramFault}
 use Rattle.thp_run.specs.declared.ending.ProgramFault.TheVariants.{Run, Usage, NoText, Orders, Underused}
 use Rattle.thp_run.specs.declared.ending.WordsFault.{WordsFault}
@@ -13,13 +13,13 @@ use Rattle.thp_run.specs.declared.fault.RunFault.{RunFault}
 use Rattle.thp_run.specs.declared.fault.RunFault.TheVariants.{Text, OutOfMemory, Read, Write}
 
 -- an answer of `clap` doesn't end at a text's fault
-no_text_fault : (given : List (List ℕ)) (output : Device) (line : ℕ) (kind : TextKind) → WasAnswered given output (Err (Run (Text line kind))) → ⊥
-no_text_fault given output line kind a = go a.answer a.answered a.ended
+no_text_fault : (given : List (List ℕ)) (input : Source) (output : Device) (line : ℕ) (kind : TextKind) → WasAnswered given input output (Err (Run (Text line kind))) → ⊥
+no_text_fault given input output line kind a = go a.answer a.answered a.ended
   where
-    go : (r : Result (Unit {0}) ProgramFault) → Answers (kind_of a.error) output r → Err (Run (Text line kind)) ≡ ended_by r → ⊥
+    go : (r : Result (Unit {0}) ProgramFault) → Answers (clap_text a.error) (kind_of a.error) output r → Err (Run (Text line kind)) ≡ ended_by r → ⊥
     go (Ok u) h e = cc
     go (Err (Run fault)) (inl (request, inl shown)) e =
-        let is : fault ≡ Write = shown.3 in
+        let is : fault ≡ Write = shown.4 in
         cc
     go (Err (Run fault)) (inl (request, inr none)) e =
         let is : fault ≡ OutOfMemory = none.1 in
@@ -32,27 +32,27 @@ no_text_fault given output line kind a = go a.answer a.answered a.ended
     go (Err Underused) h e = absurd h
     go (Err NoText) h e = absurd h
 
-module _ (input : Option (List ℕ)) (input_failed : Bool) (output : Device) where
+module _ (input : Source) (output : Device) where
   -- what ended at a text's fault ended, too, as it does without memory
-  short : (line : Line) (number : ℕ) (kind : TextKind) → Does line input input_failed output (Err (Run (Text number kind))) → Does line input input_failed output (Err (Run OutOfMemory))
-  short line number kind (inl r) = inl (record { asked = r.asked; settings = r.settings; settings_are = r.settings_are; ends = (r.ends.1, r.ends.2, r.ends.3) })
-  short line number kind (inr r) = inr (record { asked = r.asked; ends = (r.ends.1, r.ends.2, r.ends.3) })
+  short : (line : Line) (number : ℕ) (kind : TextKind) → Does line input output (Err (Run (Text number kind))) → Does line input output (Err (Run OutOfMemory))
+  short line number kind (inl r) = inl (record { asked = r.asked; settings = r.settings; settings_are = r.settings_are; ends = (r.ends.1, r.ends.2, r.ends.3); reads = r.reads; writes = r.writes })
+  short line number kind (inr r) = inr (record { asked = r.asked; ends = (r.ends.1, r.ends.2, r.ends.3); reads = r.reads; writes = r.writes })
 
-  served_short : (given : Result (List (List ℕ)) WordsFault) (number : ℕ) (kind : TextKind) → Served given input input_failed output (Err (Run (Text number kind))) → Served given input input_failed output (Err (Run OutOfMemory))
+  served_short : (given : Result (List (List ℕ)) WordsFault) (number : ℕ) (kind : TextKind) → Served given input output (Err (Run (Text number kind))) → Served given input output (Err (Run OutOfMemory))
   served_short (Ok words) number kind (inl did) = inl (record { line = did.line; held = did.held; accepted = did.accepted; does = short did.line number kind did.does })
-  served_short (Ok words) number kind (inr (inl answered)) = absurd (no_text_fault words output number kind answered)
+  served_short (Ok words) number kind (inr (inl answered)) = absurd (no_text_fault words input output number kind answered)
   served_short (Ok words) number kind (inr (inr none)) = let is = none.0 in absurd cc
   served_short (Err words.NotText) number kind s = let is = s.0 in absurd cc
   served_short (Err words.OutOfMemory) number kind s = let is = s.0 in absurd cc
 
-  told_served : (given : Result (List (List ℕ)) WordsFault) (fault told : RunFault) → Served given input input_failed output (Err (Run fault)) → IsToldAs fault told → Served given input input_failed output (Err (Run told))
+  told_served : (given : Result (List (List ℕ)) WordsFault) (fault told : RunFault) → Served given input output (Err (Run fault)) → IsToldAs fault told → Served given input output (Err (Run told))
   told_served given (Text number kind) told s (inl e) = rw e s
   told_served given (Text number kind) told s (inr e) = rw e (served_short given number kind s)
   told_served given OutOfMemory told s e = rw e s
   told_served given Read told s e = rw e s
   told_served given Write told s e = rw e s
 
-  pub ended_served : (given : Result (List (List ℕ)) WordsFault) (fault ended : ProgramFault) → Served given input input_failed output (Err fault) → IsEndedAs fault ended → Served given input input_failed output (Err ended)
+  pub ended_served : (given : Result (List (List ℕ)) WordsFault) (fault ended : ProgramFault) → Served given input output (Err fault) → IsEndedAs fault ended → Served given input output (Err ended)
   ended_served given (Run fault) ended s (told, as_told, is) = rw is (told_served given fault told s as_told)
   ended_served given (Usage text) ended s is = rw is s
   ended_served given Orders ended s is = rw is s

@@ -13,11 +13,13 @@ use Rattle.thp_text.specs.declared.fault.TextKind.TheVariants.{TooLong}
 use Rattle.thp_text.proofs.ScriptLaws.{too_long}
 use Rattle.thp_journal_reader.specs.Journals.{journals_of}
 use Rattle.thp_run.specs.declared.fault.RunFault.{RunFault}
-use Rattle.thp_run.specs.declared.fault.RunFault.TheVariants.{Write}
+use Rattle.thp_run.specs.declared.fault.RunFault.TheVariants.{Text, OutOfMemory, Read, Write}
 use Rattle.thp_run.specs.Devices.{IsInputOf, WritesFront}
-use Rattle.thp_run.specs.Passages.{Ends}
+use Rattle.thp_run.specs.Calls.{WritesOn}
+use Rattle.thp_run.specs.declared.calls.Call.{Call}
+use Rattle.thp_run.specs.Passages.{Ends, WritesAnswer}
 use Rattle.thp_run.specs.Programs.{IsReport, RunEnds}
-use Rattle.thp_run.specs.RunFaults.{run_fault}
+use Rattle.thp_run.specs.RunFaults.{run_fault, IsReadingFault}
 use Rattle.thp_run.specs.Verdicts.{is_legal, CheckEnds, IsVerdict}
 
 pub keeps_same : (known : Option (List ℕ)) → Keeps known known
@@ -61,6 +63,25 @@ module _ {A : Type 0} (IsAnswer : List ℕ → A → List ℕ → Type 0) (HasFa
   pub ends_cut : (old new : Option (List ℕ)) (reader_failed writer_failed : Bool) (x : A) (text : List ℕ) (r : Result A RunFault) → IsAnswer bytes x text → WritesFront old new text → reader_failed ≡ false → writer_failed ≡ true → r ≡ Err Write
       → Ends IsAnswer HasFault known old new reader_failed writer_failed r
   ends_cut old new rf wf x text r answer cut e f is = rw is (front_of_input known read x text (λ t. WritesFront old new t) answer cut, e, f)
+
+-- ---- calls of the writer
+
+-- none was made where the reading failed
+pub none_at_reading : {A : Type 0} (r : Result A RunFault) (reader_failed writer_failed : Bool) (fault : RunFault) (calls : List Call) → IsReadingFault reader_failed fault → r ≡ Err fault → WritesAnswer r writer_failed calls calls
+none_at_reading r rf wf Read calls reading is = rw is refl
+none_at_reading r rf wf OutOfMemory calls reading is = rw is refl
+none_at_reading r rf wf Write calls reading is = absurd reading
+none_at_reading r rf wf (Text line kind) calls reading is = absurd reading
+
+-- none was made where the text was at fault
+pub none_at_fault : {A : Type 0} (r : Result A RunFault) (writer_failed : Bool) (fault : ReadFault) (calls : List Call) → r ≡ Err (run_fault fault) → WritesAnswer r writer_failed calls calls
+none_at_fault r wf (reading.Text line kind) calls is = rw is refl
+none_at_fault r wf reading.OutOfMemory calls is = rw is refl
+
+-- those of the answer, whether or not the writer failed
+pub of_answer : (o : Option (Unit {0})) (failed : Bool) (old new : List Call) → WritesOn failed old new → WritesAnswer (ok_or o Write) failed old new
+of_answer (Some u) failed old new w = w
+of_answer None failed old new w = w
 
 -- ---- scripts
 

@@ -1,3 +1,4 @@
+pub mod Calls
 pub mod Watch
 pub mod Devices
 pub mod RunFaults

@@ -1,15 +1,12 @@
 -- What the program does with its words, its input and its outputs, and its exit status (this project's profile).
-use Rattle.std.specs.Prelude.{◌≡◌, ◌≢◌, ◌⊎◌, ◌++◌, ◌∷◌, [], ℕ, Bool, true, false, List, Option, MatchBool, Result, Ok, Err, Vec, String, codes, map, string_bytes}
+use Rattle.std.specs.Prelude.{◌≡◌, ◌≢◌, ◌⊎◌, ◌++◌, ◌∷◌, [], ℕ, Bool, true, false, List, Option, None, Some, IfSome, MatchBool, Result, Ok, Err, Vec, String, codes, map, string_bytes}
 use Rattle.std.specs.declared.alloc.Global.{Global}
-use Rattle.std.specs.Fmt.{decimal}
 use Rattle.std.specs.Io.KnownBytes.{Keeps, Appends}
 use Rattle.clap.specs.Words.{kind_of}
 use Rattle.clap.specs.declared.error.Error.{Error}
 use Rattle.clap.specs.declared.error.kind.ErrorKind.{ErrorKind}
 use Rattle.clap.specs.declared.error.kind.ErrorKind.TheVariants.{DisplayHelp, DisplayVersion, OutOfMemory as NoMemory}
-use Rattle.thp_text.specs.declared.fault.TextKind.{TextKind}
 use Rattle.thp_text.specs.declared.settings.Settings.{Settings}
-use Rattle.thp_text.specs.TextKinds.{kind_word}
 use Rattle.thp_run.specs.declared.ending.Ending.{Ending}
 use Rattle.thp_run.specs.declared.ending.Ending.TheVariants.{Written, Illegal}
 use Rattle.thp_run.specs.declared.ending.ProgramFault.{ProgramFault}
@@ -20,10 +17,15 @@ use Rattle.thp_run.specs.declared.fault.RunFault.{RunFault}
 use Rattle.thp_run.specs.declared.fault.RunFault.TheVariants.{Text, OutOfMemory, Read, Write}
 use Rattle.thp_options.specs.declared.line.Line.{Line}
 use Rattle.thp_options.specs.CommandLine.{FailsAsWords, HoldsWords}
+use Rattle.thp_run.specs.declared.calls.Call.{Call}
+use Rattle.thp_run.specs.Calls.{ReadsOn, WritesOn}
 use Rattle.thp_run.specs.Choices.{HasBadOrders, HasOnlyBadThresholds, IsSettingsOf}
 use Rattle.thp_run.specs.Devices.{WritesFront}
+use Rattle.thp_run.specs.Passages.{WritesAnswer}
 use Rattle.thp_run.specs.Programs.{RunEnds}
+use Rattle.thp_run.specs.RunFaults.{fault_text}
 use Rattle.thp_run.specs.Verdicts.{CheckEnds}
+use Rattle.thp_run.specs.Watch.{Watch}
 
 -- ---- lines on standard error, and exit statuses
 
@@ -31,16 +33,9 @@ use Rattle.thp_run.specs.Verdicts.{CheckEnds}
 abbrev pub line_of : List ℕ → List ℕ
 line_of text = text ++ (10 ∷ [])
 
--- the line that tells the first fault of a text
-unfoldable pub text_fault_line : ℕ → TextKind → List ℕ
-text_fault_line line kind = codes "thpsplit: line " ++ decimal line ++ codes ": " ++ kind_word kind ++ (10 ∷ [])
-
--- the line that tells a fault of a run
-abbrev pub fault_line : RunFault → List ℕ
-fault_line (Text line kind) = text_fault_line line kind
-fault_line OutOfMemory = line_of (codes "thpsplit: out of memory")
-fault_line Read = line_of (codes "thpsplit: read failed")
-fault_line Write = line_of (codes "thpsplit: write failed")
+-- the line that tells a fault of a run: what the fault displays, behind the program's name
+unfoldable pub fault_line : RunFault → List ℕ
+fault_line fault = codes "thpsplit: " ++ fault_text fault ++ (10 ∷ [])
 
 -- what standard error tells: of a run's fault its line; of words that are at fault `clap`'s text
 abbrev pub told_text : ProgramFault → List ℕ
@@ -72,18 +67,40 @@ end_status Illegal = 1
 
 -- ---- devices
 
--- a writer: the bytes that it held before and holds after, where they are known, and whether it failed
+-- a writer: the bytes that it held before and holds after, where they are known, whether it failed, and its calls before and after
 pub record Device : Type 0 where
   pub before : Option (List ℕ)
   pub after : Option (List ℕ)
   pub failed : Bool
+  pub called : List Call
+  pub calls : List Call
 
+-- a writer before and after, by the bytes that it holds
+abbrev pub device_of : {W : Type 0} → (W → Option (List ℕ)) → Watch W → Watch W → Device
+device_of contents old new = record { before = contents old.device; after = contents new.device; failed = new.failed; called = old.calls; calls = new.calls }
+
+-- no call was made of the writer
 abbrev pub IsUntouched : Device → Type 0
-IsUntouched w = Keeps w.before w.after × (w.failed ≡ false)
+IsUntouched w = Keeps w.before w.after × (w.failed ≡ false) × (w.calls ≡ w.called)
 
--- the writer took the text, or a front of it where it failed
+-- the writer took the text, or a front of it where it failed, and was flushed once where no write failed
 abbrev pub Takes : Device → List ℕ → Type 0
-Takes w text = MatchBool w.failed (WritesFront w.before w.after text) (Appends w.before w.after text)
+Takes w text = MatchBool w.failed (WritesFront w.before w.after text) (Appends w.before w.after text) × WritesOn w.failed w.called w.calls
+
+-- a reader: the bytes that it had to give, where they are known, whether it failed, and its calls before and after
+pub record Source : Type 0 where
+  pub bytes : Option (List ℕ)
+  pub failed : Bool
+  pub called : List Call
+  pub calls : List Call
+
+-- a reader before and after, by the bytes that it has left
+abbrev pub source_of : {R : Type 0} → (R → Option (List ℕ)) → Watch R → Watch R → Source
+source_of remaining old new = record { bytes = remaining old.device; failed = new.failed; called = old.calls; calls = new.calls }
+
+-- no call was made of the reader
+abbrev pub IsUnread : Source → Type 0
+IsUnread r = (r.failed ≡ false) × (r.calls ≡ r.called)
 
 -- ---- what was done
 
@@ -93,33 +110,37 @@ given_words (Ok words) = Ok (map string_bytes words.items)
 given_words (Err fault) = Err fault
 
 -- the run that a line asks for ended so
-pub record Runs (line : Line) (input : Option (List ℕ)) (input_failed : Bool) (output : Device) (result : Result (Unit {0}) RunFault) : Type 0 where
+pub record Runs (line : Line) (input : Source) (output : Device) (result : Result (Unit {0}) RunFault) : Type 0 where
   pub asked : line.check ≡ false
   pub settings : Settings
   pub settings_are : IsSettingsOf line settings
-  pub ends : RunEnds settings input output.before output.after input_failed output.failed result
+  pub ends : RunEnds settings input.bytes output.before output.after input.failed output.failed result
+  pub reads : ReadsOn input.failed input.called input.calls
+  pub writes : WritesAnswer result output.failed output.called output.calls
 
 -- the check that a line asks for ended so
-pub record Checks (line : Line) (input : Option (List ℕ)) (input_failed : Bool) (output : Device) (result : Result Bool RunFault) : Type 0 where
+pub record Checks (line : Line) (input : Source) (output : Device) (result : Result Bool RunFault) : Type 0 where
   pub asked : line.check ≡ true
-  pub ends : CheckEnds input output.before output.after input_failed output.failed result
+  pub ends : CheckEnds input.bytes output.before output.after input.failed output.failed result
+  pub reads : ReadsOn input.failed input.called input.calls
+  pub writes : WritesAnswer result output.failed output.called output.calls
 
--- what was done for a line, by how it ended
-abbrev pub Does : Line → Option (List ℕ) → Bool → Device → Result Ending ProgramFault → Type 0
-Does line input input_failed output (Ok Written) = Runs line input input_failed output (Ok tt) ⊎ Checks line input input_failed output (Ok true)
-Does line input input_failed output (Ok Illegal) = Checks line input input_failed output (Ok false)
-Does line input input_failed output (Err (Run fault)) = Runs line input input_failed output (Err fault) ⊎ Checks line input input_failed output (Err fault)
-Does line input input_failed output (Err Orders) = (line.check ≡ false) × HasBadOrders line.orders line.nodes × IsUntouched output
-Does line input input_failed output (Err Underused) = (line.check ≡ false) × HasOnlyBadThresholds line × IsUntouched output
-Does line input input_failed output (Err (Usage text)) = ⊥
-Does line input input_failed output (Err NoText) = ⊥
+-- what was done for a line, by how it ended; options that don't fit are judged before anything is read
+abbrev pub Does : Line → Source → Device → Result Ending ProgramFault → Type 0
+Does line input output (Ok Written) = Runs line input output (Ok tt) ⊎ Checks line input output (Ok true)
+Does line input output (Ok Illegal) = Checks line input output (Ok false)
+Does line input output (Err (Run fault)) = Runs line input output (Err fault) ⊎ Checks line input output (Err fault)
+Does line input output (Err Orders) = (line.check ≡ false) × HasBadOrders line.orders line.nodes × IsUnread input × IsUntouched output
+Does line input output (Err Underused) = (line.check ≡ false) × HasOnlyBadThresholds line × IsUnread input × IsUntouched output
+Does line input output (Err (Usage text)) = ⊥
+Does line input output (Err NoText) = ⊥
 
 -- the words ask for this line, and that was done
-pub record DidLine (words : List (List ℕ)) (input : Option (List ℕ)) (input_failed : Bool) (output : Device) (result : Result Ending ProgramFault) : Type 0 where
+pub record DidLine (words : List (List ℕ)) (input : Source) (output : Device) (result : Result Ending ProgramFault) : Type 0 where
   pub line : Line
   pub held : HoldsWords words line
   pub accepted : FailsAsWords words (Ok line)
-  pub does : Does line input input_failed output result
+  pub does : Does line input output result
 
 -- help or the version was asked for
 abbrev pub is_request : ErrorKind → Bool
@@ -127,44 +148,53 @@ is_request DisplayHelp = true
 is_request DisplayVersion = true
 is_request _ = false
 
--- the writer took a text, or a front of it where it failed, or memory for it was refused
-abbrev pub IsShown : Device → Result (Unit {0}) RunFault → Type 0
-IsShown output (Ok _) = (text : List ℕ) × Takes output text × (output.failed ≡ false)
-IsShown output (Err fault) =
-    ((text : List ℕ) × Takes output text × (output.failed ≡ true) × (fault ≡ Write))
+-- the text is the one that a value displays, where its type says which that is
+abbrev pub IsTextOf : Option (List ℕ) → List ℕ → Type 0
+IsTextOf shown text = IfSome shown (λ known. text ≡ known)
+
+-- the writer took what a value displays, or a front of it where it failed, or memory for the text was refused
+abbrev pub IsShown : Option (List ℕ) → Device → Result (Unit {0}) RunFault → Type 0
+IsShown shown output (Ok _) = (text : List ℕ) × IsTextOf shown text × Takes output text × (output.failed ≡ false)
+IsShown shown output (Err fault) =
+    ((text : List ℕ) × IsTextOf shown text × Takes output text × (output.failed ≡ true) × (fault ≡ Write))
     ⊎ (IsUntouched output × (fault ≡ OutOfMemory))
 
--- how an answer of `clap` of this kind ends: shown, told as memory that was refused, or told as a fault of the words
-abbrev pub Answers : ErrorKind → Device → Result (Unit {0}) ProgramFault → Type 0
-Answers kind output (Ok u) = (is_request kind ≡ true) × IsShown output (Ok u)
-Answers kind output (Err (Run fault)) = ((is_request kind ≡ true) × IsShown output (Err fault)) ⊎ (IsUntouched output × (fault ≡ OutOfMemory))
-Answers kind output (Err (Usage text)) = (is_request kind ≡ false) × (kind ≢ NoMemory) × IsUntouched output
-Answers kind output (Err Orders) = ⊥
-Answers kind output (Err Underused) = ⊥
-Answers kind output (Err NoText) = ⊥
+-- How an answer of this kind ends: what it displays is shown, told as memory that was refused, or told as a fault of the words.
+abbrev pub Answers : Option (List ℕ) → ErrorKind → Device → Result (Unit {0}) ProgramFault → Type 0
+Answers shown kind output (Ok u) = (is_request kind ≡ true) × IsShown shown output (Ok u)
+Answers shown kind output (Err (Run fault)) = ((is_request kind ≡ true) × IsShown shown output (Err fault)) ⊎ (IsUntouched output × (fault ≡ OutOfMemory))
+Answers shown kind output (Err (Usage text)) = (is_request kind ≡ false) × (kind ≢ NoMemory) × IsTextOf shown (string_bytes text) × IsUntouched output
+Answers shown kind output (Err Orders) = ⊥
+Answers shown kind output (Err Underused) = ⊥
+Answers shown kind output (Err NoText) = ⊥
+
+-- what `clap`'s errors display: `clap` doesn't say
+abbrev pub clap_text : Error → Option (List ℕ)
+clap_text error = None
 
 -- an answer ends the program, too
 abbrev pub ended_by : Result (Unit {0}) ProgramFault → Result Ending ProgramFault
 ended_by (Ok _) = Ok Written
 ended_by (Err fault) = Err fault
 
--- `clap` answers the words by an error, and that was shown or told
-pub record WasAnswered (words : List (List ℕ)) (output : Device) (result : Result Ending ProgramFault) : Type 0 where
+-- `clap` answers the words by an error, and that was shown or told; nothing was read
+pub record WasAnswered (words : List (List ℕ)) (input : Source) (output : Device) (result : Result Ending ProgramFault) : Type 0 where
   pub error : Error
   pub refused : FailsAsWords words (Err error)
   pub answer : Result (Unit {0}) ProgramFault
-  pub answered : Answers (kind_of error) output answer
+  pub answered : Answers (clap_text error) (kind_of error) output answer
+  pub unread : IsUnread input
   pub ended : result ≡ ended_by answer
 
 -- memory was refused before anything was asked for
-abbrev pub IsShort : Device → Result Ending ProgramFault → Type 0
-IsShort output result = (result ≡ Err (Run OutOfMemory)) × IsUntouched output
+abbrev pub IsShort : Source → Device → Result Ending ProgramFault → Type 0
+IsShort input output result = (result ≡ Err (Run OutOfMemory)) × IsUntouched output × IsUnread input
 
 -- what was done with the words, the input and standard output, by how it ended
-abbrev pub Served : Result (List (List ℕ)) WordsFault → Option (List ℕ) → Bool → Device → Result Ending ProgramFault → Type 0
-Served (Ok words) input input_failed output result = DidLine words input input_failed output result ⊎ (WasAnswered words output result ⊎ IsShort output result)
-Served (Err words.NotText) input input_failed output result = (result ≡ Err NoText) × IsUntouched output
-Served (Err words.OutOfMemory) input input_failed output result = IsShort output result
+abbrev pub Served : Result (List (List ℕ)) WordsFault → Source → Device → Result Ending ProgramFault → Type 0
+Served (Ok words) input output result = DidLine words input output result ⊎ (WasAnswered words input output result ⊎ IsShort input output result)
+Served (Err words.NotText) input output result = (result ≡ Err NoText) × IsUntouched output × IsUnread input
+Served (Err words.OutOfMemory) input output result = IsShort input output result
 
 -- what a fault of a run is told as: without memory for its line the first fault of a text is told as that
 abbrev pub IsToldAs : RunFault → RunFault → Type 0
@@ -187,7 +217,7 @@ Tells errors status (Ok ending) = IsUntouched errors × (status ≡ end_status e
 Tells errors status (Err fault) = Takes errors (told_text fault) × (status ≡ exit_status fault)
 
 -- how the program ends: what it did, what it told of that and its exit status
-pub record Finishes (given : Result (List (List ℕ)) WordsFault) (input : Option (List ℕ)) (input_failed : Bool) (output errors : Device) (status : ℕ) : Type 0 where
+pub record Finishes (given : Result (List (List ℕ)) WordsFault) (input : Source) (output errors : Device) (status : ℕ) : Type 0 where
   pub end : Result Ending ProgramFault
-  pub served : Served given input input_failed output end
+  pub served : Served given input output end
   pub told : Tells errors status end

@@ -4,7 +4,9 @@ use Rattle.std.specs.Io.KnownBytes.{Keeps, Appends}
 use Rattle.thp_text.specs.Scripts.{Fault}
 use Rattle.thp_run.specs.declared.fault.RunFault.{RunFault}
 use Rattle.thp_run.specs.declared.fault.RunFault.TheVariants.{Text, OutOfMemory, Read, Write}
+use Rattle.thp_run.specs.Calls.{WritesOn}
 use Rattle.thp_run.specs.Devices.{WritesFront}
+use Rattle.thp_run.specs.declared.calls.Call.{Call}
 
 -- How it ends, by what there is to read, by what the writer held before and holds after, and by whether the reader and the
 -- writer failed. `IsAnswer bytes x text` says which text answers these bytes, and what else is told of them; `HasFault bytes`
@@ -18,3 +20,11 @@ Ends IsAnswer HasFault input old new reader_failed writer_failed (Err OutOfMemor
 Ends IsAnswer HasFault input old new reader_failed writer_failed (Err Read) = Keeps old new × (reader_failed ≡ true) × (writer_failed ≡ false)
 Ends {A} IsAnswer HasFault input old new reader_failed writer_failed (Err Write) =
     IfSome input (λ bytes. (x : A) × (text : List ℕ) × IsAnswer bytes x text × WritesFront old new text) × (reader_failed ≡ false) × (writer_failed ≡ true)
+
+-- The calls of the writer: those of one text where an answer was written or the writer failed, and else none.
+abbrev pub WritesAnswer : {A : Type 0} → Result A RunFault → Bool → List Call → List Call → Type 0
+WritesAnswer (Ok x) failed old new = WritesOn failed old new
+WritesAnswer (Err Write) failed old new = WritesOn failed old new
+WritesAnswer (Err (Text line kind)) failed old new = new ≡ old
+WritesAnswer (Err OutOfMemory) failed old new = new ≡ old
+WritesAnswer (Err Read) failed old new = new ≡ old

@@ -1,9 +1,18 @@
 -- The faults of a run.
-use Rattle.std.specs.Prelude.{◌≡◌, Bool, true, false}
+use Rattle.std.specs.Prelude.{◌≡◌, ◌++◌, ℕ, Bool, true, false, List, codes}
+use Rattle.std.specs.Fmt.{decimal}
+use Rattle.thp_text.specs.TextKinds.{kind_word}
 use Rattle.thp_text.specs.declared.fault.ReadFault.{ReadFault}
 use Rattle.thp_text.specs.declared.fault.ReadFault.TheVariants as reading
 use Rattle.thp_run.specs.declared.fault.RunFault.{RunFault}
 use Rattle.thp_run.specs.declared.fault.RunFault.TheVariants.{Text, OutOfMemory, Read, Write}
+
+-- what a fault of a run displays: of a text's first fault its line and the word of its kind
+abbrev pub fault_text : RunFault → List ℕ
+fault_text (Text line kind) = codes "line " ++ decimal line ++ codes ": " ++ kind_word kind
+fault_text OutOfMemory = codes "out of memory"
+fault_text Read = codes "read failed"
+fault_text Write = codes "write failed"
 
 -- a failed read sets the reader's flag, and want of memory doesn't
 abbrev pub IsReadingFault : Bool → RunFault → Type 0

@@ -1,5 +1,7 @@
 //! From the bytes of a journal to whether it is legal.
 ghost use Rattle.std.specs.Prelude.{◌≡◌, IfOk, false, string_bytes};
+ghost use Rattle.thp_run.specs.Calls.{ReadsOn};
+ghost use Rattle.thp_run.specs.Passages.{WritesAnswer};
 ghost use Rattle.thp_run.specs.Verdicts.{verdict_text, CheckEnds};
 
 use crate::device::{read_journal_parts, write_text};
@@ -29,7 +31,9 @@ pub fn check_run<R: Read, W: Write>(
 ) -> Result<bool, RunFault>
     requires reader { reader.old.failed ≡ false }
     requires writer { writer.old.failed ≡ false }
-    ensures { CheckEnds (R.remaining reader.old.device) (W.contents writer.old.device) (W.contents writer.new.device) reader.new.failed writer.new.failed result }
+    ensures ends { CheckEnds (R.remaining reader.old.device) (W.contents writer.old.device) (W.contents writer.new.device) reader.new.failed writer.new.failed result }
+    ensures reads { ReadsOn reader.new.failed reader.old.calls reader.new.calls }
+    ensures writes { WritesAnswer result writer.new.failed writer.old.calls writer.new.calls }
 {
     let parts = read_journal_parts(alloc, reader)?;
     let journals = parts.finish()?;

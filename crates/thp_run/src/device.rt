@@ -2,6 +2,7 @@
 ghost use Rattle.std.specs.Prelude.{◌≡◌, ◌++◌, [], ℕ, List, true, false, refl, IfSome, IfNone, IfErr, IfOk};
 ghost use Rattle.std.proofs.Common.{◌∙◌, ap, append_assoc, sym};
 ghost use Rattle.std.specs.Io.KnownBytes.{Appends};
+ghost use Rattle.thp_run.specs.Calls.{ReadsOn, WritesOn};
 ghost use Rattle.thp_run.specs.Devices.{IsInputOf, WritesFront};
 ghost use Rattle.thp_run.specs.RunFaults.{IsReadingFault};
 ghost use Rattle.thp_journal_reader.specs.Journals.{journals_of};
@@ -72,6 +73,7 @@ fn read_parts<R: Read, P: ReadsParts + Drop>(
     ensures parts { IfOk result (λ last. (bytes : List ℕ) × IfSome (R.remaining reader.old.device) (IsInputOf bytes) × P.has_read first bytes last) }
     ensures flag { IfOk result (λ _. reader.new.failed ≡ false) }
     ensures fault { IfErr result (IsReadingFault reader.new.failed) }
+    ensures calls { ReadsOn reader.new.failed reader.old.calls reader.new.calls }
 {
     let mut text = first;
     let mut part = [0u8; PART];
@@ -100,6 +102,7 @@ pub(crate) fn read_script_parts<'a, R: Read>(
     ensures settings { IfOk result (λ script. script.settings ≡ settings.now) }
     ensures flag { IfOk result (λ _. reader.new.failed ≡ false) }
     ensures fault { IfErr result (IsReadingFault reader.new.failed) }
+    ensures calls { ReadsOn reader.new.failed reader.old.calls reader.new.calls }
 {
     let script = ScriptReader::new(alloc, settings)?;
     read_parts(script, reader)
@@ -114,17 +117,20 @@ pub(crate) fn read_journal_parts<R: Read>(
     ensures parts { IfOk result (λ journals. (bytes : List ℕ) × IfSome (R.remaining reader.old.device) (IsInputOf bytes) × (told_with journals [] ≡ journals_of bytes)) }
     ensures flag { IfOk result (λ _. reader.new.failed ≡ false) }
     ensures fault { IfErr result (IsReadingFault reader.new.failed) }
+    ensures calls { ReadsOn reader.new.failed reader.old.calls reader.new.calls }
 {
     read_parts(JournalReader::new(alloc), reader)
 }
 
-/// Writes a text and flushes. At `None` the writer failed, and took some front of the text.
+/// Writes a text and flushes, once. At `None` the writer failed, and took some front of the text; no call comes behind the
+/// one that failed.
 pub(crate) fn write_text<W: Write>(writer: &mut Watched<W>, text: &[u8]) -> Option<()>
     requires { writer.old.failed ≡ false }
     ensures written { IfSome result (λ _. Appends (W.contents writer.old.device) (W.contents writer.new.device) text.now) }
     ensures cut { IfNone result (WritesFront (W.contents writer.old.device) (W.contents writer.new.device) text.now) }
     ensures flag { IfSome result (λ _. writer.new.failed ≡ false) }
     ensures failed { IfNone result (writer.new.failed ≡ true) }
+    ensures calls { WritesOn writer.new.failed writer.old.calls writer.new.calls }
 {
     let mut rest = text;
     while !rest.is_empty() {

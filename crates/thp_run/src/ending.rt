@@ -5,13 +5,16 @@ ghost use Rattle.thp_run.specs.declared.fault.RunFault.TheVariants.{OutOfMemory}
 
 use crate::fault::RunFault;
 use std::alloc::AllocError;
+use thiserror::Error;
 
 /// Why the words of a command line can't be had.
-#[derive(Clone, Copy, Debug, PartialEq, Eq)]
+#[derive(Clone, Copy, Debug, Error, PartialEq, Eq)]
 pub enum WordsFault {
     /// One of them isn't text.
+    #[error("a word isn't text")]
     NotText,
     /// Memory was refused.
+    #[error("out of memory")]
     OutOfMemory,
 }
 
@@ -25,17 +28,22 @@ pub enum Ending {
 }
 
 /// Why the program didn't do what it was asked for.
-#[derive(Debug, Drop)]
+#[derive(Debug, Drop, Error)]
 pub enum ProgramFault {
     /// A run, or the writing of a text that was asked for, ended so.
+    #[error(transparent)]
     Run(RunFault),
     /// The words of the command line are at fault; the text is `clap`'s.
+    #[error("{0}")]
     Usage(String),
     /// The option `--orders` lists no orders for the nodes.
+    #[error("bad orders")]
     Orders,
     /// The option `--underused` lists no thresholds for the nodes.
+    #[error("bad underused")]
     Underused,
     /// A word of the command line isn't text.
+    #[error("a word isn't text")]
     NoText,
 }
 

@@ -1,6 +1,8 @@
 //! The program `thpsplit`: what it does with the words of its command line, its input and its outputs.
 #![tactic(auto)]
 
+mod answering;
+mod calls;
 mod checking;
 mod choice;
 mod device;

@@ -1,19 +1,16 @@
 //! The program: from the words of its command line to its exit status.
 ghost use Rattle.std.specs.Prelude.{◌≡◌, IfOk, false, map, string_bytes};
-ghost use Rattle.clap.specs.Words.{kind_of};
 ghost use Rattle.thp_options.specs.CommandLine.{IsLineWithinLimits};
-ghost use Rattle.thp_run.specs.Outcomes.{given_words, is_request, Answers, Does, Finishes, IsShown, Served};
+ghost use Rattle.thp_run.specs.Outcomes.{device_of, given_words, source_of, Does, Finishes, Served};
 
+use crate::answering::answer;
 use crate::checking::check_run;
 use crate::choice::settings_of;
-use crate::device::write_text;
 use crate::ending::{Ending, ProgramFault, WordsFault};
 use crate::fault::RunFault;
 use crate::running::run;
 use crate::telling::{status_of_ending, tell};
 use crate::watched::Watched;
-use clap::Error;
-use clap::error::ErrorKind;
 use std::alloc::{AllocError, Global};
 use std::io::{Read, Write};
 use std::thread::Threads;
@@ -42,7 +39,7 @@ fn do_line<T: Threads + Sync, R: Read, W: Write>(
     requires within { IsLineWithinLimits line.now }
     requires reader { reader.old.failed ≡ false }
     requires output { output.old.failed ≡ false }
-    ensures { Does line.now (R.remaining reader.old.device) reader.new.failed (record { before = W.contents output.old.device; after = W.contents output.new.device; failed = output.new.failed }) result }
+    ensures { Does line.now (source_of R.remaining reader.old reader.new) (device_of W.contents output.old output.new) result }
 {
     if line.check {
         if check_run(alloc, reader, output)? {
@@ -55,42 +52,6 @@ fn do_line<T: Threads + Sync, R: Read, W: Write>(
     Ok(Ending::Written)
 }
 
-/// Whether help or the version was asked for.
-fn is_request(kind: ErrorKind) -> bool
-    ensures { result ≡ is_request kind }
-{
-    matches!(kind, ErrorKind::DisplayHelp | ErrorKind::DisplayVersion)
-}
-
-/// Writes the text that was asked for.
-fn show<W: Write>(alloc: Global, error: &Error, output: &mut Watched<W>) -> Result<(), RunFault>
-    requires { output.old.failed ≡ false }
-    ensures { IsShown (record { before = W.contents output.old.device; after = W.contents output.new.device; failed = output.new.failed }) result }
-{
-    let text = format!(in alloc; "{error}")?;
-    write_text(output, text.as_bytes()).ok_or(RunFault::Write)
-}
-
-/// Shows what was asked for, or tells that the words are at fault.
-fn answer<W: Write>(
-    alloc: Global,
-    error: &Error,
-    output: &mut Watched<W>,
-) -> Result<(), ProgramFault>
-    requires { output.old.failed ≡ false }
-    ensures { Answers (kind_of error.now) (record { before = W.contents output.old.device; after = W.contents output.new.device; failed = output.new.failed }) result }
-{
-    let kind = error.kind();
-    if is_request(kind) {
-        show(alloc, error, output)?;
-        return Ok(());
-    }
-    if kind == ErrorKind::OutOfMemory {
-        return Err(ProgramFault::Run(RunFault::OutOfMemory));
-    }
-    Err(ProgramFault::Usage(format!(in alloc; "{error}")?))
-}
-
 /// Does what the words ask for.
 fn serve<T: Threads + Sync, R: Read, W: Write>(
     rt: &T,
@@ -101,7 +62,7 @@ fn serve<T: Threads + Sync, R: Read, W: Write>(
 ) -> Result<Ending, ProgramFault>
     requires reader { reader.old.failed ≡ false }
     requires output { output.old.failed ≡ false }
-    ensures { Served (given_words words.now) (R.remaining reader.old.device) reader.new.failed (record { before = W.contents output.old.device; after = W.contents output.new.device; failed = output.new.failed }) result }
+    ensures { Served (given_words words.now) (source_of R.remaining reader.old reader.new) (device_of W.contents output.old output.new) result }
 {
     let words = match words {
         Ok(words) => words,
@@ -135,7 +96,7 @@ pub fn run_program<T: Threads + Sync, R: Read, W: Write, E: Write>(
     requires reader { reader.old.failed ≡ false }
     requires output { output.old.failed ≡ false }
     requires errors { errors.old.failed ≡ false }
-    ensures { Finishes (given_words words) (R.remaining reader.old.device) reader.new.failed (record { before = W.contents output.old.device; after = W.contents output.new.device; failed = output.new.failed }) (record { before = E.contents errors.old.device; after = E.contents errors.new.device; failed = errors.new.failed }) result }
+    ensures { Finishes (given_words words) (source_of R.remaining reader.old reader.new) (device_of W.contents output.old output.new) (device_of E.contents errors.old errors.new) result }
 {
     match serve(rt, alloc, &words, reader, output) {
         Ok(ending) => status_of_ending(ending),

@@ -1,5 +1,7 @@
 //! From the bytes of a script to the bytes of its report.
 ghost use Rattle.std.specs.Prelude.{◌≡◌, ℕ, List, IfOk, Ok, false};
+ghost use Rattle.thp_run.specs.Calls.{ReadsOn};
+ghost use Rattle.thp_run.specs.Passages.{WritesAnswer};
 ghost use Rattle.thp_run.specs.Programs.{IsReport, RunEnds};
 ghost use Rattle.thp_text.specs.Scripts.{script_of, IsScriptFor};
 
@@ -49,7 +51,9 @@ pub fn run<T: Threads + Sync, R: Read, W: Write, G: Gate + Sync>(
 ) -> Result<(), RunFault>
     requires reader { reader.old.failed ≡ false }
     requires writer { writer.old.failed ≡ false }
-    ensures { RunEnds settings.now (R.remaining reader.old.device) (W.contents writer.old.device) (W.contents writer.new.device) reader.new.failed writer.new.failed result }
+    ensures ends { RunEnds settings.now (R.remaining reader.old.device) (W.contents writer.old.device) (W.contents writer.new.device) reader.new.failed writer.new.failed result }
+    ensures reads { ReadsOn reader.new.failed reader.old.calls reader.new.calls }
+    ensures writes { WritesAnswer result writer.new.failed writer.old.calls writer.new.calls }
 {
     let parts = read_script_parts(alloc, settings, reader)?;
     let script = parts.finish()?;

@@ -2,7 +2,7 @@
 ghost use Rattle.std.specs.Prelude.{◌≡◌, IfOk, Err, false, string_bytes};
 ghost use Rattle.thp_run.specs.declared.ending.ProgramFault.{ProgramFault as Ended};
 ghost use Rattle.thp_run.specs.declared.fault.RunFault.{RunFault as ToldFault};
-ghost use Rattle.thp_run.specs.Outcomes.{end_status, fault_line, status_of, text_fault_line, IsEndedAs, IsToldAs, Takes, Tells};
+ghost use Rattle.thp_run.specs.Outcomes.{device_of, end_status, fault_line, status_of, IsEndedAs, IsToldAs, Takes, Tells};
 
 use crate::device::write_text;
 use crate::ending::{Ending, ProgramFault};
@@ -10,7 +10,6 @@ use crate::fault::RunFault;
 use crate::watched::Watched;
 use std::alloc::{AllocError, Global};
 use std::io::Write;
-use thp_text::TextKind;
 
 /// The exit status where the report, the verdict or the text that was asked for was written.
 const DONE: u8 = 0;
@@ -31,33 +30,31 @@ pub(crate) fn status_of_ending(ending: Ending) -> u8
     }
 }
 
-/// The line that tells the first fault of a text.
-#[tactic(auto, unfolding(crate::specs::Outcomes::text_fault_line))]
-fn text_fault_line(alloc: Global, line: u32, kind: TextKind) -> Result<String, AllocError>
-    ensures { IfOk result (λ text. string_bytes text ≡ text_fault_line line kind) }
+/// The line that tells a fault of a run.
+#[tactic(auto, unfolding(crate::specs::Outcomes::fault_line))]
+fn line_of(alloc: Global, fault: &RunFault) -> Result<String, AllocError>
+    ensures { IfOk result (λ text. string_bytes text ≡ fault_line fault.now) }
 {
-    let word = kind.word();
-    let mut text = String::new(alloc);
-    write!(text, "thpsplit: line {line}: {word}\n")?;
-    Ok(text)
+    Ok(format!(in alloc; "thpsplit: {fault}\n")?)
 }
 
 /// Writes a text to standard error; where that fails there is nowhere to tell it.
 fn put<E: Write>(errors: &mut Watched<E>, text: &[u8])
     requires { errors.old.failed ≡ false }
-    ensures { Takes (record { before = E.contents errors.old.device; after = E.contents errors.new.device; failed = errors.new.failed }) text.now }
+    ensures { Takes (device_of E.contents errors.old errors.new) text.now }
 {
     let _ = write_text(errors, text);
 }
 
-/// Tells how a run ended, and gives the exit status.
+/// Tells how a run ended, and gives the exit status. The faults that a text isn't at take no memory for their lines.
+#[tactic(auto, unfolding(crate::specs::Outcomes::fault_line))]
 fn tell_run<E: Write>(alloc: Global, fault: RunFault, errors: &mut Watched<E>) -> u8
     requires { errors.old.failed ≡ false }
-    ensures { (told : ToldFault) × IsToldAs fault told × Takes (record { before = E.contents errors.old.device; after = E.contents errors.new.device; failed = errors.new.failed }) (fault_line told) × (result ≡ status_of told) }
+    ensures { (told : ToldFault) × IsToldAs fault told × Takes (device_of E.contents errors.old errors.new) (fault_line told) × (result ≡ status_of told) }
 {
     match fault {
-        RunFault::Text { line, kind } => {
-            if let Ok(text) = text_fault_line(alloc, line, kind) {
+        RunFault::Text { .. } => {
+            if let Ok(text) = line_of(alloc, &fault) {
                 put(errors, text.as_bytes());
                 return FAULTY;
             }
@@ -73,7 +70,7 @@ fn tell_run<E: Write>(alloc: Global, fault: RunFault, errors: &mut Watched<E>) -
 /// Tells why the program didn't do what it was asked for, and gives the exit status.
 pub(crate) fn tell<E: Write>(alloc: Global, fault: ProgramFault, errors: &mut Watched<E>) -> u8
     requires { errors.old.failed ≡ false }
-    ensures { (ended : Ended) × IsEndedAs fault ended × Tells (record { before = E.contents errors.old.device; after = E.contents errors.new.device; failed = errors.new.failed }) result (Err ended) }
+    ensures { (ended : Ended) × IsEndedAs fault ended × Tells (device_of E.contents errors.old errors.new) result (Err ended) }
 {
     match fault {
         ProgramFault::Run(fault) => tell_run(alloc, fault, errors),

@@ -1,10 +1,12 @@
-use Rattle.std.proofs.Common.{◌∙◌, ◌++◌, [], arith, refl, rules, take}
+use Rattle.std.proofs.Common.{◌∙◌, ◌++◌, [], arith, refl, rules, take, true, false}
 use Rattle.std.proofs.lemmas.List.{length-append, length-take-le}
+use Rattle.thp_run.specs.declared.calls.Call.TheVariants as call
+use Rattle.thp_run.proofs.CallLaws.{follow_more, follow_none, reads_by, reads_on}
 use Rattle.thp_run.proofs.DeviceLaws.{read_all, read_beyond, read_more, read_nothing}
 use Rattle.thp_run.proofs.device.read_parts.Goals as goal
 
 pub loop-given-init : goal.loop-given-init
-loop-given-init g c = record { taken = ([], read_nothing (g.R.Read.remaining c.args.reader.now.device), refl, g.met.P.ReadsParts.nothing_read c.args.first); flag = c.requires }
+loop-given-init g c = record { taken = ([], read_nothing (g.R.Read.remaining c.args.reader.now.device), refl, g.met.P.ReadsParts.nothing_read c.args.first); flag = c.requires; calls = follow_none (call.Read true) c.args.reader.now.calls }
 
 pub returns-then-count-eq0-clause-parts : goal.returns-then-count-eq0-clause-parts
 returns-then-count-eq0-clause-parts g c =
@@ -27,9 +29,22 @@ loop-given-preserved g c =
         g.met.P.ReadsParts.more_read c.args.first c.loop-given.text c.in_ok-text.text t.0 piece t.3 c.in_ok-text.ensures.read,
       );
       flag = (rw c.in-Some.is at c.read.ensures.flag_stays) ∙ c.loop-given.invariant.flag;
+      calls = follow_more (call.Read true) c.args.reader.now.calls c.loop-given.reader.calls c.read.new.self.calls c.loop-given.invariant.calls (rw c.in-Some.is at c.read.ensures.calls);
     }
 
 pub returns-clause-parts : goal.returns-clause-parts
 returns-clause-parts g c =
     let t = c.loop-given.invariant.taken in
     (t.0, read_beyond (g.R.Read.remaining c.args.reader.now.device) (g.R.Read.remaining c.loop-given.reader.device) t.0 t.1 (omega (arith, t.2)), t.3)
+
+pub returns-in_default-clause-calls : goal.returns-in_default-clause-calls
+returns-in_default-clause-calls g c = reads_by c.read.new.self.failed c.loop-given.reader.failed c.read.result c.args.reader.now.calls c.loop-given.reader.calls c.read.new.self.calls c.loop-given.invariant.calls c.loop-given.invariant.flag c.read.ensures.calls c.read.ensures.failed c.read.ensures.flag_stays
+
+pub returns-then-count-eq0-clause-calls : goal.returns-then-count-eq0-clause-calls
+returns-then-count-eq0-clause-calls g c = reads_by c.read.new.self.failed c.loop-given.reader.failed c.read.result c.args.reader.now.calls c.loop-given.reader.calls c.read.new.self.calls c.loop-given.invariant.calls c.loop-given.invariant.flag c.read.ensures.calls c.read.ensures.failed c.read.ensures.flag_stays
+
+pub returns-in_err-text-clause-calls : goal.returns-in_err-text-clause-calls
+returns-in_err-text-clause-calls g c = reads_by c.read.new.self.failed c.loop-given.reader.failed c.read.result c.args.reader.now.calls c.loop-given.reader.calls c.read.new.self.calls c.loop-given.invariant.calls c.loop-given.invariant.flag c.read.ensures.calls c.read.ensures.failed c.read.ensures.flag_stays
+
+pub returns-clause-calls : goal.returns-clause-calls
+returns-clause-calls g c = reads_on c.loop-given.reader.failed c.args.reader.now.calls c.loop-given.reader.calls c.loop-given.invariant.calls c.loop-given.invariant.flag

@@ -1,5 +1,7 @@
-use Rattle.std.proofs.Common.{◌≡◌, ◌+◌, ◌-◌, ℕ, List, length, false}
+use Rattle.std.proofs.Common.{◌≡◌, ◌+◌, ◌-◌, ℕ, List, [], length, false, true}
 use Rattle.std.specs.Io.KnownBytes.{Consumes}
+use Rattle.thp_run.specs.Calls.{Follow}
+use Rattle.thp_run.specs.declared.calls.Call.TheVariants as call
 use Rattle.thp_text.specs.Limits.{max_input}
 use Rattle.thp_run.proofs.device.read_parts.Given as goal
 
@@ -13,4 +15,5 @@ invariant-loop-given g l =
     record {
       taken : (bytes : List ℕ) × Consumes (remaining l.fn.reader.device) (remaining l.reader.device) bytes × (length bytes ≡ l.given) × g.P.ReadsParts.has_read l.fn.first bytes l.text;
       flag : l.reader.failed ≡ false;
+      calls : Follow (call.Read true) [] l.fn.reader.calls l.reader.calls;
     }

@@ -1,7 +1,9 @@
-use Rattle.std.proofs.Common.{◌∙◌, ◌++◌, [], ap}
+use Rattle.std.proofs.Common.{◌∙◌, ◌++◌, [], ap, true}
 use Rattle.std.proofs.lemmas.List.{append-nil}
 use Rattle.std.proofs.lemmas.Result.{IfOk-weaker}
 use Rattle.thp_text.specs.Scripts.{script_of}
+use Rattle.thp_run.specs.declared.calls.Call.TheVariants as call
+use Rattle.thp_run.proofs.CallLaws.{follow_none, reads_on}
 use Rattle.thp_run.proofs.device.read_script_parts.Goals as goal
 
 pub returns-clause-parts : goal.returns-clause-parts
@@ -10,3 +12,6 @@ returns-clause-parts g c =
 
 pub returns-clause-settings : goal.returns-clause-settings
 returns-clause-settings g c = IfOk-weaker c.read_parts.result _ _ (λ script p. p.2.1 ∙ c.in_ok-script.ensures.settings) c.read_parts.ensures.parts
+
+pub returns-in_err-script-clause-calls : goal.returns-in_err-script-clause-calls
+returns-in_err-script-clause-calls g c = reads_on c.args.reader.now.failed c.args.reader.now.calls c.args.reader.now.calls (follow_none (call.Read true) c.args.reader.now.calls) c.requires

@@ -1,5 +1,7 @@
-use Rattle.std.proofs.Common.{◌≡◌, length, false}
+use Rattle.std.proofs.Common.{◌≡◌, [], length, false, true}
 use Rattle.thp_run.proofs.DeviceLaws.{Written}
+use Rattle.thp_run.specs.Calls.{Follow}
+use Rattle.thp_run.specs.declared.calls.Call.TheVariants as call
 use Rattle.thp_run.proofs.device.write_text.Given as goal
 
 abbrev pub decreases-loop-rest : goal.decreases-loop-rest
@@ -11,4 +13,5 @@ invariant-loop-rest g l =
     record {
       written : Written (contents l.fn.writer.device) (contents l.writer.device) l.text l.rest;
       flag : l.writer.failed ≡ false;
+      calls : Follow (call.Write true) [] l.fn.writer.calls l.writer.calls;
     }

@@ -9,7 +9,7 @@ pub returns-in_err-texts : goal.returns-in_err-texts
 returns-in_err-texts g c =
     let p = err_from_is_err_and c.from_residual.result c.from_residual.ensures.1 in
     let is : given_words c.args.words.now ≡ Ok (map string_bytes c.in-Ok.words.items) = rw c.in-Ok.is refl in
-    rw (is, p.1, p.2) (inr (inr (refl, (keeps_same (g.W.Write.contents c.args.output.now.device), c.requires.output))))
+    rw (is, p.1, p.2) (inr (inr (refl, (keeps_same (g.W.Write.contents c.args.output.now.device), c.requires.output, refl), (c.requires.reader, refl))))
 
 pub returns-in-Ok-read_line : goal.returns-in-Ok-read_line
 returns-in-Ok-read_line g c =
@@ -30,6 +30,7 @@ returns-in_err-answer-in-Err g c =
       refused = rw (c.as_slice-2.ensures.value, c.in_ok-texts.ensures, c.as_slice.ensures.value) at c.in-Err.ensures.refused;
       answer = Err c.in_err-answer-in-Err.field-0.0;
       answered = c.in_err-answer-in-Err.ensures;
+      unread = (c.requires.reader, refl);
       ended = refl;
     })))
 
@@ -41,5 +42,6 @@ returns g c =
       refused = rw (c.as_slice-2.ensures.value, c.in_ok-texts.ensures, c.as_slice.ensures.value) at c.in-Err.ensures.refused;
       answer = Ok c.in_ok-answer-in-Err.field-0;
       answered = c.in_ok-answer-in-Err.ensures;
+      unread = (c.requires.reader, refl);
       ended = refl;
     })))
