@@ -3,4 +3,5 @@
 mod histories;
 mod legal;
 mod misfits;
+mod random;
 mod underused;

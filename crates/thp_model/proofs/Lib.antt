@@ -30,6 +30,7 @@ pub mod FlightLaws
 pub mod EachFrame
 pub mod PartlyStands
 pub mod Alike
+pub mod Asked
 pub mod LeftOut
 pub mod LeastBlocks
 pub mod OneAnswer

@@ -10,6 +10,7 @@ pub mod Frames
 pub mod Refusals
 pub mod Legal
 pub mod Checks
+pub mod Asking
 pub mod Runs
 pub mod Counters
 pub mod Pages

@@ -17,6 +17,7 @@ mod page_call;
 mod refusal;
 mod rows;
 mod shape;
+mod slow_check;
 mod sub_set;
 
 pub use check_fault::CheckFault;
@@ -34,4 +35,5 @@ pub use rows::{
     underused_pinned_is_legal, underused_scan_is_legal,
 };
 pub use shape::Shape;
+pub use slow_check::check;
 pub use sub_set::SubSet;

@@ -1,10 +1,10 @@
-//! Events and short histories of them, and whether their check answers as it should.
+//! Events and short histories of them, and whether the check and the slow check answer as they should.
 ghost use Rattle.std.specs.Prelude.{◌≡◌, ◌≤◌};
 
 use std::alloc::Global;
 use std::process::Abort;
 use thp_check::{CheckFault, check};
-use thp_model::{Event, Outcome, PageId, Shape, SubSet, What};
+use thp_model::{Event, Outcome, PageId, Shape, SubSet, What, check as slow_check};
 
 pub(crate) const ZERO: PageId = PageId(0);
 
@@ -145,6 +145,7 @@ pub(crate) fn expect_legal(rt: &impl Abort, alloc: Global, shape: Shape, events:
     requires most { shape.order ≤ 9 }
 {
     assert_eq!(rt; check(alloc, shape, events), Ok(()));
+    assert_eq!(rt; slow_check(alloc, shape, events), Ok(()));
 }
 
 // The last of the events doesn't fit on a node of this shape, and all before it do.
@@ -161,6 +162,11 @@ pub(crate) fn expect_misfit(
     let last = events.len().saturating_sub(1);
     assert_eq!(rt;
         check(alloc, shape, events),
+        Err(CheckFault::Illegal(last)),
+        "{name}"
+    );
+    assert_eq!(rt;
+        slow_check(alloc, shape, events),
         Err(CheckFault::Illegal(last)),
         "{name}"
     );

@@ -101,7 +101,7 @@ fn small_page_split_is_legal(rt: HostRuntime) {
     expect_legal(&rt, rt.alloc(), shape, &events);
 }
 
-// Want of memory is told as such: for the table of pages, for the lists of flights, and for a flight that grows.
+// Want of memory is told as such.
 #[test]
 fn each_growth_refused(rt: HostRuntime) {
     let events = [

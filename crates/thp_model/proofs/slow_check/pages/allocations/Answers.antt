@@ -1,0 +1,6 @@
+use Rattle.std.proofs.Common.{rules}
+use Rattle.thp_model.specs.Counts.{is_alloc}
+use Rattle.thp_model.proofs.slow_check.pages.allocations.Goals as goal
+
+pub returns : goal.returns
+returns c = c.count_events.ensures (is_alloc) (λ w b k. search rules)

@@ -1,0 +1,96 @@
+//! Which frames a page holds, which an event gives back, and the outcome of an unmap or an unpin.
+ghost use Rattle.std.specs.Prelude.{◌≡◌, ◌≤◌, ◌&&◌, not, IfOk};
+ghost use Rattle.thp_model.specs.Limits.{max_order};
+ghost use Rattle.thp_model.specs.Frames.{keeps_frame, is_held, released, outcome, places_live, block_in_use};
+
+use super::pages::{is_closed, is_live, is_mapped, is_split, is_used, loses_use, pins};
+use super::passing::any_event;
+use super::places::stands;
+use super::underused::is_zero_filled;
+use crate::events::{Event, Outcome, PageId, What};
+use crate::limits::MAX_SUBPAGES;
+use crate::shape::Shape;
+use crate::sub_set::SubSet;
+use std::alloc::{AllocError, Global};
+
+// Whether a split of the page leaves subpage i its frame.
+fn keeps_frame(shape: Shape, events: &[Event], page: PageId, i: u32) -> bool
+    ensures { result ≡ keeps_frame shape events.now page i }
+{
+    is_used(events, page, i) && !(shape.shrinks_underused() && is_zero_filled(events, page, i))
+}
+
+// Whether the page holds the frame of its subpage i.
+pub(super) fn is_held(shape: Shape, events: &[Event], page: PageId, i: u32) -> bool
+    requires { shape.order ≤ max_order }
+    ensures { result ≡ is_held shape events.now page i }
+{
+    i < shape.subpages()
+        && is_live(events, page)
+        && (!is_split(events, page) || keeps_frame(shape, events, page, i))
+}
+
+// Whether the page holds the frame of its subpage i before and not after.
+fn is_released(shape: Shape, before: &[Event], after: &[Event], page: PageId, i: u32) -> bool
+    requires { shape.order ≤ max_order }
+    ensures { result ≡ (is_held shape before.now page i && not (is_held shape after.now page i)) }
+{
+    is_held(shape, before, page, i) && !is_held(shape, after, page, i)
+}
+
+// The frames of the page that are held before and not after.
+pub(super) fn released(shape: Shape, before: &[Event], after: &[Event], page: PageId) -> SubSet
+    requires { shape.order ≤ max_order }
+    ensures { result ≡ released shape before.now after.now page }
+{
+    let mut set = SubSet::empty();
+    for i in 0..MAX_SUBPAGES as u32 {
+        if is_released(shape, before, after, page, i) {
+            set.insert(i);
+        }
+    }
+    set
+}
+
+// The outcome for the page of an unmap or an unpin.
+pub(super) fn outcome(
+    alloc: Global,
+    shape: Shape,
+    before: &[Event],
+    after: &[Event],
+    page: PageId,
+) -> Result<Outcome, AllocError>
+    requires { shape.order ≤ max_order }
+    ensures { IfOk result (λ o. o ≡ outcome shape before.now after.now page) }
+{
+    let stood = stands(alloc, shape, before, page)?;
+    if !is_mapped(shape, after, page) && pins(after, page) == 0 {
+        return Ok(Outcome::Freed);
+    }
+    if !is_split(before, page)
+        && loses_use(shape, before, after, page)
+        && is_mapped(shape, after, page)
+        && !is_closed(before)
+        && !stood
+    {
+        return Ok(Outcome::Queued);
+    }
+    Ok(Outcome::Stays)
+}
+
+// Whether the event allocates a page in the block that is live.
+fn places_live(events: &[Event], block: u32, what: &What) -> bool
+    ensures { result ≡ places_live events.now block what.now }
+{
+    match *what {
+        What::Alloc { page, block: other } => block == other && is_live(events, page),
+        _ => false,
+    }
+}
+
+// Whether the block is that of a live page.
+pub(super) fn block_in_use(events: &[Event], block: u32) -> bool
+    ensures { result ≡ block_in_use events.now block }
+{
+    any_event(events, |what| places_live(events, block, what))
+}

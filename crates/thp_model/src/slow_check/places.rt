@@ -1,0 +1,190 @@
+//! Where pages stand: in the queue, or in the flight of a caller that took them.
+ghost use Rattle.std.specs.Prelude.{◌≡◌, ◌↔◌, IsTrue, IfOk, OnOk, Some, slice_get};
+ghost use Rattle.thp_model.specs.Places.{queue, queue_by, queue_after, flights, flights_by, flights_after, flight, leaves, standing, stands, has_page, takes_by, is_taking};
+
+use crate::events::{Event, Outcome, PageId, What};
+use crate::shape::Shape;
+use std::alloc::{AllocError, Global};
+use std::collections::VecDeque;
+
+// The queue after an outcome of the page.
+fn queue_outcome(
+    queue: &mut VecDeque<PageId>,
+    page: PageId,
+    outcome: Outcome,
+) -> Result<(), AllocError>
+    ensures { OnOk result (queue.new.items ≡ queue_by queue.old.items page outcome) }
+{
+    match outcome {
+        Outcome::Stays => Ok(()),
+        Outcome::Queued => Ok(queue.push_back(page)?),
+        Outcome::Freed => {
+            queue.retain(|other| *other != page);
+            Ok(())
+        }
+    }
+}
+
+// The queue after an event.
+fn queue_event(queue: &mut VecDeque<PageId>, shape: Shape, what: &What) -> Result<(), AllocError>
+    ensures { OnOk result (queue.new.items ≡ queue_after shape queue.old.items what.now) }
+{
+    match *what {
+        What::Alloc { page, .. } => {
+            if shape.shrinks_underused() {
+                queue.push_back(page)?;
+            }
+            Ok(())
+        }
+        What::UnmapWhole { page, outcome, .. }
+        | What::UnmapSub { page, outcome, .. }
+        | What::Unpin { page, outcome, .. } => queue_outcome(queue, page, outcome),
+        What::Taken { .. } => {
+            let _ = queue.pop_front();
+            Ok(())
+        }
+        What::Back { page } => Ok(queue.push_back(page)?),
+        _ => Ok(()),
+    }
+}
+
+// The queue, the oldest page first.
+pub(super) fn queue(
+    alloc: Global,
+    shape: Shape,
+    events: &[Event],
+) -> Result<VecDeque<PageId>, AllocError>
+    ensures { IfOk result (λ q. q.items ≡ queue shape events.now) }
+{
+    let mut queue = VecDeque::new(alloc);
+    for event in events {
+        queue_event(&mut queue, shape, &event.what)?;
+    }
+    Ok(queue)
+}
+
+// The flights after an outcome of the page.
+fn flights_outcome(flights: &mut Vec<(u32, PageId)>, page: PageId, outcome: Outcome)
+    ensures { flights.new.items ≡ flights_by flights.old.items page outcome }
+{
+    if let Outcome::Freed = outcome {
+        flights.retain(|flight| flight.1 != page);
+    }
+}
+
+// The flights where the page leaves that of the caller.
+fn leave(flights: &mut Vec<(u32, PageId)>, caller: u32, page: PageId)
+    ensures { flights.new.items ≡ leaves caller page flights.old.items }
+{
+    flights.retain(|flight| !(flight.0 == caller && flight.1 == page));
+}
+
+// The flights after an event.
+fn flights_event(flights: &mut Vec<(u32, PageId)>, event: &Event) -> Result<(), AllocError>
+    ensures { OnOk result (flights.new.items ≡ flights_after flights.old.items event.now.caller event.now.what) }
+{
+    match event.what {
+        What::UnmapWhole { page, outcome, .. }
+        | What::UnmapSub { page, outcome, .. }
+        | What::Unpin { page, outcome, .. } => flights_outcome(flights, page, outcome),
+        What::Taken { page } => flights.push((event.caller, page))?,
+        What::Split { page, .. }
+        | What::Used { page }
+        | What::Back { page }
+        | What::Dropped { page } => leave(flights, event.caller, page),
+        _ => {}
+    }
+    Ok(())
+}
+
+// The pages in flight, each behind its caller, in the order of taking.
+pub(super) fn flights(alloc: Global, events: &[Event]) -> Result<Vec<(u32, PageId)>, AllocError>
+    ensures { IfOk result (λ f. f.items ≡ flights events.now) }
+{
+    let mut flights = Vec::new(alloc);
+    for event in events {
+        flights_event(&mut flights, event)?;
+    }
+    Ok(flights)
+}
+
+// The pages of the caller's flight.
+pub(super) fn flight(
+    alloc: Global,
+    events: &[Event],
+    caller: u32,
+) -> Result<VecDeque<PageId>, AllocError>
+    ensures { IfOk result (λ f. f.items ≡ flight events.now caller) }
+{
+    let flights = flights(alloc, events)?;
+    let mut pages = VecDeque::new(alloc);
+    for flight in flights.as_slice() {
+        if flight.0 == caller {
+            pages.push_back(flight.1)?;
+        }
+    }
+    Ok(pages)
+}
+
+// The pages of the queue and of all flights.
+fn standing(alloc: Global, shape: Shape, events: &[Event]) -> Result<VecDeque<PageId>, AllocError>
+    ensures { IfOk result (λ pages. pages.items ≡ standing shape events.now) }
+{
+    let mut pages = queue(alloc, shape, events)?;
+    let flights = flights(alloc, events)?;
+    for flight in flights.as_slice() {
+        pages.push_back(flight.1)?;
+    }
+    Ok(pages)
+}
+
+// Whether the page is among these.
+pub(super) fn has_page(page: PageId, pages: &VecDeque<PageId>) -> bool
+    ensures { result ≡ has_page page pages.now.items }
+{
+    pages.contains(&page)
+}
+
+// Whether the page is the first of these.
+pub(super) fn is_first(page: PageId, pages: &VecDeque<PageId>) -> bool
+    ensures { IsTrue result ↔ (slice_get pages.now.items 0 ≡ Some page) }
+{
+    match pages.front() {
+        Some(first) => *first == page,
+        None => false,
+    }
+}
+
+// Whether the page stands in the queue or in a flight.
+pub(super) fn stands(
+    alloc: Global,
+    shape: Shape,
+    events: &[Event],
+    page: PageId,
+) -> Result<bool, AllocError>
+    ensures { IfOk result (λ b. b ≡ stands shape events.now page) }
+{
+    let pages = standing(alloc, shape, events)?;
+    Ok(has_page(page, &pages))
+}
+
+// Whether an event is a take by the caller.
+fn takes_by(caller: u32, event: &Event) -> bool
+    ensures { result ≡ takes_by caller event.now.caller event.now.what }
+{
+    match event.what {
+        What::Taken { .. } => event.caller == caller,
+        _ => false,
+    }
+}
+
+// Whether the last event is a take by the caller.
+pub(super) fn is_taking(events: &[Event], caller: u32) -> bool
+    ensures { result ≡ is_taking events.now caller }
+{
+    let mut taking = false;
+    for event in events {
+        taking = takes_by(caller, event);
+    }
+    taking
+}

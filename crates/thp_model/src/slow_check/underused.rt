@@ -1,0 +1,80 @@
+//! Which subpages of a page are zero-filled, and whether the page is worth a split.
+ghost use Rattle.std.specs.Prelude.{◌≡◌, ◌≤◌, ◌&&◌};
+ghost use Rattle.thp_model.specs.Limits.{max_order};
+ghost use Rattle.thp_model.specs.Counts.{is_mapped, loses_use};
+ghost use Rattle.thp_model.specs.Underused.{is_zero_filled, is_partly_mapped, is_above, zero_filled, is_underused, is_worth_split, unmaps_some};
+
+use super::kinds::{unmaps_some, zero_after};
+use super::pages::{is_mapped, loses_use};
+use super::passing::how_many_below;
+use crate::events::{Event, PageId, What};
+use crate::shape::Shape;
+
+// Whether subpage i of the page is zero-filled.
+pub(super) fn is_zero_filled(events: &[Event], page: PageId, i: u32) -> bool
+    ensures { result ≡ is_zero_filled events.now page i }
+{
+    let mut zero = true;
+    for event in events {
+        zero = zero_after(zero, &event.what, page, i);
+    }
+    zero
+}
+
+// Whether what happened unmaps a subpage of the page for the last time and leaves another mapped.
+fn unmaps_part(shape: Shape, before: &[Event], after: &[Event], page: PageId, what: &What) -> bool
+    requires { shape.order ≤ max_order }
+    ensures { result ≡ (unmaps_some page what.now && (loses_use shape before.now after.now page && is_mapped shape after.now page)) }
+{
+    unmaps_some(what, page)
+        && loses_use(shape, before, after, page)
+        && is_mapped(shape, after, page)
+}
+
+// Whether the page is partly mapped: some event unmapped a part of it and left another.
+pub(super) fn is_partly_mapped(shape: Shape, events: &[Event], page: PageId) -> bool
+    requires { shape.order ≤ max_order }
+    ensures { result ≡ is_partly_mapped shape events.now page }
+{
+    let mut partly = false;
+    for (place, event) in events.iter().enumerate() {
+        let (before, after) = (&events[..place], &events[..place + 1]);
+        let unmapped = unmaps_part(shape, before, after, page, &event.what);
+        partly = partly || unmapped;
+    }
+    partly
+}
+
+// How many subpages of the page are zero-filled.
+fn zero_filled(shape: Shape, events: &[Event], page: PageId) -> u32
+    requires { shape.order ≤ max_order }
+    ensures { result ≡ zero_filled shape events.now page }
+{
+    how_many_below(shape.subpages(), |i| is_zero_filled(events, page, i))
+}
+
+// Whether a number is above the threshold.
+fn is_above(threshold: Option<u32>, n: u32) -> bool
+    ensures { result ≡ is_above threshold n }
+{
+    match threshold {
+        None => false,
+        Some(threshold) => threshold < n,
+    }
+}
+
+// Whether the page is underused.
+fn is_underused(shape: Shape, events: &[Event], page: PageId) -> bool
+    requires { shape.order ≤ max_order }
+    ensures { result ≡ is_underused shape events.now page }
+{
+    is_above(shape.underused, zero_filled(shape, events, page))
+}
+
+// Whether a split of the page is worth its while.
+pub(super) fn is_worth_split(shape: Shape, events: &[Event], page: PageId) -> bool
+    requires { shape.order ≤ max_order }
+    ensures { result ≡ is_worth_split shape events.now page }
+{
+    is_partly_mapped(shape, events, page) || is_underused(shape, events, page)
+}
