@@ -144,8 +144,8 @@ pub(crate) fn expect_legal(rt: &impl Abort, alloc: Global, shape: Shape, events:
     requires least { 2 ≤ shape.order }
     requires most { shape.order ≤ 9 }
 {
-    assert_eq!(rt; check(alloc, shape, events), Ok(()));
-    assert_eq!(rt; slow_check(alloc, shape, events), Ok(()));
+    assert!(rt; check(alloc, shape, events) == Ok(()));
+    assert!(rt; slow_check(alloc, shape, events) == Ok(()));
 }
 
 // The last of the events doesn't fit on a node of this shape, and all before it do.
@@ -160,19 +160,16 @@ pub(crate) fn expect_misfit(
     requires most { shape.order ≤ 9 }
 {
     let last = events.len().saturating_sub(1);
-    assert_eq!(rt;
-        check(alloc, shape, events),
-        Err(CheckFault::Illegal(last)),
+    assert!(rt;
+        check(alloc, shape, events) == Err(CheckFault::Illegal(last)),
         "{name}"
     );
-    assert_eq!(rt;
-        slow_check(alloc, shape, events),
-        Err(CheckFault::Illegal(last)),
+    assert!(rt;
+        slow_check(alloc, shape, events) == Err(CheckFault::Illegal(last)),
         "{name}"
     );
-    assert_eq!(rt;
-        check(alloc, shape, &events[..last]),
-        Ok(()),
+    assert!(rt;
+        check(alloc, shape, &events[..last]) == Ok(()),
         "before {name}"
     );
 }

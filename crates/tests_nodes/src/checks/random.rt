@@ -135,7 +135,7 @@ fn both_checks_agree(rt: HostRuntime) {
         for _ in 0..200 {
             events.push(dice.event()).expect(&rt, "memory");
             let told = check(rt.alloc(), shape, &events);
-            assert_eq!(rt; slow_check(rt.alloc(), shape, &events), told);
+            assert!(rt; slow_check(rt.alloc(), shape, &events) == told);
             if told.is_err() {
                 let _ = events.pop();
             }
