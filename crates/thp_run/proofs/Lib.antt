@@ -2,3 +2,4 @@ pub mod CallLaws
 pub mod DeviceLaws
 pub mod PassageLaws
 pub mod OutcomeLaws
+pub mod ListedLaws

@@ -7,3 +7,4 @@ pub mod Programs
 pub mod Verdicts
 pub mod Choices
 pub mod Outcomes
+pub mod Listed

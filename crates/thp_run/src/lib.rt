@@ -8,6 +8,7 @@ mod choice;
 mod device;
 mod ending;
 mod fault;
+mod listed;
 mod program;
 mod running;
 mod telling;
@@ -16,17 +17,17 @@ mod watched;
 pub use checking::check_run;
 pub use ending::{Ending, ProgramFault, WordsFault};
 pub use fault::RunFault;
+pub use listed::{Section, Worked, report_text, work, work_rest};
 pub use program::run_program;
 pub use running::run;
 pub use thp_journal_reader::{Journals, NodeJournal, check_text, read_journal};
 pub use thp_model::{Gain, Loss, PageCall, PageId, Refusal, Shape};
 pub use thp_node::{BackReply, Done, Node, ScanReply, Tried};
 pub use thp_options::{Line, read_line};
-pub use thp_report::report_text;
 pub use thp_script_runs::{Ran, run_script};
 pub use thp_sections::{
-    Answer, AnswerLog, Answers, Gate, NoGate, NodeCall, NodePass, NodePasses, Passes, Reply, Rest,
-    Section, Step, Steps, Worked, run_range, run_workers, work, work_rest,
+    Answer, Gate, NoGate, NodeCall, NodePass, NodePasses, Passes, Reply, Rest, Step, Steps,
+    run_range, run_workers,
 };
 pub use thp_text::{
     Command, MAX_INPUT, Op, ReadFault, Report, Script, Sequence, Settings, TextKind, read_orders,

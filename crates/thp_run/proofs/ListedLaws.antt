@@ -1,0 +1,31 @@
+-- Answers between logs and vectors.
+use Rattle.std.proofs.Common.{◌≡◌, ◌≤◌, ◌+◌, ◌++◌, ◌∷◌, [], ◌∙◌, ℕ, List, ap, append_assoc, drop, length, Some, Ok, Err, refl, sym}
+use Rattle.std.specs.Prelude.{slice_get, IfOk, Result}
+use Rattle.std.specs.declared.alloc.AllocError.{AllocError}
+use Rattle.thp_report.proofs.AnswerLaws.{drop_at_get}
+use Rattle.thp_sections.specs.declared.answer_log.Answers.{Answers}
+use Rattle.thp_sections.specs.declared.reply.Answer.{Answer}
+use Rattle.thp_sections.specs.declared.reply.Worked.{Worked}
+use Rattle.thp_sections.specs.Fronts.{Fronts}
+use Rattle.thp_sections.specs.Logs.{LogState}
+use Rattle.thp_sections.specs.Sections.{Works}
+use Rattle.thp_text.specs.declared.script.Command.{Command}
+use Rattle.thp_run.specs.Listed.{WorkedList, WorksOn}
+
+-- a log by what contracts see of it
+pub log_is : (log : LogState) (items : List Answer) (are : Answers) (room : ℕ) → log.items ≡ items → log.are ≡ are → log.room ≡ room → log ≡ record { items = items; are = are; room = room }
+log_is log items are room a b c = rw (← a, ← b, ← c) refl
+
+-- one answer more behind those that were had
+pub one_more : (front all : List Answer) (place : ℕ) (answer : Answer) → front ++ drop place all ≡ all → slice_get all place ≡ Some answer → (front ++ answer ∷ []) ++ drop (place + 1) all ≡ all
+one_more front all place answer had is =
+    append_assoc front (answer ∷ []) (drop (place + 1) all) ∙ ap (λ left. front ++ left) (sym (drop_at_get all place answer (sym is))) ∙ had
+
+-- what a section's rest leads to by a log, it leads to by the vector
+pub rest_works : (c : ℕ) (old mid new : Fronts) (commands : List Command) (w : WorkedList) (log : LogState) (room : ℕ) (done : Worked) (r : Result WorkedList AllocError) →
+    log.items ≡ w.answers → log.room ≡ room → length commands ≤ room → (Works c old mid commands (record { answers = log; rest = w.rest }) → Works c old new commands done) →
+    IfOk r (λ l. l.answers ≡ done.answers.items) → IfOk r (λ l. l.rest ≡ done.rest) → WorksOn c old mid commands w → IfOk r (WorksOn c old new commands)
+rest_works c old mid new commands w log room done (Err e) items is le go answers rest given = tt
+rest_works c old mid new commands w log room done (Ok l) items is le go answers rest given =
+    let worked = go (record { to = rw items given; room = rw is le }) in
+    rw (answers, rest) worked.to

@@ -1,0 +1,8 @@
+use Rattle.std.proofs.Common.{◌≡◌, ◌++◌, drop}
+use Rattle.thp_run.proofs.listed.filled.Given as goal
+
+abbrev pub invariant-loop-place : goal.invariant-loop-place
+invariant-loop-place l = record {
+  answers : l.list.answers ++ drop l.place l.log.items ≡ l.log.items;
+  rest : l.list.rest ≡ l.fn.begun.rest;
+}

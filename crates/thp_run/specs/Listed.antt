@@ -1,0 +1,34 @@
+-- Sections whose answers stand in vectors, which contracts see as lists.
+use Rattle.std.specs.Prelude.{◌≡◌, ℕ, List, length, map, None, Option}
+use Rattle.thp_sections.specs.declared.answer_log.Answers.TheVariants.{Kept}
+use Rattle.thp_sections.specs.declared.reply.Answer.{Answer}
+use Rattle.thp_sections.specs.declared.reply.Rest.{Rest}
+use Rattle.thp_sections.specs.declared.reply.Section.{Section}
+use Rattle.thp_sections.specs.Fronts.{Fronts}
+use Rattle.thp_sections.specs.Sections.{WorksTo}
+use Rattle.thp_text.specs.declared.script.Command.{Command}
+
+-- what became of a section: its answers, and where it stopped
+pub record WorkedList : Type 0 where
+  pub answers : List Answer
+  pub rest : Option Rest
+
+-- the answers of a worker's section
+pub record SectionList : Type 0 where
+  pub worker : ℕ
+  pub answers : List Answer
+
+-- caller c did the commands of its section and the put-backs at its end, all or up to where it stopped
+abbrev pub WorksOn : ℕ → Fronts → Fronts → List Command → WorkedList → Type 0
+WorksOn c old new commands w = WorksTo c old new commands w.answers w.rest
+
+-- nothing of the section is left
+abbrev pub IsWhole : WorkedList → Type 0
+IsWhole w = w.rest ≡ None
+
+-- a section as reports see it: all of its answers are kept
+abbrev pub section_of : SectionList → Section
+section_of s = record { worker = s.worker; answers = record { items = s.answers; are = Kept; room = length s.answers } }
+
+abbrev pub sections_of : List SectionList → List Section
+sections_of = map section_of

@@ -1,0 +1,203 @@
+//! Sections whose answers stand in vectors: the calls of `thp_sections` and `thp_report`, whose logs keep answers in less
+//! room or only count them, for callers that want all answers as values.
+ghost use Rattle.std.specs.Prelude.{◌≡◌, ◌+◌, ◌<◌, ◌≤◌, ◌^◌, ◌++◌, ◌∷◌, [], All, IfOk, OnOk, Some, length, map, slice_get};
+ghost use Rattle.thp_report.specs.Reports.{report_of, told_of};
+ghost use Rattle.thp_run.specs.Listed.{section_of, sections_of, IsWhole, WorksOn};
+ghost use Rattle.thp_sections.specs.Fronts.{Fronts, Goes, HasAll, HasCaller};
+ghost use Rattle.thp_sections.specs.Sections.{IsCommandFor};
+ghost use Rattle.thp_sections.specs.declared.answer_log.Answers.TheVariants.{Kept};
+ghost use Rattle.thp_sections.specs.declared.reply.Answer.{Answer as KeptAnswer};
+
+use std::alloc::{AllocError, Global};
+use std::marker::Model;
+use thp_model::Refusal;
+use thp_node::{Node, Tried};
+use thp_sections::{Answer, AnswerLog, Answers, Gate, Reply, Rest, Steps};
+use thp_text::{Command, Settings};
+
+/// What became of a section: the answers to its commands, in order, and where it stopped, if it did.
+#[derive(Debug, Drop)]
+pub struct Worked {
+    pub answers: Vec<Answer>,
+    pub rest: Option<Rest>,
+}
+
+impl Model for Worked {
+    ghost use Rattle.thp_run.specs.Listed.{WorkedList};
+
+    ghost Value = { WorkedList };
+
+    ghost view = { λ w. record { answers = w.answers.items; rest = w.rest } };
+}
+
+/// The answers to the commands of a worker, in order; setup is worker 0.
+#[derive(Debug, Drop)]
+pub struct Section {
+    pub worker: u32,
+    pub answers: Vec<Answer>,
+}
+
+impl Model for Section {
+    ghost use Rattle.thp_run.specs.Listed.{SectionList};
+
+    ghost Value = { SectionList };
+
+    ghost view = { λ s. record { worker = s.worker; answers = s.answers.items } };
+}
+
+/// Does the commands of a section, in order, as steps of one caller, and puts back the batches that it left open.
+///
+/// It stops at the first step that stays busy, and tells where.
+pub fn work<S: Steps, G: Gate>(
+    alloc: Global,
+    commands: &[Command],
+    worker: u32,
+    steps: &mut S,
+    gate: &G,
+) -> Result<Worked, AllocError>
+    requires caller { HasCaller (S.fronts steps.old) worker }
+    requires few { length commands.now < 2 ^ 32 }
+    requires commands { All (IsCommandFor (S.fronts steps.old).nodes) commands.now }
+    ensures goes { Goes worker (S.fronts steps.old) (S.fronts steps.new) }
+    ensures works { IfOk result (WorksOn worker (S.fronts steps.old) (S.fronts steps.new) commands.now) }
+    ensures done { HasAll (S.fronts steps.old) → IfOk result IsWhole }
+{
+    let worked = thp_sections::work(alloc, commands, worker, Answers::Kept, steps, gate)?;
+    from_log(alloc, worked)
+}
+
+/// Does what is left of a section that stopped, by the passes of all callers, which are never busy.
+pub fn work_rest<S: Steps>(
+    alloc: Global,
+    commands: &[Command],
+    worker: u32,
+    worked: Worked,
+    steps: &mut S,
+) -> Result<Worked, AllocError>
+    requires caller { HasCaller (S.fronts steps.old) worker }
+    requires few { length commands.now < 2 ^ 32 }
+    requires commands { All (IsCommandFor (S.fronts steps.old).nodes) commands.now }
+    requires worked { (old : Fronts) × WorksOn worker old (S.fronts steps.old) commands.now worked }
+    ensures goes { Goes worker (S.fronts steps.old) (S.fronts steps.new) }
+    ensures works { (old : Fronts) → WorksOn worker old (S.fronts steps.old) commands.now worked → IfOk result (WorksOn worker old (S.fronts steps.new) commands.now) }
+    ensures done { HasAll (S.fronts steps.old) → IfOk result IsWhole }
+{
+    let Worked { answers, rest } = worked;
+    let room = commands.len().max(answers.len());
+    let log = to_log(alloc, room, answers.as_slice())?;
+    let begun = thp_sections::Worked { answers: log, rest };
+    let worked = thp_sections::work_rest(commands, worker, begun, steps)?;
+    from_log(alloc, worked)
+}
+
+/// The report that the settings ask for, of nodes that are numbered from 0 on and of the answers to the sections' commands.
+pub fn report_text(
+    alloc: Global,
+    settings: &Settings,
+    nodes: &[Node],
+    sections: &[Section],
+) -> Result<Vec<u8>, AllocError>
+    ensures { IfOk result (λ text. text.items ≡ report_of settings.now.report (map told_of nodes.now) (sections_of sections.now)) }
+{
+    let mut logs = Vec::with_capacity(alloc, sections.len())?;
+    for section in sections {
+        logs.push(with_log(alloc, section)?)?;
+    }
+    thp_report::report_text(alloc, settings, nodes, logs.as_slice())
+}
+
+/// What a log kept, in a vector.
+fn from_log(alloc: Global, worked: thp_sections::Worked) -> Result<Worked, AllocError>
+    requires { worked.answers.are ≡ Kept }
+    ensures answers { IfOk result (λ list. list.answers ≡ worked.answers.items) }
+    ensures rest { IfOk result (λ list. list.rest ≡ worked.rest) }
+{
+    let begun = Worked {
+        answers: Vec::with_capacity(alloc, worked.answers.len())?,
+        rest: worked.rest,
+    };
+    filled(begun, &worked.answers)
+}
+
+/// What became of a section, with the answers that a log kept in place of none.
+#[tactic(auto, using(crate::proofs::ListedLaws::one_more))]
+fn filled(begun: Worked, log: &AnswerLog) -> Result<Worked, AllocError>
+    requires kept { log.now.are ≡ Kept }
+    requires empty { begun.answers ≡ [] }
+    ensures answers { IfOk result (λ list. list.answers ≡ log.now.items) }
+    ensures rest { IfOk result (λ list. list.rest ≡ begun.rest) }
+{
+    let mut list = begun;
+    for place in 0..log.len() {
+        list.push_at(log, place)?;
+    }
+    Ok(list)
+}
+
+impl Worked {
+    /// Adds the answer at a place of a log that kept it.
+    fn push_at(&mut self, log: &AnswerLog, place: usize) -> Result<(), AllocError>
+        requires kept { log.now.are ≡ Kept }
+        requires inside { place < length log.now.items }
+        ensures answers { OnOk result ((answer : KeptAnswer) × (slice_get log.now.items place ≡ Some answer) × (self.new.answers ≡ self.old.answers ++ answer ∷ [])) }
+        ensures rest { OnOk result (self.new.rest ≡ self.old.rest) }
+    {
+        // the toolchain finds these types, which stand in answers, only in functions that name them
+        let _in_answers = (Reply::Tried(Tried::Done), Refusal::NoPage);
+        self.answers.push(answer_at(log, place))?;
+        Ok(())
+    }
+}
+
+/// The answer at a place of a log that kept it.
+fn answer_at(log: &AnswerLog, place: usize) -> Answer
+    requires kept { log.now.are ≡ Kept }
+    requires inside { place < length log.now.items }
+    ensures { slice_get log.now.items place ≡ Some result }
+{
+    match log.get(place) {
+        Some(answer) => answer,
+        None => unreachable!(),
+    }
+}
+
+/// A section with its answers in a log.
+#[tactic(auto, using(crate::proofs::ListedLaws::log_is))]
+fn with_log(alloc: Global, section: &Section) -> Result<thp_sections::Section, AllocError>
+    ensures { IfOk result (λ logged. logged ≡ section_of section.now) }
+{
+    let answers = section.answers.as_slice();
+    let log = to_log(alloc, answers.len(), answers)?;
+    Ok(thp_sections::Section {
+        worker: section.worker,
+        answers: log,
+    })
+}
+
+/// A log that keeps these answers, with room for so many in all.
+fn to_log(alloc: Global, room: usize, answers: &[Answer]) -> Result<AnswerLog, AllocError>
+    requires { length answers.now ≤ room }
+    ensures items { IfOk result (λ log. log.items ≡ answers.now) }
+    ensures are { IfOk result (λ log. log.are ≡ Kept) }
+    ensures room { IfOk result (λ log. log.room ≡ room) }
+{
+    let mut log = AnswerLog::new(alloc, room, Answers::Kept)?;
+    for answer in answers {
+        put(&mut log, answer);
+    }
+    Ok(log)
+}
+
+/// Adds an answer to a log that has room for it.
+fn put(log: &mut AnswerLog, answer: &Answer)
+    requires { length log.old.items < log.old.room }
+    ensures items { log.new.items ≡ log.old.items ++ answer.now ∷ [] }
+    ensures count { length log.new.items ≡ length log.old.items + 1 }
+    ensures are { log.new.are ≡ log.old.are }
+    ensures room { log.new.room ≡ log.old.room }
+{
+    match answer.reply {
+        Ok(reply) => log.push(answer.command, answer.node, Ok(()), &reply),
+        Err(refusal) => log.push(answer.command, answer.node, Err(refusal), &Reply::Unit),
+    }
+}
