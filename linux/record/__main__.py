@@ -4,7 +4,8 @@
     thprecord --own .. --groups 3 --order 9,4        a workload for each order in each of three control groups
     thprecord -- COMMAND ARGS..                      a command in a control group of its own
 
-A node of the journal is a control group and an order. Prints the verdict, with the line where the journal is illegal, and what was seen, inferred and left out. Wants root.
+A node of the journal is a control group and an order. Prints the verdict, with the line where the journal is illegal,
+and what was seen, inferred and left out. Wants root.
 Status 0: legal; 1: illegal, or records were lost; 2: a fault in the words; 77: nothing could be recorded, or nothing
 was.
 """

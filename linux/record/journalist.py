@@ -445,6 +445,7 @@ class Journalist:
             return
         self.seen["scans"] += 1
         self._freed_by_now(folios, record.queue)
+        self._joined_by_now(folios[:total], record.queue)
         found = [self._at.get(folio) for folio in record.queue]
         back: List[Page] = []
         for first, count in batches_of(total, freeable):
@@ -484,6 +485,11 @@ class Journalist:
                 if page and page.live and page.freed and asked.space in page.maps and self._reaches(asked, page):
                     self._apply(self._pending.pop(task), queue)
                     self.seen["calls told before their end"] += 1
+
+    def _joined_by_now(self, folios: List[Optional[Page]], queue: List[int]) -> None:
+        """Pages that stand before what the scan put back joined before it did so, by calls that still run."""
+        places = [queue.index(page.folio) for page in folios if page and page.folio in queue]
+        self._tell_early(queue[: min(places, default=0)])
 
     def _partly_by_now(self, page: Page, queue: Optional[List[int]]) -> None:
         """A page that is put back, or split with too few zeros, is partly mapped: where nothing told so yet, a call

@@ -54,14 +54,19 @@ def record_of(raw: bytes) -> Record:
     kind, count = Kind(words[0]), words[14]
     queue = None
     if kind in WITH_QUEUE and count <= QUEUE_MOST:
-        queue = list(struct.unpack_from(f"<{count}Q", raw, FOLIOS_AT))
+        queue = whole(list(struct.unpack_from(f"<{count}Q", raw, FOLIOS_AT)))
     return Record(kind, words[1], words[2] & 0xFFFFFFFF, words[3], words[4:13], queue)
 
 
 def record_from(plain: List[Any]) -> Record:
     """A record by what `plain` gave."""
     kind, time, task, space, values, queue = plain
-    return Record(Kind(kind), time, task, space, tuple(values), queue)
+    return Record(Kind(kind), time, task, space, tuple(values), whole(queue))
+
+
+def whole(queue: Optional[List[int]]) -> Optional[List[int]]:
+    """A queue, if no page stands in it twice: a walk of a list that changes may meet one again."""
+    return queue if queue is not None and len({*queue}) == len(queue) else None
 
 
 def lines_with_ends(records: List[Record]) -> None:

@@ -128,6 +128,10 @@ class RecordsTest(unittest.TestCase):
         struct.pack_into("<3Q", raw, FOLIOS_AT, 100, 200, 300)
         return bytes(raw)
 
+    def test_a_torn_copy_is_no_queue(self) -> None:
+        plain = [int(Kind.SCAN), 5, 7, SPACE, [0] * 9, [100, 200, 100]]
+        self.assertIsNone(record_from(plain).queue)
+
     def test_bytes_are_read(self) -> None:
         record = record_of(self.raw(Kind.SCAN, 3))
         self.assertEqual((record.kind, record.task, record.space, record.queue), (Kind.SCAN, 7, SPACE, [100, 200, 300]))
@@ -199,7 +203,9 @@ class ScanTest(unittest.TestCase):
         story.records.append(Record(kind, len(story.records), TASK + 1, SPACE, padded, queue))
 
     def test_batches(self) -> None:
-        rows = {(10, 10): [(0, 10)], (4, 166): [], (300, 300): [(0, 128), (128, 128)], (200, 150): [(0, 128)], (0, 0): []}
+        rows = {
+            (10, 10): [(0, 10)], (4, 166): [], (300, 300): [(0, 128), (128, 128)], (200, 150): [(0, 128)], (0, 0): [],
+        }
         for (total, freeable), wanted in rows.items():
             self.assertEqual(list(batches_of(total, freeable)), wanted)
 
