@@ -1,6 +1,7 @@
 -- Answers between logs and vectors.
 use Rattle.std.proofs.Common.{◌≡◌, ◌≤◌, ◌+◌, ◌++◌, ◌∷◌, [], ◌∙◌, ℕ, List, ap, append_assoc, drop, length, Some, Ok, Err, refl, sym}
-use Rattle.std.specs.Prelude.{slice_get, IfOk, Result}
+use Rattle.std.specs.Prelude.{slice_get, Bool, IfOk, Result, Vec}
+use Rattle.std.specs.declared.alloc.Global.{Global}
 use Rattle.std.specs.declared.alloc.AllocError.{AllocError}
 use Rattle.thp_report.proofs.AnswerLaws.{drop_at_get}
 use Rattle.thp_sections.specs.declared.answer_log.Answers.{Answers}
@@ -22,10 +23,10 @@ one_more front all place answer had is =
     append_assoc front (answer ∷ []) (drop (place + 1) all) ∙ ap (λ left. front ++ left) (sym (drop_at_get all place answer (sym is))) ∙ had
 
 -- what a section's rest leads to by a log, it leads to by the vector
-pub rest_works : (c : ℕ) (old mid new : Fronts) (commands : List Command) (w : WorkedList) (log : LogState) (room : ℕ) (done : Worked) (r : Result WorkedList AllocError) →
-    log.items ≡ w.answers → log.room ≡ room → length commands ≤ room → (Works c old mid commands (record { answers = log; rest = w.rest }) → Works c old new commands done) →
-    IfOk r (λ l. l.answers ≡ done.answers.items) → IfOk r (λ l. l.rest ≡ done.rest) → WorksOn c old mid commands w → IfOk r (WorksOn c old new commands)
-rest_works c old mid new commands w log room done (Err e) items is le go answers rest given = tt
-rest_works c old mid new commands w log room done (Ok l) items is le go answers rest given =
-    let worked = go (record { to = rw items given; room = rw is le }) in
-    rw (answers, rest) worked.to
+pub rest_works : (c : ℕ) (old mid new : Fronts) (commands : List Command) (w : WorkedList) (log : LogState) (opened : Vec Bool Global) (room : ℕ) (done : Worked) (r : Result WorkedList AllocError) →
+    log.items ≡ w.answers → opened.items ≡ w.opened → log.room ≡ room → length commands ≤ room → (Works c old mid commands (record { answers = log; rest = w.rest; opened = opened }) → Works c old new commands done) →
+    IfOk r (λ l. l.answers ≡ done.answers.items) → IfOk r (λ l. l.rest ≡ done.rest) → IfOk r (λ l. l.opened ≡ done.opened.items) → WorksOn c old mid commands w → IfOk r (WorksOn c old new commands)
+rest_works c old mid new commands w log opened room done (Err e) items same is le go answers rest left given = tt
+rest_works c old mid new commands w log opened room done (Ok l) items same is le go answers rest left given =
+    let worked = go (record { to = rw (items, same) given; room = rw is le }) in
+    rw (answers, left, rest) worked.to

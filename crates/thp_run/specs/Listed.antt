@@ -1,5 +1,5 @@
 -- Sections whose answers stand in vectors, which contracts see as lists.
-use Rattle.std.specs.Prelude.{◌≡◌, ℕ, List, length, map, None, Option}
+use Rattle.std.specs.Prelude.{◌≡◌, ℕ, Bool, List, length, map, None, Option}
 use Rattle.thp_sections.specs.declared.answer_log.Answers.TheVariants.{Kept}
 use Rattle.thp_sections.specs.declared.reply.Answer.{Answer}
 use Rattle.thp_sections.specs.declared.reply.Rest.{Rest}
@@ -8,10 +8,11 @@ use Rattle.thp_sections.specs.Fronts.{Fronts}
 use Rattle.thp_sections.specs.Sections.{WorksTo}
 use Rattle.thp_text.specs.declared.script.Command.{Command}
 
--- what became of a section: its answers, and where it stopped
+-- what became of a section: its answers, where it stopped, and by node whether it left a batch open
 pub record WorkedList : Type 0 where
   pub answers : List Answer
   pub rest : Option Rest
+  pub opened : List Bool
 
 -- the answers of a worker's section
 pub record SectionList : Type 0 where
@@ -20,7 +21,7 @@ pub record SectionList : Type 0 where
 
 -- caller c did the commands of its section and the put-backs at its end, all or up to where it stopped
 abbrev pub WorksOn : ℕ → Fronts → Fronts → List Command → WorkedList → Type 0
-WorksOn c old new commands w = WorksTo c old new commands w.answers w.rest
+WorksOn c old new commands w = WorksTo c old new commands w.answers w.opened w.rest
 
 -- nothing of the section is left
 abbrev pub IsWhole : WorkedList → Type 0

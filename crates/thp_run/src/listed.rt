@@ -4,6 +4,7 @@ ghost use Rattle.std.specs.Prelude.{◌≡◌, ◌+◌, ◌<◌, ◌≤◌, ◌^
 ghost use Rattle.thp_report.specs.Reports.{report_of, told_of};
 ghost use Rattle.thp_run.specs.Listed.{section_of, sections_of, IsWhole, WorksOn};
 ghost use Rattle.thp_sections.specs.Fronts.{Fronts, Goes, HasAll, HasCaller};
+ghost use Rattle.thp_sections.specs.OpenBatches.{HasNoBatch};
 ghost use Rattle.thp_sections.specs.Sections.{IsCommandFor};
 ghost use Rattle.thp_sections.specs.declared.answer_log.Answers.TheVariants.{Kept};
 ghost use Rattle.thp_sections.specs.declared.reply.Answer.{Answer as KeptAnswer};
@@ -20,6 +21,8 @@ use thp_text::{Command, Settings};
 pub struct Worked {
     pub answers: Vec<Answer>,
     pub rest: Option<Rest>,
+    /// By node, whether a batch that the section's commands opened there is open still.
+    pub opened: Vec<bool>,
 }
 
 impl Model for Worked {
@@ -27,7 +30,7 @@ impl Model for Worked {
 
     ghost Value = { WorkedList };
 
-    ghost view = { λ w. record { answers = w.answers.items; rest = w.rest } };
+    ghost view = { λ w. record { answers = w.answers.items; rest = w.rest; opened = w.opened.items } };
 }
 
 /// The answers to the commands of a worker, in order; setup is worker 0.
@@ -58,6 +61,7 @@ pub fn work<S: Steps, G: Gate>(
     requires caller { HasCaller (S.fronts steps.old) worker }
     requires few { length commands.now < 2 ^ 32 }
     requires commands { All (IsCommandFor (S.fronts steps.old).nodes) commands.now }
+    requires shut { HasNoBatch worker (S.fronts steps.old) }
     ensures goes { Goes worker (S.fronts steps.old) (S.fronts steps.new) }
     ensures works { IfOk result (WorksOn worker (S.fronts steps.old) (S.fronts steps.new) commands.now) }
     ensures done { HasAll (S.fronts steps.old) → IfOk result IsWhole }
@@ -82,10 +86,18 @@ pub fn work_rest<S: Steps>(
     ensures works { (old : Fronts) → WorksOn worker old (S.fronts steps.old) commands.now worked → IfOk result (WorksOn worker old (S.fronts steps.new) commands.now) }
     ensures done { HasAll (S.fronts steps.old) → IfOk result IsWhole }
 {
-    let Worked { answers, rest } = worked;
+    let Worked {
+        answers,
+        rest,
+        opened,
+    } = worked;
     let room = commands.len().max(answers.len());
     let log = to_log(alloc, room, answers.as_slice())?;
-    let begun = thp_sections::Worked { answers: log, rest };
+    let begun = thp_sections::Worked {
+        answers: log,
+        rest,
+        opened,
+    };
     let worked = thp_sections::work_rest(commands, worker, begun, steps)?;
     from_log(alloc, worked)
 }
@@ -111,12 +123,19 @@ fn from_log(alloc: Global, worked: thp_sections::Worked) -> Result<Worked, Alloc
     requires { worked.answers.are ≡ Kept }
     ensures answers { IfOk result (λ list. list.answers ≡ worked.answers.items) }
     ensures rest { IfOk result (λ list. list.rest ≡ worked.rest) }
+    ensures opened { IfOk result (λ list. list.opened ≡ worked.opened.items) }
 {
+    let thp_sections::Worked {
+        answers: log,
+        rest,
+        opened,
+    } = worked;
     let begun = Worked {
-        answers: Vec::with_capacity(alloc, worked.answers.len())?,
-        rest: worked.rest,
+        answers: Vec::with_capacity(alloc, log.len())?,
+        rest,
+        opened,
     };
-    filled(begun, &worked.answers)
+    filled(begun, &log)
 }
 
 /// What became of a section, with the answers that a log kept in place of none.
@@ -126,6 +145,7 @@ fn filled(begun: Worked, log: &AnswerLog) -> Result<Worked, AllocError>
     requires empty { begun.answers ≡ [] }
     ensures answers { IfOk result (λ list. list.answers ≡ log.now.items) }
     ensures rest { IfOk result (λ list. list.rest ≡ begun.rest) }
+    ensures opened { IfOk result (λ list. list.opened ≡ begun.opened) }
 {
     let mut list = begun;
     for place in 0..log.len() {
@@ -141,6 +161,7 @@ impl Worked {
         requires inside { place < length log.now.items }
         ensures answers { OnOk result ((answer : KeptAnswer) × (slice_get log.now.items place ≡ Some answer) × (self.new.answers ≡ self.old.answers ++ answer ∷ [])) }
         ensures rest { OnOk result (self.new.rest ≡ self.old.rest) }
+        ensures opened { OnOk result (self.new.opened ≡ self.old.opened) }
     {
         // the toolchain finds these types, which stand in answers, only in functions that name them
         let _in_answers = (Reply::Tried(Tried::Done), Refusal::NoPage);

@@ -5,4 +5,5 @@ abbrev pub invariant-loop-place : goal.invariant-loop-place
 invariant-loop-place l = record {
   answers : l.list.answers ++ drop l.place l.log.items ≡ l.log.items;
   rest : l.list.rest ≡ l.fn.begun.rest;
+  opened : l.list.opened ≡ l.fn.begun.opened;
 }
