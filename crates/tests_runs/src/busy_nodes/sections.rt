@@ -128,17 +128,20 @@ fn queue(rt: &impl Abort, passes: &mut NodePasses<'_>, page: u64)
     ensures goes { Goes 0 (fronts_in passes.old) (fronts_in passes.new) }
 {
     let alloc = Step::One(NodeCall::Alloc);
-    assert!(rt; matches!(step(passes, 0, alloc), Ok(Reply::Page(_))));
+    let allocated = step(passes, 0, alloc);
+    assert!(rt; matches!(allocated, Ok(Reply::Page(_))));
     let split = Step::One(NodeCall::Page {
         page,
         call: PageCall::Gain(Gain::SplitPmd),
     });
-    assert!(rt; matches!(step(passes, 0, split), Ok(Reply::Unit)));
+    let divided = step(passes, 0, split);
+    assert!(rt; matches!(divided, Ok(Reply::Unit)));
     let unmap = Step::One(NodeCall::Page {
         page,
         call: PageCall::Loss(Loss::UnmapSub { first: 0, count: 1 }),
     });
-    assert!(rt; matches!(step(passes, 0, unmap), Ok(Reply::Done(_))));
+    let queued = step(passes, 0, unmap);
+    assert!(rt; matches!(queued, Ok(Reply::Done(_))));
 }
 
 // Queues the next page, and pins it.
