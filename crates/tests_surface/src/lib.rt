@@ -1,0 +1,26 @@
+//! The public surface in the hands of a caller who knows six crates and `std`, each item in the form in which it is met.
+//!
+//! | Crate | Items |
+//! |---|---|
+//! | `thp_model` | `PageId`, `SubSet`, `Outcome`, `Event`, `What`, `Refusal`, `Shape` |
+//! | `thp_links` | `NIL`, `Link`, `LinkTable`, `Queue`, `FreeChain` |
+//! | `thp_page` | `Page`, `Change`, `Standing`, `PageTable` |
+//! | `thp_node` | `Node`, `NewFault`, `Done`, `Batch`, `Tried`, `BackReply`, `ScanReply`, `Counters` |
+//! | `thp_cell` | `NodeCell`, `Pass`, `Hold`, `Busy`, `CellFault` |
+//! | `thp_run` | `Settings`, `Report`, `read_line`, `Line`, `read_orders`, `read_underused`, `read_script`, `Script`, `Command`, `Op`, `Sequence`, `ReadFault`, `TextKind`, `Watched`, `run`, `RunFault`, `Gate`, `NoGate`, `read_journal`, `Journals`, `NodeJournal`, `check_text`, `check_run`, `Step`, `Steps`, `Reply`, `Answer`, `Rest`, `work`, `work_rest`, `Worked`, `Section`, `report_text` |
+#![tactic(auto)]
+
+#[cfg(test)]
+mod cells;
+#[cfg(test)]
+mod links;
+#[cfg(test)]
+mod nodes;
+#[cfg(test)]
+mod pages;
+#[cfg(test)]
+mod program;
+#[cfg(test)]
+mod sections;
+#[cfg(test)]
+mod sets;

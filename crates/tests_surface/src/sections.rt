@@ -1,0 +1,74 @@
+//! A section of a holder of callers, and the report of its answers.
+ghost use Rattle.std.specs.Prelude.{◌<◌, ◌^◌, All, length};
+ghost use Rattle.thp_run.specs.Listed.{WorksOn};
+ghost use Rattle.thp_sections.specs.Fronts.{Fronts, HasCaller};
+ghost use Rattle.thp_sections.specs.OpenBatches.{HasNoBatch};
+ghost use Rattle.thp_sections.specs.Sections.{IsCommandFor};
+
+use std::alloc::{AllocError, Global};
+use std::process::Abort;
+use thp_model::{PageId, Refusal};
+use thp_run::{
+    Answer, Command, NoGate, Reply, Report, Section, Settings, Steps, Worked, report_text, work,
+    work_rest,
+};
+
+// What a section of caller 1 is answered, by whoever makes its steps.
+pub fn worked_by<S: Steps>(
+    alloc: Global,
+    commands: &[Command],
+    steps: &mut S,
+) -> Result<Worked, AllocError>
+    requires caller { HasCaller (S.fronts steps.old) 1 }
+    requires few { length commands.now < 2 ^ 32 }
+    requires commands { All (IsCommandFor (S.fronts steps.old).nodes) commands.now }
+    requires shut { HasNoBatch 1 (S.fronts steps.old) }
+{
+    work(alloc, commands, 1, steps, &NoGate)
+}
+
+// What is left of it.
+pub fn rest_by<S: Steps>(
+    alloc: Global,
+    commands: &[Command],
+    worked: Worked,
+    steps: &mut S,
+) -> Result<Worked, AllocError>
+    requires caller { HasCaller (S.fronts steps.old) 1 }
+    requires few { length commands.now < 2 ^ 32 }
+    requires commands { All (IsCommandFor (S.fronts steps.old).nodes) commands.now }
+    requires worked { (old : Fronts) × WorksOn 1 old (S.fronts steps.old) commands.now worked }
+{
+    work_rest(alloc, commands, 1, worked, steps)
+}
+
+// Two answers of worker 1.
+fn section(alloc: Global) -> Result<Section, AllocError> {
+    let page = Answer {
+        command: 0,
+        node: 0,
+        reply: Ok(Reply::Page(PageId(7))),
+    };
+    let refused = Answer {
+        command: 1,
+        node: 0,
+        reply: Err(Refusal::NoPage),
+    };
+    let answers = vec![in alloc; page, refused]?;
+    Ok(Section { worker: 1, answers })
+}
+
+// Their report.
+fn report_of(rt: &impl Abort, alloc: Global) -> Result<Vec<u8>, AllocError> {
+    let settings = Settings::new(1, 4, 1, Report::Answers).expect(rt, "settings");
+    let section = section(alloc)?;
+    let sections = vec![in alloc; section]?;
+    report_text(alloc, &settings, &[], sections.as_slice())
+}
+
+#[test]
+fn answers_in_vectors(rt: HostRuntime) {
+    let report = report_of(&rt, rt.alloc());
+    let want = b"1 1 page 7\n1 2 refused no-page\n".as_slice();
+    assert!(rt; matches!(&report, Ok(text) if text.as_slice() == want));
+}
