@@ -6,6 +6,7 @@ use thp_check::check;
 use thp_model::{Event, Outcome, PageId, Shape, SubSet, What, check as slow_check};
 
 // Numbers that look random, the same in each run.
+#[derive(Drop)]
 struct Dice {
     state: u64,
 }
