@@ -40,7 +40,7 @@ fn shrunk(node: &mut Node) -> Result<(Tried, BackReply, ScanReply), Refusal> {
 // Whether the node tells of what happened on it.
 fn is_told(node: &Node) -> bool {
     let counters: Counters = node.counters();
-    let frames = node.frames_held() + node.frames_given();
+    let frames = node.frames_held().saturating_add(node.frames_given());
     let lists = node.queue().len() == 0 && node.queue_len() == 0;
     let kept = node.table().block_of(PageId(0)).is_some();
     lists && kept && frames == 4 && counters.split_page == 1 && node.shape() == SMALL

@@ -1,7 +1,8 @@
 //! Pages and their table.
-ghost use Rattle.std.specs.Prelude.{◌≡◌, None, length};
-ghost use Rattle.thp_page.specs.Slots.{slot_at};
+ghost use Rattle.std.specs.Prelude.{◌≡◌, ◌<◌, Some, length};
+ghost use Rattle.thp_page.specs.Slots.{fresh_slot, with_slot};
 
+use std::process::Abort;
 use std::test::Fail;
 use thp_model::{PageId, Refusal, SubSet};
 use thp_page::{Change, Page, PageTable, Standing};
@@ -35,24 +36,29 @@ fn gives_zero() -> bool {
     page.split(true) == SubSet::full(2)
 }
 
-// Whether a page stands in the table where it was placed.
-fn is_placed(table: &mut PageTable) -> bool
-    requires size { length table.old.links ≡ 4 }
-    requires empty { slot_at table.old 2 ≡ None }
+// Places a page of this number in an empty block, if the number is new.
+fn put(rt: &impl Abort, table: &mut PageTable, block: u32, id: PageId)
+    requires { block < length table.old.links }
+    ensures { table.new ≡ with_slot table.old block (Some (fresh_slot table.old.order id)) }
 {
-    if table.block_of(PageId(0)).is_some() {
-        return false;
-    }
-    table.place(2, PageId(0));
-    table.set_standing(2, Standing::Batch(1));
-    let stands = table.standing(2) == Standing::Batch(1);
-    let has = table.page(2).is_some() && table.page_mut(2).is_some();
-    table.clear(2);
-    stands && has
+    assert!(rt; table.block_of(id) == None);
+    assert!(rt; table.page(block).is_none());
+    table.place(block, id);
 }
 
 #[test]
-fn pages_and_table(rt: HostRuntime) -> Result<(), Fail> {
+fn table(rt: HostRuntime) -> Result<(), Fail> {
+    let mut table = PageTable::new(rt.alloc(), 4, 9)?;
+    put(&rt, &mut table, 2, PageId(0));
+    table.set_standing(2, Standing::Batch(1));
+    assert!(rt; table.standing(2) == Standing::Batch(1));
+    table.clear(2);
+    assert!(rt; table.page_mut(2).is_none());
+    Ok(())
+}
+
+#[test]
+fn a_page(rt: HostRuntime) {
     let calls = changed();
     let unused = matches!(
         calls,
@@ -62,7 +68,5 @@ fn pages_and_table(rt: HostRuntime) -> Result<(), Fail> {
             ..
         })
     );
-    let placed = is_placed(&mut PageTable::new(rt.alloc(), 4, 9)?);
-    assert!(rt; unused && is_fresh() && gives_zero() && placed);
-    Ok(())
+    assert!(rt; unused && is_fresh() && gives_zero());
 }

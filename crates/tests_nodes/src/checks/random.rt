@@ -1,5 +1,5 @@
 //! Histories of random events, on which the check and the slow check must say the same.
-ghost use Rattle.std.specs.Prelude.{◌≡◌, ◌<◌};
+ghost use Rattle.std.specs.Prelude.{◌≡◌, ◌+◌, ◌<◌};
 
 use crate::checks::histories::by;
 use thp_check::check;
