@@ -12,7 +12,7 @@
 # make edits:   the wrong bodies that the gate has no time for (tests/edits), beside those that it tries
 # make linux:   random scripts on the running kernel and on the built program: CASES=n SEED=s PROGRAM=path (wants root;
 #               status 77 where this machine can't compare anything)
-# make bench:   times on large scripts, of single calls and of texts (docs/PROOFS.md has the figures)
+# make bench:   times on large scripts, beside plain Rust, and of single calls (docs/PROOFS.md has the figures)
 # How long each takes: README.md, "First minutes".
 PREFIX ?= /usr/local
 PROGRAM = crates/thpsplit/out/thpsplit

@@ -1,12 +1,11 @@
-//! Times of the calls themselves: links and pages, a shared node, and the runner's steps.
+//! Times of the calls themselves: links and pages, and a shared node.
 //!
-//! Its arguments are three numbers: the rounds of links and pages, of each thread on a shared node, and of each worker; 1,000
-//! where there is none. A part whose number is 0 is left out. The times go to standard error.
+//! Its arguments are two numbers: the rounds of links and pages, and of each thread on a shared node; 1,000 where there is none.
+//! A part whose number is 0 is left out. The times go to standard error.
 #![tactic(auto)]
 
 mod cells;
 mod nodes;
-mod runners;
 mod stopwatch;
 mod tables;
 
@@ -21,10 +20,6 @@ fn main(rt: HostRuntime) -> Result<()> {
     let rounds = asked(&rt, 2)?;
     if rounds > 0 {
         cells::time_all(&rt, rounds)?;
-    }
-    let rounds = asked(&rt, 3)?;
-    if rounds > 0 {
-        runners::time_all(&rt, rounds)?;
     }
     Ok(())
 }

@@ -1,14 +1,11 @@
 //! Nodes for rounds.
-ghost use Rattle.std.specs.Prelude.{◌≡◌, ◌+◌, ◌<◌, [], All, IfOk, IfSome, length};
+ghost use Rattle.std.specs.Prelude.{◌≡◌, [], IfSome};
 ghost use Rattle.thp_cell.specs.Views.{HasAll};
-ghost use Rattle.thp_sections.specs.Holdings.{IsShut};
-ghost use Rattle.thp_sections.specs.Passes.{Agree};
 
-use std::alloc::{AllocError, Global};
+use std::alloc::Global;
 use thp_cell::{NodeCell, Pass};
 use thp_model::Shape;
 use thp_node::Node;
-use thp_sections::NodePass;
 
 /// A node with room for every worker's page.
 pub(crate) fn new_node(alloc: Global) -> Option<Node>
@@ -41,27 +38,4 @@ pub(crate) fn new_cell(alloc: Global, callers: u32) -> Option<(NodeCell, Pass)>
         }
     }
     Some((cell, pass))
-}
-
-/// One node more.
-pub(crate) fn with_node<'a>(
-    alloc: Global,
-    nodes: Vec<NodePass<'a>>,
-    cell: &'a NodeCell,
-    pass: Pass,
-    callers: u32,
-) -> Result<Vec<NodePass<'a>>, AllocError>
-    requires cell { pass.cell ≡ cell.now }
-    requires all { HasAll pass }
-    requires callers { pass.callers ≡ callers }
-    requires agree { Agree callers 0 callers nodes.items }
-    requires few { length nodes.items < 4 }
-    requires shut { All IsShut nodes.items }
-    ensures agree { IfOk result (λ r. Agree callers 0 callers r.items) }
-    ensures more { IfOk result (λ r. length r.items ≡ length nodes.entry.items + 1) }
-    ensures shut { IfOk result (λ r. All IsShut r.items) }
-{
-    let mut nodes = nodes;
-    nodes.push(NodePass::new(alloc, cell, pass)?)?;
-    Ok(nodes)
 }
