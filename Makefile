@@ -1,5 +1,6 @@
 # make try:     runs the first script at once, without proving anything
-# make run:     proves the program and all that it stands on, builds it, and runs the first script
+# make run:     proves the program and all that it stands on, its libraries side by side (prove.py), builds it, and runs the
+#               first script
 # make install: puts the proved program and thpwhatif, their manual pages and completions below PREFIX (default /usr/local;
 #               DESTDIR as usual); make uninstall takes them away
 # make test:    every check (proofs from nothing, must-fail edits, tests, stored runs, examples, documents); ends in
@@ -30,6 +31,7 @@ try: toolchain
 	@cd crates/thpsplit && rt try < ../../$(SCRIPT)
 
 run: toolchain
+	@python3 prove.py thpsplit
 	@cd crates/thpsplit && rt run < ../../$(SCRIPT)
 
 # what is installed: its place below the prefix, and the file

@@ -3,11 +3,11 @@
 
     bench/ceilings.py PROGRAM [--store]
 
-Scripts of bench/generate.py (700,000 bytes, 16 blocks) of each kind, by each report, and the check of the journal that
-the program writes. Instructions are counted by `valgrind --tool=callgrind`, the whole program's; memory is the greatest
-resident size that the kernel tells of it (wait4), by a script of 4,200,000 bytes. `--store` writes bench/ceilings.json
-anew. The last line is `N passed, M failed`; status 1 where something takes more. Without valgrind the instructions are
-named as skipped, and counted neither way.
+Scripts of bench/generate.py (700,000 bytes, 16 blocks; `clash` with 4,096) of each kind, by each report, and the check of the
+journal that the program writes. Instructions are counted by `valgrind --tool=callgrind`, the whole program's; memory is the
+greatest resident size that the kernel tells of it (wait4), by a script of 4,200,000 bytes. A command of `clash` is also held to
+1.1 of the instructions of one of `middle`. `--store` writes bench/ceilings.json anew. The last line is `N passed, M failed`;
+status 1 where something takes more. Without valgrind the instructions are named as skipped, and counted neither way.
 """
 
 from __future__ import annotations
@@ -28,7 +28,9 @@ sys.path.insert(0, str(ROOT / "tests"))
 from tally import Missing, Tally  # noqa: E402
 
 STORED = ROOT / "bench/ceilings.json"
-KINDS = ("churn", "middle", "maps", "counts")
+BLOCKS = {"churn": 16, "middle": 16, "maps": 16, "counts": 16, "clash": 4096}
+"""The kinds of scripts, and how many blocks a node has. Pages clash in numbers: with few of them nothing would show."""
+
 WAYS = {"totals": [], "answers": ["--report", "answers"], "journal": ["--report", "journal"], "check": ["--check"]}
 """What the program is asked for, and by which words. The check reads what `journal` wrote."""
 
@@ -46,11 +48,12 @@ def inputs(program: str, folder: Path, kind: str, length: int) -> tuple[Path, Pa
     script, journal = folder / f"{kind}.{length}.script", folder / f"{kind}.{length}.journal"
     if journal.exists():
         return script, journal
-    words = [sys.executable, str(ROOT / "bench/generate.py"), kind, "16", str(length)]
+    blocks = str(BLOCKS[kind])
+    words = [sys.executable, str(ROOT / "bench/generate.py"), kind, blocks, str(length)]
     with script.open("wb") as file:
         subprocess.run(words, stdout=file, check=True)
     with script.open("rb") as given, journal.open("wb") as file:
-        subprocess.run([program, "--blocks", "16", "--report", "journal"], stdin=given, stdout=file, check=True)
+        subprocess.run([program, "--blocks", blocks, "--report", "journal"], stdin=given, stdout=file, check=True)
     return script, journal
 
 
@@ -76,7 +79,7 @@ def memory(words: list[str], given: Path) -> float:
 
 def measured(program: str, folder: Path, kind: str, way: str) -> dict[str, float]:
     """What one run takes; without valgrind its memory alone."""
-    words = [program, *([] if way == "check" else ["--blocks", "16"]), *WAYS[way]]
+    words = [program, *([] if way == "check" else ["--blocks", str(BLOCKS[kind])]), *WAYS[way]]
     figures: dict[str, float] = {}
     if shutil.which("valgrind"):
         given = inputs(program, folder, kind, COUNTED)
@@ -100,6 +103,22 @@ def compared(name: str, took: dict[str, float], stored: dict[str, float], tally:
         tally.run(f"{name}, {what.split(',')[0]}", test)
 
 
+def a_command(folder: Path, kind: str, figures: Figures) -> float:
+    """Instructions of a command of a script, on average."""
+    took = figures[f"{kind}, totals"]
+    if "instructions, M" not in took:
+        raise Missing("valgrind isn't there")
+    lines = (folder / f"{kind}.{COUNTED}.script").read_bytes().count(b"\n")
+    return took["instructions, M"] * 1e6 / (lines - 1)  # without `setup`
+
+
+def clash_is_no_cliff(folder: Path, figures: Figures) -> str | None:
+    """Pages are found as fast where others share the low bits of their numbers."""
+    middle, clash = (a_command(folder, kind, figures) for kind in ("middle", "clash"))
+    print(f"a command of clash: {clash:.0f} instructions ({clash / middle:.2f} of {middle:.0f}, one of middle)")
+    return None if clash <= MOST * middle else f"{clash:.0f} instructions a command, above {MOST} of {middle:.0f}"
+
+
 def main() -> None:
     parser = argparse.ArgumentParser(description="compares what a built program takes with what is stored")
     parser.add_argument("program")
@@ -110,11 +129,12 @@ def main() -> None:
     stored: Figures = {} if asked.store else json.loads(STORED.read_text())
     figures: Figures = {}
     with tempfile.TemporaryDirectory() as name:
-        for kind in KINDS:
+        for kind in BLOCKS:
             for way in WAYS:
                 took = measured(program, Path(name), kind, way)
                 figures[f"{kind}, {way}"] = took
                 compared(f"{kind}, {way}", took, stored.get(f"{kind}, {way}", {}), tally)
+        tally.run("a command of clash, beside middle", lambda: clash_is_no_cliff(Path(name), figures))
     if asked.store:
         STORED.write_text(json.dumps(figures, indent=1) + "\n")
         print(f"stored in {STORED.relative_to(ROOT)}")

@@ -8,6 +8,8 @@ KIND   churn   pages are allocated, partly unmapped (so queued), scanned eight a
        maps    ranges of subpages and whole pages are mapped and unmapped on four pages, beside as many pages as the
                node has blocks
        counts  short commands: pins come and go on four pages, and the length of the queue is asked for
+       clash   subpages are unmapped and mapped again on as many pages as the node has blocks, all queued; the numbers of one
+               half of them share their low 13 bits with those of the other half
 BLOCKS how many blocks the node has, so how long the queue grows
 BYTES  about how long the script is; below 16,777,216
 """
@@ -64,9 +66,21 @@ def counts(blocks):
         yield f"pin 0 {page}\nunpin 0 {page}\ncount 0\n"
 
 
+def clash(blocks):
+    """Unmaps and maps of one subpage on pages half of which came 8,192 allocations behind the others."""
+    half, apart = blocks // 2, 1 << 13
+    for page in range(apart + half):
+        is_kept = page < half or page >= apart
+        yield f"alloc 0\n{'splitpmd' if is_kept else 'unmapwhole'} 0 {page}\n"
+    while True:
+        for older in range(half):
+            for page in (older, older + apart):
+                yield f"unmap 0 {page} 0 1\nmap 0 {page} 0 1\n"
+
+
 def main():
     kind, blocks, limit = sys.argv[1], int(sys.argv[2]), int(sys.argv[3])
-    lines = {"churn": churn, "middle": middle, "maps": maps, "counts": counts}[kind](blocks)
+    lines = {"churn": churn, "middle": middle, "maps": maps, "counts": counts, "clash": clash}[kind](blocks)
     written = sys.stdout.write("setup\n")
     for line in lines:
         if written + len(line) > limit:

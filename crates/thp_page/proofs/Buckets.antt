@@ -1,128 +1,194 @@
--- The sizes of buckets: how many blocks have a number with the same low bits.
-use Rattle.std.proofs.Common.{◌≡◌, ◌≢◌, ◌∙◌, ◌<◌, ◌≤◌, ℕ, zero, suc, ◌+◌, ◌-◌, List, [], ◌∷◌, length, get_or, set, replicate, cond, not, nat_eq, eq-eqb, ne_eqb, Bool, true, false, Option, Some, None, ap, sym, subst, refl, arith, length-set, get_or-set_same, inl, inr}
-use Rattle.std.specs.List.{sum_by, count_by}
-use Rattle.std.specs.Bool.{OnFalse}
-use Rattle.std.specs.Int.{from_bool}
-use Rattle.std.proofs.lemmas.Bool.{cases_eq, cases_lt}
-use Rattle.std.proofs.lemmas.List.{get_or-set_other, get_or_past}
-use Rattle.std.proofs.lemmas.List.Sums.{sum_by-cons, sum_by-set, get_or-le-sum_by, count_by-le-length}
-use Rattle.std.proofs.lemmas.List.Folds.{sum_by-replicate}
-use Rattle.thp_page.specs.Searching.{bucket_at, is_in_bucket}
+-- The chains of the buckets: a block is given a number or loses it, and is looked for by its number.
+use Rattle.std.proofs.Common.{◌≡◌, ◌≢◌, ◌∙◌, ℕ, zero, suc, ◌<◌, ◌^◌, List, [], ◌∷◌, length, get_or, set, replicate, Option, Some, None, Contains, ap, sym, refl, subst, arith, length-set, inl, inr}
+use Rattle.std.proofs.lemmas.Bool.{cases_eq}
+use Rattle.std.proofs.lemmas.List.{get_or-set_same, get_or-set_other, get_or-replicate}
+use Rattle.thp_links.specs.declared.link.TheConstants.{NIL}
+use Rattle.thp_links.specs.Indices.{without}
+use Rattle.thp_links.proofs.Members.{Contains-nil, Contains-head, Contains-behind, Contains-cons_cases, Contains-without, Contains-from_without, Distinct-nil}
+use Rattle.thp_page.specs.Searching.{bucket_at, IsOfBucket, IsChain, IsUnlinked, IsBucket, IsSearchable}
+use Rattle.thp_page.proofs.Chains.{chain_behind, chain_begins, chain_kept, chain_elsewhere, chain_pushed}
 
--- what a block counts in a bucket
-abbrev pub counts_in : ℕ → Option ℕ → ℕ
-counts_in k o = cond (is_in_bucket k o) 1 0
+-- a block is of one bucket
+one_bucket : (o : Option ℕ) (j k : ℕ) → IsOfBucket j o → IsOfBucket k o → j ≡ k
+one_bucket None j k h i = absurd h
+one_bucket (Some n) j k h i = sym h ∙ i
 
--- an item counts at most what all count, where one past the end counts nothing
-pub one_place : {X : Type 0} (f : X → ℕ) (d : X) → f d ≡ 0 → (xs : List X) (i : ℕ) → f (get_or xs i d) ≤ sum_by f xs
-one_place f d nothing xs i = elim (cases_lt i (length xs)) [
-  | inl inside ↦ get_or-le-sum_by f xs i d inside
-  | inr past ↦ (let out : f (get_or xs i d) ≡ 0 = ap f (get_or_past xs i d past) ∙ nothing in omega (arith, out))
-]
-
--- two items count at most what all count
-pub two_places : {X : Type 0} (f : X → ℕ) (d : X) → f d ≡ 0 → (xs : List X) (i j : ℕ) → i ≢ j → f (get_or xs i d) + f (get_or xs j d) ≤ sum_by f xs
-two_places f d nothing [] i j other = omega (arith, nothing)
-two_places f d nothing (x ∷ xs) zero zero other = absurd (other refl)
-two_places f d nothing (x ∷ xs) zero (suc j) other = let rest : f (get_or xs j d) ≤ sum_by f xs = one_place f d nothing xs j in omega (arith, rest, sum_by-cons f x xs)
-two_places f d nothing (x ∷ xs) (suc i) zero other = let rest : f (get_or xs i d) ≤ sum_by f xs = one_place f d nothing xs i in omega (arith, rest, sum_by-cons f x xs)
-two_places f d nothing (x ∷ xs) (suc i) (suc j) other =
-    let rest : f (get_or xs i d) + f (get_or xs j d) ≤ sum_by f xs = two_places f d nothing xs i j (λ same. other (ap suc same)) in
-    omega (arith, rest, sum_by-cons f x xs)
-
--- a block with a number counts 1 in the number's bucket and nothing in another
-pub counts_own : (k n : ℕ) → bucket_at n ≡ k → counts_in k (Some n) ≡ 1
-counts_own k n is = ap (λ b. cond {A = ℕ} b 1 0) (eq-eqb _ _ is)
-
-pub counts_other : (k n : ℕ) → bucket_at n ≢ k → counts_in k (Some n) ≡ 0
-counts_other k n other = ap (λ b. cond {A = ℕ} b 1 0) (ne_eqb (bucket_at n) k other)
-
--- a number put into an empty block makes its bucket one larger
-pub placed_own : (ns : List (Option ℕ)) (b id k : ℕ) → b < length ns → get_or ns b None ≡ None → bucket_at id ≡ k → count_by (is_in_bucket k) (set ns b (Some id)) ≡ count_by (is_in_bucket k) ns + 1
-placed_own ns b id k inside empty is =
-    let before : counts_in k (get_or ns b None) ≡ 0 = ap (counts_in k) empty in
-    omega (arith, sum_by-set (counts_in k) ns b (Some id) None inside, before, counts_own k id is)
-
--- and leaves the others
-pub placed_other : (ns : List (Option ℕ)) (b id k : ℕ) → b < length ns → get_or ns b None ≡ None → bucket_at id ≢ k → count_by (is_in_bucket k) (set ns b (Some id)) ≡ count_by (is_in_bucket k) ns
-placed_other ns b id k inside empty other =
-    let before : counts_in k (get_or ns b None) ≡ 0 = ap (counts_in k) empty in
-    omega (arith, sum_by-set (counts_in k) ns b (Some id) None inside, before, counts_other k id other)
-
--- a block emptied makes the bucket of its number one smaller
-pub cleared_own : (ns : List (Option ℕ)) (b id k : ℕ) → b < length ns → get_or ns b None ≡ Some id → bucket_at id ≡ k → count_by (is_in_bucket k) (set ns b None) + 1 ≡ count_by (is_in_bucket k) ns
-cleared_own ns b id k inside taken is =
-    let before : counts_in k (get_or ns b None) ≡ 1 = ap (counts_in k) taken ∙ counts_own k id is in
-    omega (arith, sum_by-set (counts_in k) ns b None None inside, before)
-
--- and leaves the others
-pub cleared_other : (ns : List (Option ℕ)) (b id k : ℕ) → b < length ns → get_or ns b None ≡ Some id → bucket_at id ≢ k → count_by (is_in_bucket k) (set ns b None) ≡ count_by (is_in_bucket k) ns
-cleared_other ns b id k inside taken other =
-    let before : counts_in k (get_or ns b None) ≡ 0 = ap (counts_in k) taken ∙ counts_other k id other in
-    omega (arith, sum_by-set (counts_in k) ns b None None inside, before)
-
--- the sizes after a number was put into an empty block
-pub sizes_placed : (ns : List (Option ℕ)) (sizes : List ℕ) (b id at size k : ℕ) → b < length ns → get_or ns b None ≡ None → at ≡ bucket_at id → at < length sizes →
-    size ≡ get_or sizes at 0 → get_or sizes k 0 ≡ count_by (is_in_bucket k) ns → get_or (set sizes at (size + 1)) k 0 ≡ count_by (is_in_bucket k) (set ns b (Some id))
-sizes_placed ns sizes b id at size k inside empty is room read counted = elim (cases_eq k at) [
-  | inl e ↦ (
-      let here : get_or (set sizes at (size + 1)) k 0 ≡ size + 1 = ap (λ j. get_or (set sizes at (size + 1)) j 0) e ∙ get_or-set_same sizes at (size + 1) 0 room in
-      let old : get_or sizes k 0 ≡ size = ap (λ j. get_or sizes j 0) e ∙ sym read in
-      omega (arith, here, old, counted, placed_own ns b id k inside empty (sym is ∙ sym e)))
-  | inr ne ↦ get_or-set_other sizes at k (size + 1) 0 ne ∙ counted ∙ sym (placed_other ns b id k inside empty (λ same. ne (sym same ∙ sym is)))
-]
-
--- and after a block was emptied
-pub sizes_cleared : (ns : List (Option ℕ)) (sizes : List ℕ) (b id at size k : ℕ) → b < length ns → get_or ns b None ≡ Some id → at ≡ bucket_at id → at < length sizes →
-    size ≡ get_or sizes at 0 → get_or sizes k 0 ≡ count_by (is_in_bucket k) ns → get_or (set sizes at (size - 1)) k 0 ≡ count_by (is_in_bucket k) (set ns b None)
-sizes_cleared ns sizes b id at size k inside taken is room read counted = elim (cases_eq k at) [
-  | inl e ↦ (
-      let here : get_or (set sizes at (size - 1)) k 0 ≡ size - 1 = ap (λ j. get_or (set sizes at (size - 1)) j 0) e ∙ get_or-set_same sizes at (size - 1) 0 room in
-      let old : get_or sizes k 0 ≡ size = ap (λ j. get_or sizes j 0) e ∙ sym read in
-      omega (arith, here, old, counted, cleared_own ns b id k inside taken (sym is ∙ sym e)))
-  | inr ne ↦ get_or-set_other sizes at k (size - 1) 0 ne ∙ counted ∙ sym (cleared_other ns b id k inside taken (λ same. ne (sym same ∙ sym is)))
-]
+-- new blocks have no number
+get_or-no_numbers : (n b : ℕ) → ◌≡◌ {A = Option ℕ} (get_or (replicate n None) b None) None
+get_or-no_numbers zero b = refl
+get_or-no_numbers (suc n) zero = refl
+get_or-no_numbers (suc n) (suc b) = get_or-no_numbers n b
 
 -- a new table has nothing in any bucket
-pub count-no_numbers : (k n : ℕ) → count_by (is_in_bucket k) (replicate n None) ≡ 0
-count-no_numbers k n = let none = sum_by-replicate (counts_in k) n None in omega (arith, none)
+pub new_searchable : (n : ℕ) (numbers : List (Option ℕ)) (nexts firsts : List ℕ) → n < 2 ^ 32 → numbers ≡ replicate n None → length numbers ≡ n → length nexts ≡ n → firsts ≡ replicate 8192 NIL → length firsts ≡ 8192 → IsSearchable numbers nexts firsts
+new_searchable n numbers nexts firsts small none size nexts_size ends firsts_size = record {
+  small = omega (arith, size);
+  each_next = nexts_size ∙ sym size;
+  each_first = firsts_size;
+  buckets = λ k few. record {
+    blocks = [];
+    chain = record {
+      linked = ap (λ (xs : List ℕ). get_or xs k 0) ends ∙ get_or-replicate 8192 k NIL 0 few;
+      distinct = Distinct-nil;
+      inside = λ b m. absurd (Contains-nil b m);
+    };
+    own = λ b m. absurd (Contains-nil b m);
+    every = λ b h. absurd (subst (IsOfBucket k) (ap (λ (ns : List (Option ℕ)). get_or ns b None) none ∙ get_or-no_numbers n b) h);
+  };
+}
 
--- where a bucket has no more than what one block counts, no other block has a number of it
-pub no_others : (ns : List (Option ℕ)) (k at b n : ℕ) → count_by (is_in_bucket k) ns ≡ counts_in k (get_or ns at None) → get_or ns b None ≡ Some n → bucket_at n ≡ k → b ≡ at
-no_others ns k at b n alone is low = elim (cases_eq b at) [
-  | inl e ↦ e
-  | inr ne ↦ (
-      let one : counts_in k (get_or ns b None) ≡ 1 = ap (counts_in k) is ∙ counts_own k n low in
-      absurd (omega (arith, alone, one, two_places (counts_in k) None refl ns b at ne)))
-]
+-- another block's number stays where one is set
+other_number : (numbers : List (Option ℕ)) (b : ℕ) (o : Option ℕ) (c : ℕ) → c ≢ b → get_or (set numbers b o) c None ≡ get_or numbers c None
+other_number numbers b o c ne = get_or-set_other numbers b c o None ne
 
--- a bucket has room for one more while a block is empty
-pub size_fits : (ns : List (Option ℕ)) (b id at size : ℕ) → b < length ns → get_or ns b None ≡ None → at ≡ bucket_at id → size ≡ count_by (is_in_bucket at) ns → size + 1 ≤ length ns
-size_fits ns b id at size inside empty is counted =
-    omega (arith, counted, placed_own ns b id at inside empty (sym is), count_by-le-length (is_in_bucket at) (set ns b (Some id)), length-set ns b (Some id))
+-- a number is put into an empty block, and the block in front of its bucket's chain
+module _ (numbers : List (Option ℕ)) (nexts firsts : List ℕ) (s : IsSearchable numbers nexts firsts) (b id first : ℕ) (inside : b < length numbers) (empty : get_or numbers b None ≡ None) where
+  -- an empty block is in no chain
+  absent : (k : ℕ) (few : k < 8192) → Contains (s.buckets k few).blocks b → ⊥
+  absent k few m = subst (IsOfBucket k) empty ((s.buckets k few).own b m)
 
--- the bucket of a block's number has that block
-pub size_some : (ns : List (Option ℕ)) (b id at size : ℕ) → b < length ns → get_or ns b None ≡ Some id → at ≡ bucket_at id → size ≡ count_by (is_in_bucket at) ns → 1 ≤ size
-size_some ns b id at size inside taken is counted = omega (arith, counted, cleared_own ns b id at inside taken (sym is))
+  -- its bucket
+  placed_own : (few : bucket_at id < 8192) → first ≡ get_or firsts (bucket_at id) 0 → IsBucket (set numbers b (Some id)) (set nexts b first) b (bucket_at id)
+  placed_own few read =
+      let old : IsBucket numbers nexts (get_or firsts (bucket_at id) 0) (bucket_at id) = s.buckets (bucket_at id) few in
+      let out : Contains old.blocks b → ⊥ = absent (bucket_at id) few in
+      let F : ℕ → Type 0 = λ x. IsChain nexts x old.blocks in
+      record {
+        blocks = b ∷ old.blocks;
+        chain = chain_pushed nexts first b old.blocks out (omega (arith, s.each_next)) (subst F (sym read) old.chain);
+        own = λ c m. elim (Contains-cons_cases b old.blocks c m) [
+          | inl e ↦ (
+              let P : ℕ → Type 0 = λ x. IsOfBucket (bucket_at id) (get_or (set numbers b (Some id)) x None) in
+              subst P (sym e) (subst (IsOfBucket (bucket_at id)) (sym (get_or-set_same numbers b (Some id) None inside)) refl))
+          | inr n ↦ subst (IsOfBucket (bucket_at id)) (sym (other_number numbers b (Some id) c (λ e. out (let Q : ℕ → Type 0 = λ x. Contains old.blocks x in subst Q e n)))) (old.own c n)
+        ];
+        every = λ c h. elim (cases_eq c b) [
+          | inl e ↦ (let Q : ℕ → Type 0 = λ x. Contains (b ∷ old.blocks) x in subst Q (sym e) (Contains-head b old.blocks))
+          | inr ne ↦ Contains-behind b old.blocks c (old.every c (subst (IsOfBucket (bucket_at id)) (other_number numbers b (Some id) c ne) h))
+        ];
+      }
 
--- a test as a number
-pub as_count : (b : Bool) → ◌≡◌ {A = ℕ} (from_bool b) (cond b 1 0)
-as_count true = refl
-as_count false = refl
+  -- another bucket
+  placed_other : (k : ℕ) (few : k < 8192) → k ≢ bucket_at id → IsBucket (set numbers b (Some id)) (set nexts b first) (get_or firsts k 0) k
+  placed_other k few other =
+      let old : IsBucket numbers nexts (get_or firsts k 0) k = s.buckets k few in
+      let out : Contains old.blocks b → ⊥ = absent k few in
+      record {
+        blocks = old.blocks;
+        chain = chain_elsewhere nexts (get_or firsts k 0) b first old.blocks out old.chain;
+        own = λ c m. subst (IsOfBucket k) (sym (other_number numbers b (Some id) c (λ e. out (let Q : ℕ → Type 0 = λ x. Contains old.blocks x in subst Q e m)))) (old.own c m);
+        every = λ c h. elim (cases_eq c b) [
+          | inl e ↦ (
+              let P : ℕ → Type 0 = λ x. IsOfBucket k (get_or (set numbers b (Some id)) x None) in
+              let own : bucket_at id ≡ k = subst (IsOfBucket k) (get_or-set_same numbers b (Some id) None inside) (subst P e h) in
+              absurd (other (sym own)))
+          | inr ne ↦ old.every c (subst (IsOfBucket k) (other_number numbers b (Some id) c ne) h)
+        ];
+      }
 
--- the test by sizes says no only where no other block has a number of the bucket
-pub others_tested :
-    (ns : List (Option ℕ)) (k at size own : ℕ) → size ≡ count_by (is_in_bucket k) ns → own ≡ counts_in k (get_or ns at None) →
-    OnFalse (not (nat_eq size own)) ((b n : ℕ) → get_or ns b None ≡ Some n → bucket_at n ≡ k → b ≡ at)
-others_tested ns k at size own counted is =
-    let P : Bool → Type 0 = λ z. OnFalse (not z) ((b n : ℕ) → get_or ns b None ≡ Some n → bucket_at n ≡ k → b ≡ at) in
-    elim (cases_eq size own) [
-      | inl e ↦ subst P (sym (eq-eqb size own e)) (λ b n has low. no_others ns k at b n (sym counted ∙ e ∙ is) has low)
-      | inr ne ↦ subst P (sym (ne_eqb size own ne)) tt
-    ]
+  pub placed : (at : ℕ) → at ≡ bucket_at id → at < 8192 → first ≡ get_or firsts at 0 → IsSearchable (set numbers b (Some id)) (set nexts b first) (set firsts at b)
+  placed at is few read = record {
+    small = omega (arith, s.small, length-set numbers b (Some id));
+    each_next = length-set nexts b first ∙ s.each_next ∙ sym (length-set numbers b (Some id));
+    each_first = length-set firsts at b ∙ s.each_first;
+    buckets = λ k below. (
+        let P : ℕ → Type 0 = λ x. IsBucket (set numbers b (Some id)) (set nexts b first) x k in
+        elim (cases_eq k at) [
+          | inl e ↦ (
+              let R : ℕ → Type 0 = λ j. IsBucket (set numbers b (Some id)) (set nexts b first) b j in
+              let here : get_or (set firsts at b) k 0 ≡ b = ap (λ j. get_or (set firsts at b) j 0) e ∙ get_or-set_same firsts at b 0 (omega (arith, s.each_first)) in
+              let own = placed_own (omega (arith, is)) (read ∙ ap (λ j. get_or firsts j 0) is) in
+              subst P (sym here) (subst R (sym (e ∙ is)) own))
+          | inr ne ↦ subst P (sym (get_or-set_other firsts at k b 0 ne)) (placed_other k below (λ e. ne (e ∙ sym is)))
+        ]);
+  }
 
--- new sizes are 0
-pub get_or-zeros : (n k : ℕ) → ◌≡◌ {A = ℕ} (get_or (replicate n 0) k 0) 0
-get_or-zeros zero k = refl
-get_or-zeros (suc n) zero = refl
-get_or-zeros (suc n) (suc k) = get_or-zeros n k
+-- a block with a number is emptied, and leaves its bucket's chain
+module _ (numbers : List (Option ℕ)) (nexts news firsts : List ℕ) (s : IsSearchable numbers nexts firsts) (b id at now : ℕ) (taken : get_or numbers b None ≡ Some id) (is : at ≡ bucket_at id) (few : at < 8192) where
+  -- the bucket, and that the block is of it
+  chained : IsBucket numbers nexts (get_or firsts at 0) at
+  chained = s.buckets at few
+
+  of_bucket : IsOfBucket at (get_or numbers b None)
+  of_bucket = subst (IsOfBucket at) (sym taken) (sym is)
+
+  -- the block counts in no bucket any more
+  gone : b < length numbers → (k c : ℕ) → c ≡ b → IsOfBucket k (get_or (set numbers b None) c None) → ⊥
+  gone inside k c e h =
+      let P : ℕ → Type 0 = λ x. IsOfBucket k (get_or (set numbers b None) x None) in
+      subst (IsOfBucket k) (get_or-set_same numbers b None None inside) (subst P e h)
+
+  -- its bucket
+  cleared_own : b < length numbers → IsUnlinked nexts news (get_or firsts at 0) now b → IsBucket (set numbers b None) news now at
+  cleared_own inside u = record {
+    blocks = without b chained.blocks;
+    chain = u.shorter chained.blocks chained.chain (chained.every b of_bucket);
+    own = λ c m. (
+        let was = Contains-from_without b chained.blocks c m in
+        subst (IsOfBucket at) (sym (other_number numbers b None c was.1)) (chained.own c was.0));
+    every = λ c h. elim (cases_eq c b) [
+      | inl e ↦ absurd (gone inside at c e h)
+      | inr ne ↦ Contains-without b chained.blocks c (chained.every c (subst (IsOfBucket at) (other_number numbers b None c ne) h)) ne
+    ];
+  }
+
+  -- another bucket
+  cleared_other : b < length numbers → IsUnlinked nexts news (get_or firsts at 0) now b → (k : ℕ) → k < 8192 → k ≢ at → IsBucket (set numbers b None) news (get_or firsts k 0) k
+  cleared_other inside u k below other =
+      let old : IsBucket numbers nexts (get_or firsts k 0) k = s.buckets k below in
+      let apart : (c : ℕ) → Contains old.blocks c → Contains chained.blocks c → ⊥ = λ c m n. other (one_bucket (get_or numbers c None) k at (old.own c m) (chained.own c n)) in
+      let out : (c : ℕ) → Contains old.blocks c → c ≢ b = λ c m e. (
+      let Q : ℕ → Type 0 = λ x. IsOfBucket k (get_or numbers x None) in
+      other (one_bucket (get_or numbers b None) k at (subst Q e (old.own c m)) of_bucket)) in
+      record {
+        blocks = old.blocks;
+        chain = chain_kept nexts news (get_or firsts k 0) old.blocks u.size (λ c m. u.others chained.blocks chained.chain c (apart c m)) old.chain;
+        own = λ c m. subst (IsOfBucket k) (sym (other_number numbers b None c (out c m))) (old.own c m);
+        every = λ c h. elim (cases_eq c b) [
+          | inl e ↦ absurd (gone inside k c e h)
+          | inr ne ↦ old.every c (subst (IsOfBucket k) (other_number numbers b None c ne) h)
+        ];
+      }
+
+  pub cleared : b < length numbers → (first : ℕ) → first ≡ get_or firsts at 0 → IsUnlinked nexts news first now b → IsSearchable (set numbers b None) news (set firsts at now)
+  cleared inside first read v =
+      let U : ℕ → Type 0 = λ x. IsUnlinked nexts news x now b in
+      let u : IsUnlinked nexts news (get_or firsts at 0) now b = subst U read v in
+      record {
+        small = omega (arith, s.small, length-set numbers b None);
+        each_next = u.size ∙ s.each_next ∙ sym (length-set numbers b None);
+        each_first = length-set firsts at now ∙ s.each_first;
+        buckets = λ k below. (
+            let P : ℕ → Type 0 = λ x. IsBucket (set numbers b None) news x k in
+            elim (cases_eq k at) [
+              | inl e ↦ (
+                  let R : ℕ → Type 0 = λ j. IsBucket (set numbers b None) news now j in
+                  let here : get_or (set firsts at now) k 0 ≡ now = ap (λ j. get_or (set firsts at now) j 0) e ∙ get_or-set_same firsts at now 0 (omega (arith, s.each_first)) in
+                  subst P (sym here) (subst R (sym e) (cleared_own inside u)))
+              | inr ne ↦ subst P (sym (get_or-set_other firsts at k now 0 ne)) (cleared_other inside u k below ne)
+            ]);
+      }
+
+-- the search has come to `at`: a block with the number is one of the chain from there on
+pub record IsSearchedTo (numbers : List (Option ℕ)) (nexts : List ℕ) (id at : ℕ) : Type 0 where
+  pub rest : List ℕ
+  pub chain : IsChain nexts at rest
+  pub ahead : (b : ℕ) → get_or numbers b None ≡ Some id → Contains rest b
+
+-- it goes on where a block has another number
+pub search_on : (numbers : List (Option ℕ)) (nexts : List ℕ) (id at : ℕ) → IsSearchedTo numbers nexts id at → at ≢ NIL → get_or numbers at None ≢ Some id → IsSearchedTo numbers nexts id (get_or nexts at 0)
+search_on numbers nexts id at w real other = go w.rest w.chain w.ahead where
+  go : (rest : List ℕ) → IsChain nexts at rest → ((b : ℕ) → get_or numbers b None ≡ Some id → Contains rest b) → IsSearchedTo numbers nexts id (get_or nexts at 0)
+  go [] c ahead = absurd (real c.linked)
+  go (x ∷ xs) c ahead = record {
+    rest = xs;
+    chain = chain_behind nexts at x xs c;
+    ahead = λ b e. elim (Contains-cons_cases x xs b (ahead b e)) [
+      | inl f ↦ absurd (other (ap (λ y. get_or numbers y None) (c.linked.0 ∙ sym f) ∙ e))
+      | inr n ↦ n
+    ];
+  }
+
+-- where the chain has ended no block has the number
+pub search_ended : (numbers : List (Option ℕ)) (nexts : List ℕ) (id at : ℕ) → length nexts < 2 ^ 32 → IsSearchedTo numbers nexts id at → at ≡ NIL → (b : ℕ) → get_or numbers b None ≢ Some id
+search_ended numbers nexts id at small w end b e = chain_begins nexts at b w.rest small w.chain (w.ahead b e) end

@@ -8,7 +8,7 @@ pub mod PageChanges
 pub mod PageUse
 pub mod MappedCounts
 pub mod ZeroSets
-pub mod Halves
+pub mod Chains
 pub mod Buckets
 pub mod TableSlots
 pub mod TableSteps

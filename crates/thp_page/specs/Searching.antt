@@ -1,24 +1,52 @@
--- What the search for a page's number rests on.
-use Rattle.std.specs.Prelude.{◌≡◌, ◌<◌, ℕ, ◌^◌, ◌%◌, Bool, false, nat_eq, List, length, slice_index, slice_index_or, count_by, Option, Some, None}
-
--- the low half of a number of 64 bits
-abbrev pub low_half : ℕ → ℕ
-low_half n = n % 2 ^ 32
+-- What the search for a page's number rests on: chains of blocks by the low bits of their numbers. No public clause cites this
+-- module.
+use Rattle.std.specs.Prelude.{◌≡◌, ◌<◌, ℕ, ◌^◌, ◌%◌, List, [], ◌∷◌, length, slice_index, slice_index_or, Option, Some, None}
+use Rattle.std.specs.List.{Contains}
+use Rattle.thp_links.specs.declared.link.TheConstants.{NIL}
+use Rattle.thp_links.specs.Indices.{Distinct, without}
 
 -- the bucket of a number
 abbrev pub bucket_at : ℕ → ℕ
 bucket_at n = n % 8192
 
--- a block with this number, or without one, counts in bucket k
-abbrev pub is_in_bucket : ℕ → Option ℕ → Bool
-is_in_bucket k None = false
-is_in_bucket k (Some n) = nat_eq (bucket_at n) k
+-- a block with this number is of bucket k; one without is of none
+abbrev pub IsOfBucket : ℕ → Option ℕ → Type 0
+IsOfBucket k None = ⊥
+IsOfBucket k (Some n) = bucket_at n ≡ k
 
--- the numbers by block have their low halves beside them, and each bucket has a hint and its size
-pub record IsSearchable (numbers : List (Option ℕ)) (halves hints sizes : List ℕ) : Type 0 where
+-- from `at` on each block leads to the next one, and the last one to none
+abbrev pub IsLinked : List ℕ → ℕ → List ℕ → Type 0
+IsLinked nexts at [] = at ≡ NIL
+IsLinked nexts at (b ∷ bs) = (at ≡ b) × IsLinked nexts (slice_index nexts b) bs
+
+-- the chain from `at` on has these blocks, none twice
+pub record IsChain (nexts : List ℕ) (at : ℕ) (blocks : List ℕ) : Type 0 where
+  pub linked : IsLinked nexts at blocks
+  pub distinct : Distinct blocks
+  pub inside : (b : ℕ) → Contains blocks b → b < length nexts
+
+-- the chain from `first` on has block b
+pub record IsInChain (nexts : List ℕ) (first b : ℕ) : Type 0 where
+  pub blocks : List ℕ
+  pub chain : IsChain nexts first blocks
+  pub there : Contains blocks b
+
+-- block b is out of its chain, which began with `first` and begins with `now`; other chains are as they were
+pub record IsUnlinked (old new : List ℕ) (first now b : ℕ) : Type 0 where
+  pub size : length new ≡ length old
+  pub shorter : (bs : List ℕ) → IsChain old first bs → Contains bs b → IsChain new now (without b bs)
+  pub others : (bs : List ℕ) → IsChain old first bs → (c : ℕ) → (Contains bs c → ⊥) → slice_index new c ≡ slice_index old c
+
+-- the chain from `first` on has exactly the blocks of bucket k
+pub record IsBucket (numbers : List (Option ℕ)) (nexts : List ℕ) (first k : ℕ) : Type 0 where
+  pub blocks : List ℕ
+  pub chain : IsChain nexts first blocks
+  pub own : (b : ℕ) → Contains blocks b → IsOfBucket k (slice_index_or numbers b None)
+  pub every : (b : ℕ) → IsOfBucket k (slice_index_or numbers b None) → Contains blocks b
+
+-- the numbers by block have their chains, one for each bucket
+pub record IsSearchable (numbers : List (Option ℕ)) (nexts firsts : List ℕ) : Type 0 where
   pub small : length numbers < 2 ^ 32
-  pub each_half : length halves ≡ length numbers
-  pub hinted : length hints ≡ 8192
-  pub sized : length sizes ≡ 8192
-  pub same : (b n : ℕ) → slice_index_or numbers b None ≡ Some n → slice_index_or halves b 0 ≡ low_half n
-  pub counted : (k : ℕ) → k < 8192 → slice_index sizes k ≡ count_by (is_in_bucket k) numbers
+  pub each_next : length nexts ≡ length numbers
+  pub each_first : length firsts ≡ 8192
+  pub buckets : (k : ℕ) → k < 8192 → IsBucket numbers nexts (slice_index firsts k) k

@@ -1,31 +1,25 @@
 //! The number of the page in each block, and the block of a number.
-ghost use Rattle.std.specs.Prelude.{◌≡◌, ◌≢◌, ◌<◌, ◌≤◌, ℕ, ◌^◌, List, length, nat_eq, replicate, slice_index_or, slice_set, IsSome, IfOk, IfSome, IfNone, Option, Some, None};
+ghost use Rattle.std.specs.Prelude.{◌≡◌, ◌≢◌, ◌<◌, ◌^◌, ℕ, List, length, replicate, slice_index, slice_index_or, slice_set, Contains, IsSome, IfOk, IfSome, IfNone, Option, Some, None};
 ghost use Rattle.std.specs.Bool.{OnTrue, OnFalse};
-ghost use Rattle.std.specs.List.{list_any};
-ghost use Rattle.thp_page.specs.Searching.{low_half, bucket_at, is_in_bucket};
+ghost use Rattle.thp_page.specs.Searching.{bucket_at, IsBucket, IsChain, IsInChain, IsUnlinked};
 
 use std::alloc::{AllocError, Global};
 use std::marker::Model;
+use thp_links::NIL;
 use thp_model::PageId;
 
 // How many buckets there are. A node has half as many blocks at most, so pages that are allocated one after the other have a
 // bucket each.
 const BUCKETS: u64 = 8192;
 
-// How many halves the search compares before it looks whether one was equal.
-const STRIDE: u32 = 64;
-
-// The numbers of the pages of a table, by block.
+// The numbers of the pages of a table, by block. The blocks whose numbers are of one bucket are in one chain.
 #[derive(Drop)]
 pub(crate) struct PageNumbers {
     numbers: Vec<Option<PageId>>,
-    // The low half of each number, packed for the search. That of an empty block may be any.
-    halves: Vec<u32>,
-    // By bucket the block that was last given a number of it. It may be wrong, so it counts only once the block's number was
-    // compared.
-    hints: Vec<u32>,
-    // By bucket how many blocks have a number of it.
-    sizes: Vec<u32>,
+    // By block the next one of its chain, or `NIL`. That of an empty block may be any.
+    nexts: Vec<u32>,
+    // By bucket the first block of its chain, the one that was given its number last, or `NIL`.
+    firsts: Vec<u32>,
 }
 
 impl Model for PageNumbers {
@@ -36,7 +30,7 @@ impl Model for PageNumbers {
 
     ghost view = { λ p. p.numbers.items };
 
-    ghost invariant = { λ p. IsSearchable p.numbers.items p.halves.items p.hints.items p.sizes.items };
+    ghost invariant = { λ p. IsSearchable p.numbers.items p.nexts.items p.firsts.items };
 }
 
 impl PageNumbers {
@@ -50,9 +44,8 @@ impl PageNumbers {
         }
         Ok(PageNumbers {
             numbers,
-            halves: vec![in alloc; u32::MAX; blocks as usize]?,
-            hints: vec![in alloc; 0; BUCKETS as usize]?,
-            sizes: vec![in alloc; 0; BUCKETS as usize]?,
+            nexts: vec![in alloc; NIL; blocks as usize]?,
+            firsts: vec![in alloc; NIL; BUCKETS as usize]?,
         })
     }
 
@@ -72,9 +65,8 @@ impl PageNumbers {
     {
         let bucket = bucket_of(id);
         self.numbers[block as usize] = Some(id);
-        self.halves[block as usize] = half_of(id);
-        self.hints[bucket] = block;
-        self.sizes[bucket] += 1;
+        self.nexts[block as usize] = self.firsts[bucket];
+        self.firsts[bucket] = block;
     }
 
     // Empties a block that has a number.
@@ -86,7 +78,9 @@ impl PageNumbers {
         let Some(id) = self.at(block) else {
             unreachable!()
         };
-        self.sizes[bucket_of(id)] -= 1;
+        let bucket = bucket_of(id);
+        let first = unlink(&mut self.nexts, self.firsts[bucket], block);
+        self.firsts[bucket] = first;
         self.numbers[block as usize] = None;
     }
 
@@ -96,89 +90,69 @@ impl PageNumbers {
         ensures inside { IfSome result (λ b. b < length self.now) }
         ensures absent { IfNone result ((b : ℕ) → slice_index_or self.now b None ≢ Some id) }
     {
-        let bucket = bucket_of(id);
-        let hint = self.hints[bucket];
-        if self.is_at(hint, id) {
-            Some(hint)
-        } else if self.has_others(hint, bucket) {
-            self.search(id)
-        } else {
-            None
-        }
-    }
-
-    // Whether a block has this number.
-    fn is_at(&self, block: u32, id: PageId) -> bool
-        ensures yes { OnTrue result (slice_index_or self.now block None ≡ Some id) }
-        ensures inside { OnTrue result (block < length self.now) }
-        ensures no { OnFalse result (slice_index_or self.now block None ≢ Some id) }
-    {
-        match self.numbers.get(block as usize) {
-            Some(Some(number)) => *number == id,
-            _ => false,
-        }
-    }
-
-    // Whether a block besides this one has a number of this bucket. Where it says no, no search is needed.
-    fn has_others(&self, block: u32, bucket: usize) -> bool
-        requires { bucket < 8192 }
-        ensures { OnFalse result ((b n : ℕ) → slice_index_or self.now b None ≡ Some n → bucket_at n ≡ bucket → b ≡ block) }
-    {
-        self.sizes[bucket] != u32::from(self.is_in(block, bucket))
-    }
-
-    // Whether a block has a number of this bucket.
-    fn is_in(&self, block: u32, bucket: usize) -> bool
-        ensures { result ≡ is_in_bucket bucket (slice_index_or self.now block None) }
-    {
-        match self.numbers.get(block as usize) {
-            Some(Some(number)) => bucket_of(*number) == bucket,
-            _ => false,
-        }
-    }
-
-    // `block_of` without the hints.
-    fn search(&self, id: PageId) -> Option<u32>
-        ensures found { IfSome result (λ b. slice_index_or self.now b None ≡ Some id) }
-        ensures inside { IfSome result (λ b. b < length self.now) }
-        ensures absent { IfNone result ((b : ℕ) → slice_index_or self.now b None ≢ Some id) }
-    {
-        let half = half_of(id);
-        let len = self.halves.len() as u32;
-        let mut start = 0;
-        while start < len {
-            let end = start + STRIDE.min(len - start);
-            if has_half(&self.halves[start as usize..end as usize], half) {
-                if let Some(block) = self.search_part(start, end, id) {
-                    return Some(block);
-                }
-            }
-            start = end;
-        }
-        None
-    }
-
-    // `search` among the blocks from `start` to before `end`.
-    fn search_part(&self, start: u32, end: u32, id: PageId) -> Option<u32>
-        requires { end ≤ length self.now }
-        ensures found { IfSome result (λ b. slice_index_or self.now b None ≡ Some id) }
-        ensures inside { IfSome result (λ b. b < length self.now) }
-        ensures absent { IfNone result ((b : ℕ) → start ≤ b → b < end → slice_index_or self.now b None ≢ Some id) }
-    {
-        for block in start..end {
-            if self.is_at(block, id) {
-                return Some(block);
-            }
-        }
-        None
+        find(&self.numbers, &self.nexts, self.firsts[bucket_of(id)], id)
     }
 }
 
-// The low half of a number.
-fn half_of(id: PageId) -> u32
-    ensures { result ≡ low_half id }
+// A block with this number, by the chain of its bucket, which begins with `first`.
+fn find(numbers: &[Option<PageId>], nexts: &[u32], first: u32, id: PageId) -> Option<u32>
+    requires small { length nexts.now < 2 ^ 32 }
+    requires sizes { length numbers.now ≡ length nexts.now }
+    requires bucket { IsBucket numbers.now nexts.now first (bucket_at id) }
+    ensures found { IfSome result (λ b. slice_index_or numbers.now b None ≡ Some id) }
+    ensures inside { IfSome result (λ b. b < length numbers.now) }
+    ensures absent { IfNone result ((b : ℕ) → slice_index_or numbers.now b None ≢ Some id) }
 {
-    (id.0 % (1 << 32)) as u32
+    let mut block = first;
+    while block != NIL {
+        if is_number(numbers[block as usize], id) {
+            return Some(block);
+        }
+        block = nexts[block as usize];
+    }
+    None
+}
+
+// Whether this is the number of a block.
+fn is_number(number: Option<PageId>, id: PageId) -> bool
+    ensures yes { OnTrue result (number ≡ Some id) }
+    ensures no { OnFalse result (number ≢ Some id) }
+{
+    match number {
+        Some(number) => number == id,
+        None => false,
+    }
+}
+
+// Takes a block out of its chain, which begins with `first`, and tells with which block it begins then.
+fn unlink(nexts: &mut [u32], first: u32, block: u32) -> u32
+    requires small { length nexts.old < 2 ^ 32 }
+    requires chain { IsInChain nexts.old first block }
+    ensures { IsUnlinked nexts.old nexts.new first result block }
+{
+    let next = nexts[block as usize];
+    if first == block {
+        return next;
+    }
+    let before = block_before(nexts, first, block);
+    nexts[before as usize] = next;
+    first
+}
+
+// The block that leads to this one in its chain, which begins with `first`, another block.
+fn block_before(nexts: &[u32], first: u32, block: u32) -> u32
+    requires small { length nexts.now < 2 ^ 32 }
+    requires chain { IsInChain nexts.now first block }
+    requires later { first ≢ block }
+    ensures inside { result < length nexts.now }
+    ensures leads { slice_index nexts.now result ≡ block }
+    ensures member { (bs : List ℕ) → IsChain nexts.now first bs → Contains bs result }
+{
+    let mut before = first;
+    while nexts[before as usize] != block {
+        before = nexts[before as usize];
+    }
+    before
 }
 
 // The bucket of a number, by its low bits.
@@ -187,15 +161,4 @@ fn bucket_of(id: PageId) -> usize
     ensures below { result < 8192 }
 {
     (id.0 % BUCKETS) as usize
-}
-
-// Whether one of the halves is this one. It looks at all of them, since a loop that ends early isn't vectorised.
-fn has_half(halves: &[u32], half: u32) -> bool
-    ensures { result ≡ list_any (λ x. nat_eq x half) halves.now }
-{
-    let mut found = false;
-    for x in halves {
-        found |= *x == half;
-    }
-    found
 }

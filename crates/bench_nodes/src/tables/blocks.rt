@@ -9,7 +9,7 @@ use std::time::CpuClock;
 use thp_model::PageId;
 use thp_page::PageTable;
 
-// Numbers this far apart have the same low bits, so that most look-ups of them have to search.
+// Numbers this far apart have the same low bits, so that all their blocks are in one chain.
 const ALIKE: u64 = 65_536;
 
 // Numbers of pages by block: from each block to the next they rise by `apart`.

@@ -1,34 +1,27 @@
-use Rattle.std.proofs.Common.{◌≡◌, ◌∙◌, ◌-◌, ◌<◌, ℕ, List, length, get_or, Option, Some, None, ap, sym, length-set, arith}
-use Rattle.std.proofs.lemmas.List.{get_or_default}
-use Rattle.thp_page.proofs.Halves.{halves_cleared}
-use Rattle.thp_page.proofs.Buckets.{size_some, sizes_cleared}
+use Rattle.std.proofs.Common.{◌≡◌, ◌∙◌, ◌++◌, ◌<◌, ℕ, List, length, get_or, set, take, drop, Option, Some, None, ap, sym, subst, arith}
+use Rattle.std.proofs.Math.Seq.{take-append_seam}
+use Rattle.std.proofs.lemmas.List.{get_or_read}
+use Rattle.thp_page.specs.Searching.{IsUnlinked, IsSearchable}
+use Rattle.thp_page.proofs.Buckets.{cleared}
 use Rattle.thp_page.proofs.page_numbers.PageNumbers.clear.Goals as goal
-
-pub overflow_sub-index_mut : goal.overflow_sub-index_mut
-overflow_sub-index_mut c =
-    let ns = c.self.inside.numbers.items in
-    let inside : c.args.block < length ns = omega (arith, c.requires.inside, ap (λ (os : List (Option ℕ)). length os) c.self.view_is) in
-    let taken : get_or ns c.args.block None ≡ Some c.in-Some.id = ap (λ (os : List (Option ℕ)). get_or os c.args.block None) c.self.view_is ∙ sym c.at.ensures ∙ c.in-Some.is in
-    let room : c.bucket_of.result < length c.self.inside.sizes.items = omega (arith, c.self.invariant.sized, c.bucket_of.ensures.below) in
-    let counted = c.index_mut.ensures.value ∙ get_or_default c.self.inside.sizes.items c.bucket_of.result c.index_mut.result.now 0 room ∙ c.self.invariant.counted c.bucket_of.result c.bucket_of.ensures.below in
-    size_some ns c.args.block c.in-Some.id c.bucket_of.result c.index_mut.result.now inside taken c.bucket_of.ensures.value counted
 
 pub invariant_of-self : goal.invariant_of-self
 invariant_of-self c =
     let ns = c.self.inside.numbers.items in
-    let sizes = c.self.inside.sizes.items in
+    let nexts = c.self.inside.nexts.items in
+    let firsts = c.self.inside.firsts.items in
     let b = c.args.block in
-    let at = c.bucket_of.result in
-    let size = c.index_mut.result.now in
+    let at = c.bucket_of-bucket.result in
+    let news = c.unlink-first.new.nexts in
+    let first = c.index.result.now in
+    let now = c.unlink-first.result in
     let inside : b < length ns = omega (arith, c.requires.inside, ap (λ (os : List (Option ℕ)). length os) c.self.view_is) in
     let taken : get_or ns b None ≡ Some c.in-Some.id = ap (λ (os : List (Option ℕ)). get_or os b None) c.self.view_is ∙ sym c.at.ensures ∙ c.in-Some.is in
-    let room : at < length sizes = omega (arith, c.self.invariant.sized, c.bucket_of.ensures.below) in
-    record {
-      small = omega (arith, c.self.invariant.small, length-set ns b None);
-      each_half = c.self.invariant.each_half ∙ sym (length-set ns b None);
-      hinted = c.self.invariant.hinted;
-      sized = length-set sizes at (size - 1) ∙ c.self.invariant.sized;
-      same = halves_cleared ns c.self.inside.halves.items b inside c.self.invariant.same;
-      counted = λ k few. sizes_cleared ns sizes b c.in-Some.id at size k inside taken c.bucket_of.ensures.value
-          room (c.index_mut.ensures.value ∙ get_or_default sizes at size 0 room) (c.self.invariant.counted k few);
-    }
+    let room : at < length firsts = omega (arith, c.self.invariant.each_first, c.bucket_of-bucket.ensures.below) in
+    let U : List ℕ → Type 0 = λ xs. IsUnlinked xs news first now b in
+    let out : IsUnlinked nexts news first now b = subst U c.deref_mut.ensures.value c.unlink-first.ensures in
+    let size : c.self.inside.nexts.len ≡ length news = omega (arith, out.size, c.self.inside.nexts.ok.0) in
+    let whole : take c.self.inside.nexts.len (news ++ drop (length news) nexts) ≡ news = ap (λ n. take n (news ++ drop (length news) nexts)) size ∙ take-append_seam news (drop (length news) nexts) in
+    let S : List ℕ → Type 0 = λ xs. IsSearchable (set ns b None) xs (set firsts at now) in
+    subst S (sym whole)
+    (cleared ns nexts news firsts c.self.invariant b c.in-Some.id at now taken c.bucket_of-bucket.ensures.value c.bucket_of-bucket.ensures.below inside first (get_or_read firsts at first room c.index.ensures 0) out)
