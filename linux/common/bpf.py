@@ -112,6 +112,9 @@ class Assembler:
     def shift_right(self, to: int, count: int) -> Assembler:
         return self.put(0x77, to, 0, 0, count)
 
+    def shift_right_register(self, to: int, source: int) -> Assembler:
+        return self.put(0x7F, to, source)
+
     def load(self, to: int, source: int, offset: int, size: int = 8) -> Assembler:
         """to = the `size` bytes at source + offset"""
         return self.put(0x61 | self._SIZES[size], to, source, offset)
