@@ -24,6 +24,7 @@ from .tap import MADVISE, MPROTECT, MREMAP, MUNMAP
 DONTNEED = 4
 CUTTING = (10, 11, 12, 13, 14, 15, 16, 17, 18, 19)  # advice that cuts an area in two
 LOSING = (8, 9, 20, 21)  # MADV_FREE and its like: not followed
+MADV_COLLAPSE = 25
 COLLAPSE = -1  # in the place of a call's number: a collapse takes all mappings of a region away, and makes a page there
 BATCH = 128  # pages that a scan takes at most
 MOST_BLOCKS, CALLERS = 4096, 64
@@ -150,6 +151,7 @@ class Journalist:
 
     def _enter(self, record: Record) -> None:
         self._pending[record.task, record.kind] = record
+        self._faults.pop(record.task, None)
 
     def _fault(self, record: Record) -> None:
         self._faults[record.task] = record
@@ -166,7 +168,9 @@ class Journalist:
             self.seen[f"pages of order {order}, not followed"] += 1
             return
         if not fault or fault.space != record.space:
-            self.seen["allocations without a fault, not followed"] += 1
+            asked = self._pending.get((record.task, Kind.ENTER))
+            fails = asked and asked.values[0] == MADVISE and asked.values[3] == MADV_COLLAPSE
+            self.seen["collapses that failed" if fails else "allocations without a fault, not followed"] += 1
             return
         page = self._new(record.task, record.space, folio, fault.values[0])
         if page in self._queue:

@@ -214,8 +214,9 @@ class Tap:
         return [(i, self._through(0, offset)) for i, offset in enumerate(self._registers)]
 
     def _sys_enter(self) -> Assembler:
-        code = self._own_only(self._some_calls(self._start().load(1, 6, 8)))
-        return self._short(self._record(code, Kind.ENTER, self._asked()))
+        """A call's allocations aren't those of the task's last fault: that is forgotten."""
+        code = self._task_key(self._own_only(self._some_calls(self._start().load(1, 6, 8)))).store_number(10, -48, 0)
+        return self._short(self._record(self._keep(code, self._faulting, -40, -48), Kind.ENTER, self._asked()))
 
     def _sys_exit(self) -> Assembler:
         code = self._start()
@@ -281,7 +282,7 @@ class Tap:
         self._task_key(code).load(1, 6, 0).store(10, -72, 1)
         self._keep(code, self._fresh, -40, -72)
         code.map(1, self._faulting).move(2, 10).add(2, -40).call(Helper.MAP_LOOKUP).jump("placeless", "==", 0, 0)
-        code.load(1, 0, 0).load(2, 6, 8).move(3, 2).add(3, BASE_BITS).shift_right_register(1, 3)
+        code.load(1, 0, 0).jump("placeless", "==", 1, 0).load(2, 6, 8).move(3, 2).add(3, BASE_BITS).shift_right_register(1, 3)
         code.shift_left(1, 4).add_register(1, 2).store(10, -56, 1)
         return self._keep(code, self._homes, -64, -72).label("placeless")
 
