@@ -80,6 +80,19 @@ class CollapseTest(unittest.TestCase):
         story.look([page])
         self.assertEqual(words(told(story)), self.wanted[:3])
 
+    def test_one_by_the_task_itself_that_failed(self) -> None:
+        story = By()
+        page = story.page(0)
+        story.drop(0, 0, 256, [page])
+        call = [MADVISE, HUGE * 10, HUGE, 25]
+        story.add(Kind.ENTER, call)
+        story.add(Kind.ALLOC, [folio_of(1), 9])
+        story.add(Kind.FREE, [folio_of(1), 9])
+        story.add(Kind.EXIT, [*call, -11], [page])
+        journalist = told(story)
+        self.assertEqual(words(journalist), self.wanted[:3])
+        self.assertEqual(journalist.seen["collapses that failed"], 1)
+
     def test_one_by_the_task_itself(self) -> None:
         story = By()
         page = story.page(0)
