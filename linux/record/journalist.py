@@ -427,8 +427,9 @@ class Journalist:
     # several tasks: the kernel's queue tells the order
 
     def _end_scans_before(self, queue: Optional[List[int]]) -> None:
-        """Tells a scan that another task still runs, where what it puts back stands before a page newly in the
-        queue."""
+        """Tells a scan that another task still runs, where what it puts back stands before a page newly in the queue.
+        The queue shows what it put back: when the scan's end is recorded, a page of these may have been freed, and its
+        place be another page's that stands elsewhere in the queue."""
         told = {page.folio for page in self._queue}
         for start, _ in list(self._scans.values()):
             end = start.end and start.end.shown()
@@ -437,7 +438,7 @@ class Journalist:
             back = [folio for folio in end if folio in start.queue]
             if any(f in end and back and end.index(back[0]) < end.index(f) for f in queue if f not in told):
                 start.end.done = True
-                self._scanned(start.end)
+                self._scanned(start.end, queue)
 
     def _agree(self, queue: Optional[List[int]]) -> None:
         """Looks for pages that stand in the kernel's queue for a reason not yet told: a call that still runs."""
@@ -538,20 +539,22 @@ class Journalist:
             self._agree(record.queue)
         self._scans[record.task] = (record, [self._at.get(folio) for folio in record.queue or ()])
 
-    def _scanned(self, record: Record) -> None:
+    def _scanned(self, record: Record, seen: Optional[List[int]] = None) -> None:
+        """A scan has ended; `seen`: the queue that shows it, where it is told before its end was recorded."""
         start, folios = self._scans.pop(record.task, (None, []))
         if not start:
             return
         total, freeable = start.values[:2]
+        own = record.queue if seen is None else seen
         if total < min(freeable, BATCH) or not start.queue:
-            self._agree(record.queue)
+            self._agree(own)
             return
-        self._scanned_at = max(self._scanned_at, record.time)
-        queue = record.shown()
+        self._scanned_at = max(self._scanned_at, min(record.time, self._now))
+        queue = record.shown() if seen is None else seen
         if queue is None:
             self.seen["scans not followed"] += 1
             return
-        self.seen["scans" if record.queue is not None else "scans whose end the next copy showed"] += 1
+        self.seen["scans" if own is not None else "scans whose end the next copy showed"] += 1
         self._freed_by_now(folios, queue)
         self._joined_by_now(folios[:total], queue)
         found = [self._at.get(folio) for folio in queue]
@@ -562,7 +565,7 @@ class Journalist:
             self._batch(record, batch, folios, stay, queue)
             back += stay
         self._tell_later([page for page in found if page], back)
-        self._agree(record.queue)
+        self._agree(own)
 
     def _batch(
         self, record: Record, pages: List[Page], folios: List[Optional[Page]], stay: List[Page], queue: List[int]

@@ -22,6 +22,7 @@ RING = 1 << 26  # bytes of the ring buffer
 LENGTH_AT = 104
 TRIES = 3  # of sending a record, of copying a queue
 HOMES = 65536  # pages whose places are known
+SEEN_FREED = 64  # bytes with a bit for each frame of a block, set once its free was recorded
 MUNMAP, MPROTECT, MREMAP, MADVISE = 11, 10, 25, 28  # system calls of x86-64
 BASE_BITS, FRAME_END = 12, 52  # the bits of an entry that say the frame (arch/x86/include/asm/pgtable_types.h)
 FLAGS = 7  # low bits of memcg_data (include/linux/memcontrol.h)
@@ -50,7 +51,7 @@ class Tap:
         self._scan = names["deferred_split_scan"]
         self._ring = create_map(MapType.RINGBUF, 0, 0, RING)
         self._scratch = create_map(MapType.PERCPU_ARRAY, 4, SIZE, len(Kind))
-        self._tracked = create_map(MapType.HASH, 8, 8, 65536)
+        self._tracked = create_map(MapType.HASH, 8, SEEN_FREED, 65536)
         self._faulting, self._fresh = (create_map(MapType.HASH, 8, 8, 8192) for _ in range(2))
         self._homes = create_map(MapType.HASH, 16, 8, HOMES)
         self._lost = create_map(MapType.ARRAY, 4, 8, 1, MMAPABLE)
@@ -259,8 +260,10 @@ class Tap:
         return code.shift_right(1, shift).store(10, -24, 1)
 
     def _track(self, code: Assembler) -> Assembler:
-        """Frees in the block of the page at r1 are recorded from now on."""
-        return self._keep(self._key(code).store_number(10, -32, 1), self._tracked, -24, -32)
+        """Frees in the block of the page at r1 are recorded from now on, of each frame one."""
+        for place in range(0, SEEN_FREED, 8):
+            code.store_number(10, -144 + place, 0)
+        return self._keep(self._key(code), self._tracked, -24, -144)
 
     def _alloc(self) -> Assembler:
         """Huge pages (told by __GFP_NOMEMALLOC) of the group's tasks, and of kernel threads, which may be khugepaged's;
@@ -331,9 +334,16 @@ class Tap:
         return self._short(self._record(code, Kind.MOVED, values))
 
     def _free(self) -> Assembler:
-        """Pages in blocks where a huge page of ours was made, by whomever they are freed."""
-        code = self._key(self._start().load(1, 6, 0)).map(1, self._tracked).move(2, 10).add(2, -24).call(Helper.MAP_LOOKUP)
-        code.jump("out", "==", 0, 0)
+        """Pages in blocks where a huge page of ours was made, by whomever they are freed. A frame that is freed again
+        was another's meanwhile, and so is a block once it was freed whole."""
+        code = self._key(self._start().load(1, 6, 0)).map(1, self._tracked).move(2, 10).add(2, -24)
+        code.call(Helper.MAP_LOOKUP).jump("out", "==", 0, 0).load(1, 6, 8).jump("large", "!=", 1, 0)
+        code.load(1, 6, 0).bit_and(1, 512 * self._page_size - 1).shift_right(1, self._page_size.bit_length() - 1)
+        code.move(2, 1).shift_right(2, 6).shift_left(2, 3).add_register(0, 2)
+        code.bit_and(1, 63).set(3, 1).shift_left_register(3, 1).move(4, 3)
+        code.fetch_or(0, 3).bit_and_register(3, 4).jump("out", "!=", 3, 0).jump("ours").label("large")
+        code.jump("ours", "<", 1, PMD_ORDER).map(1, self._tracked).move(2, 10).add(2, -24).call(Helper.MAP_DELETE)
+        code.label("ours")
         return self._short(self._record(code, Kind.FREE, [(0, self._argument(0)), (1, self._argument(1))]))
 
     def _fork(self) -> Assembler:
