@@ -40,6 +40,7 @@ class Page:
     maps: Dict[int, Mapping] = field(default_factory=dict)
     pins: int = 0
     partly: bool = False
+    partly_since: int = 0  # when that was recorded
     live: bool = True
     split: bool = False
     lost: str = ""  # why it is left out

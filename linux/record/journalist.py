@@ -390,7 +390,8 @@ class Journalist:
         if not after:
             return self._last_unmap(record, page)
         newly = before != after
-        page.partly |= newly
+        if newly and not page.partly:
+            page.partly, page.partly_since = True, self._now
         seen = queue is not None and page.folio in queue
         if newly and page not in self._queue and (queue is None or seen or not last or page.freed):
             self.seen["queued, seen" if seen else "queued, inferred"] += 1
@@ -562,6 +563,7 @@ class Journalist:
         for first, count in batches_of(total, freeable):
             batch = [page for page in folios[first : first + count] if page and page in self._queue]
             stay = [page for page in found if page and page in batch]
+            self._queued_again(start, stay, found)
             self._batch(record, batch, folios, stay, queue)
             back += stay
         self._tell_later([page for page in found if page], back)
@@ -591,6 +593,15 @@ class Journalist:
             page.join = None
         self._queue += stay
         self._told += back
+
+    def _queued_again(self, start: Record, stay: List[Page], found: List[Optional[Page]]) -> None:
+        """What a scan puts back joins the queue at once. Where another page stands between, one wasn't put back: the
+        scan had let it go as in use, and a call then queued it, since it became partly mapped."""
+        places = [found.index(page) for page in stay]
+        if places and places[-1] - places[0] >= len(places):
+            for page in stay:
+                if page.partly_since >= start.time:
+                    self._lose(page, "found in use by a scan, and queued again while it ran (U)")
 
     def _freed_by_now(self, folios: List[Optional[Page]], queue: Optional[List[int]]) -> None:
         """A page that was freed while the scan ran: where nothing told so yet, a call that still runs did it."""
