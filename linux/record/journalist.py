@@ -72,6 +72,7 @@ class Journalist:
         self._scans: Dict[int, Tuple[Record, List[Optional[Page]]]] = {}
         self._joining: Dict[int, Page] = {}
         self._live = self._most = self._now = 0
+        self._is_missing = False  # a scan wasn't followed
         self._scanned_at = 0  # when the last scan that is told had ended
 
     # what comes out
@@ -459,6 +460,7 @@ class Journalist:
                 self.seen["calls told before their end"] += 1
             elif not running:
                 why = "split by a migration (M)" if page.freed_frames else "a collapse (K), or its process ends"
+                why = "a scan that isn't followed" if self._is_missing else why
                 self._lose(page, f"left the queue unseen: {why}")
                 self._leaves(page)
         for page in self._joining.values():
@@ -554,6 +556,7 @@ class Journalist:
         queue = record.shown() if seen is None else seen
         if queue is None:
             self.seen["scans not followed"] += 1
+            self._is_missing = True
             return
         self.seen["scans" if own is not None else "scans whose end the next copy showed"] += 1
         self._freed_by_now(folios, queue)

@@ -62,9 +62,9 @@ class Record:
         return self.later if self.queue is None else self.queue
 
     def counts(self) -> Optional[Counts]:
-        """The map counts of the page at a call's address, if one was known there."""
+        """The map counts of the page at a call's address, if one was known there and it wasn't split."""
         folio, total, whole, mapped = self.values[5:9]
-        if self.kind is not Kind.EXIT or not folio:
+        if self.kind is not Kind.EXIT or not folio or mapped > _WORD:
             return None
         return Counts(folio, _count(whole), _count(total), mapped & _SUBPAGES)
 

@@ -160,6 +160,9 @@ class CountsTest(unittest.TestCase):
     def test_counts_by_page_that_are_not_kept(self) -> None:
         self.assertEqual(self.dropped(0, 504, 0).seen["map counts that differ"], 0)
 
+    def test_a_page_that_is_split_has_none(self) -> None:
+        self.assertEqual(self.dropped(0, 9999, 1 << 32 | 5).seen["map counts compared"], 0)
+
     def test_counts_that_differ_leave_the_page_out(self) -> None:
         for counts in ((0, 505, 504), (1, 504, 504), (0, 504, 503)):
             journalist = self.dropped(*counts)
