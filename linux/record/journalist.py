@@ -399,6 +399,8 @@ class Journalist:
             return "queued", 0
         if newly and page not in self._queue and self._caught(page):
             return "queued", 0
+        if newly and page not in self._queue:
+            self._lose(page, "partly mapped, but not queued: perhaps split by a migration (M)")
         return "stays", 0
 
     def _caught(self, page: Page) -> bool:
