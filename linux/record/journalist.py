@@ -298,6 +298,8 @@ class Journalist:
         page = self._at.get(counts.folio) if counts else None
         if not counts or not page or page.split or page.lost or record.space not in page.maps:
             return
+        if not 0 <= record.values[1] - page.maps[record.space].base < page.subpages * BASE:
+            return  # the page that was there has gone, and this one has its frames
         if self._scans or page.changed > record.time or any(a.space in page.maps for a in self._pending.values()):
             return
         whole, total, mapped = page.counts()

@@ -160,6 +160,14 @@ class CountsTest(unittest.TestCase):
     def test_counts_by_page_that_are_not_kept(self) -> None:
         self.assertEqual(self.dropped(0, 504, 0).seen["map counts that differ"], 0)
 
+    def test_a_page_elsewhere_with_the_same_frames_is_not_compared(self) -> None:
+        story = By()
+        page = story.page(0)
+        call = [MADVISE, HUGE * 20, BASE * 8, DONTNEED]
+        story.add(Kind.ENTER, call)
+        story.add(Kind.EXIT, [*call, 0, page, 0xFFFFFFFF, 0xFFFFFFFF, 0], [])
+        self.assertEqual(told(story).seen["map counts compared"], 0)
+
     def test_a_page_that_is_split_has_none(self) -> None:
         self.assertEqual(self.dropped(0, 9999, 1 << 32 | 5).seen["map counts compared"], 0)
 
