@@ -402,7 +402,7 @@ class Journalist:
         if newly and page not in self._queue and self._caught(page):
             return "queued", 0
         if newly and page not in self._queue:
-            self._lose(page, "partly mapped, but not queued: perhaps split by a migration (M)")
+            self._lose(page, "partly mapped, and in no queue at the call's end")
         return "stays", 0
 
     def _caught(self, page: Page) -> bool:
@@ -463,9 +463,7 @@ class Journalist:
                 self._apply(self._pending.pop(reaching[0]), queue)
                 self.seen["calls told before their end"] += 1
             elif not running:
-                why = "split by a migration (M)" if page.freed_frames else "a collapse (K), or its process ends"
-                why = "a scan that isn't followed" if self._is_missing else why
-                self._lose(page, f"left the queue unseen: {why}")
+                self._lose(page, f"left the queue unseen: {self._why_gone(page)}")
                 self._leaves(page)
         for page in self._joining.values():
             if page.folio not in queue and page in self._queue and page.join and not page.freed:
@@ -481,6 +479,11 @@ class Journalist:
             kernels = [page for page in found if page and not page.lost and page not in skip]
             self.seen["queues compared"] += 1
             self.seen["queues that differ"] += mine != kernels
+
+    def _why_gone(self, page: Page) -> str:
+        if self._is_missing:
+            return "a scan that isn't followed, perhaps"
+        return "split by a migration (M)" if page.freed_frames else "its process ends, or a collapse (K) that isn't told"
 
     def _reaches(self, asked: Record, page: Page) -> bool:
         """Whether a call takes mappings of a page away."""
