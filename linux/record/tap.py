@@ -228,8 +228,10 @@ class Tap:
 
     def _counts(self, code: Assembler) -> Assembler:
         """The page that is known at the call's address, and its map counts, where the kernel has them."""
+        types = self._memory.types
         try:
             counts = self._map_counts()
+            flags, head = types.offset("folio", "flags"), types.enumerator("PG_head")
         except Missing as lacking:
             self.lacking.append(f"map counts aren't compared: {lacking}")
             return code
@@ -242,7 +244,6 @@ class Tap:
         for place, offset in enumerate(counts, 6):
             code.store_number(10, -16, 0).move(3, 8).read_kernel(-16, 4, offset).load(1, 10, -16)
             code.store(7, VALUES_AT + 8 * place, 1)
-        flags, head = self._memory.types.offset("folio", "flags"), self._memory.types.enumerator("PG_head")
         code.store_number(10, -16, 0).move(3, 8).read_kernel(-16, 8, flags).load(1, 10, -16)
         code.shift_right(1, head).bit_and(1, 1).jump("homeless", "!=", 1, 0)
         code.set(1, 1).store(7, VALUES_AT + 8 * 8 + 4, 1, 4)  # it is split: what stands there are no counts
