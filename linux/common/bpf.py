@@ -112,6 +112,19 @@ class Assembler:
     def shift_right(self, to: int, count: int) -> Assembler:
         return self.put(0x77, to, 0, 0, count)
 
+    def bit_and_register(self, to: int, source: int) -> Assembler:
+        return self.put(0x5F, to, source)
+
+    def shift_left_register(self, to: int, source: int) -> Assembler:
+        return self.put(0x6F, to, source)
+
+    def fetch_or(self, to: int, source: int) -> Assembler:
+        """The 64-bit number at `to` gets the bits of `source`, which becomes what stood there before; at once."""
+        return self.put(0xDB, to, source, 0, 0x41)
+
+    def shift_right_register(self, to: int, source: int) -> Assembler:
+        return self.put(0x7F, to, source)
+
     def load(self, to: int, source: int, offset: int, size: int = 8) -> Assembler:
         """to = the `size` bytes at source + offset"""
         return self.put(0x61 | self._SIZES[size], to, source, offset)

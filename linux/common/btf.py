@@ -13,10 +13,10 @@ from typing import Dict, Iterator, List, Optional, Tuple
 from .errors import Unavailable
 
 VMLINUX = "/sys/kernel/btf/vmlinux"
-_INT, _PTR, _ARRAY, _STRUCT, _UNION, _ENUM, _TYPEDEF = 1, 2, 3, 4, 5, 6, 8
+_INT, _PTR, _ARRAY, _STRUCT, _UNION, _ENUM, _TYPEDEF, _PROTOTYPE = 1, 2, 3, 4, 5, 6, 8, 13
 _WRAPPERS = (_TYPEDEF, 9, 10, 11, 18)  # and volatile, const, restrict, type tag
 _EXTRA = {_INT: 4, _ARRAY: 12, 14: 4, 17: 4}  # bytes after the head of a type
-_EACH = {_STRUCT: 12, _UNION: 12, _ENUM: 8, 13: 8, 15: 12, 19: 12}  # bytes for each member
+_EACH = {_STRUCT: 12, _UNION: 12, _ENUM: 8, _PROTOTYPE: 8, 15: 12, 19: 12}  # bytes for each member
 _HEAD = struct.Struct("<III")
 _MAGIC = 0xEB9F
 
@@ -160,3 +160,23 @@ class Types:
                 if self._name(text) == name:
                     return value
         raise Missing(f"this kernel has no enumerator {name}")
+
+    def tracepoint(self, name: str) -> List[str]:
+        """The kinds of a tracepoint's arguments, as its programs get them (include/trace/bpf_probe.h: a typedef
+        btf_trace_NAME of a pointer to the function, whose first parameter is the tracepoint's own)."""
+        for at in self._at[1:]:
+            text, info, reference = _HEAD.unpack_from(self._raw, at)
+            if info >> 24 & 31 != _TYPEDEF or self._name(text) != f"btf_trace_{name}":
+                continue
+            _, _, function = self._head(self._plain(reference))
+            _, info, _ = self._head(function)
+            if info >> 24 & 31 == _PROTOTYPE:
+                places = [self._at[function] + 12 + 8 * i for i in range(1, info & 0xFFFF)]
+                return [self._kind(struct.unpack_from("<II", self._raw, place)[1]) for place in places]
+        raise Missing(f"this kernel has no tracepoint {name}")
+
+    def demand_tracepoint(self, name: str, kinds: List[str]) -> None:
+        """Missing, with what is there, where a tracepoint's first arguments aren't of these kinds."""
+        found = self.tracepoint(name)
+        if found[: len(kinds)] != kinds:
+            raise Missing(f"tracepoint {name} has ({', '.join(found)}) in this kernel, not ({', '.join(kinds)})")

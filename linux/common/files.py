@@ -15,6 +15,7 @@ THP = "/sys/kernel/mm/transparent_hugepage"
 SWITCH = f"{THP}/shrink_underused"  # split underused pages at all: 0 or 1 (mm/huge_memory.c: split_underused_thp)
 PTES_NONE = f"{THP}/khugepaged/max_ptes_none"  # the threshold of zero-filled subpages
 COLLAPSE_SLEEP = f"{THP}/khugepaged/scan_sleep_millisecs"
+COMPACT = "/proc/sys/vm/compact_memory"  # a write has all memory compacted at once
 
 
 def read(path: PathText) -> str:

@@ -12,7 +12,9 @@ from typing import Dict, List, Optional, Sequence
 from .errors import InputFault, Unavailable
 from .journal import NodeJournal, journal_of
 
-BUILT = Path(__file__).resolve().parent.parent.parent / "crates/thpsplit/out/thpsplit"
+HERE = Path(__file__).resolve().parent
+BUILT = HERE.parent.parent / "crates/thpsplit/out/thpsplit"
+INSTALLED = ("lib", "thpsplit", "linux", "common")  # where `make install` puts these files below its prefix
 
 
 class Refused(InputFault):
@@ -38,15 +40,18 @@ class Verdict:
 
 
 def find_program(given: Optional[str] = None) -> str:
-    """The path given, $THPSPLIT, the one built in this repository, or the one on the path."""
+    """The path given, $THPSPLIT, the one built in this repository or installed beside the tools, or the one on the
+    path."""
     for path in (given, os.environ.get("THPSPLIT")):
         if path:
             found = shutil.which(path)
             if not found:
                 raise Unavailable(f"no program {path}")
             return found
-    if BUILT.exists():
-        return str(BUILT)
+    beside = [HERE.parents[3] / "bin/thpsplit"] if HERE.parts[-4:] == INSTALLED else []
+    for place in (BUILT, *beside):
+        if os.access(place, os.X_OK) and place.is_file():
+            return str(place)
     found = shutil.which("thpsplit")
     if not found:
         raise Unavailable("no thpsplit: build it (make run), or name it by --program or THPSPLIT")

@@ -1,6 +1,6 @@
 """Records a memory control group's deferred split queue, writes it as a journal, and lets `thpsplit --check` judge it.
 
-    thprecord [--own THREADS,STEPS,SEED[,zeros]]     a workload of its own
+    thprecord [--own THREADS,STEPS,SEED[,zeros][,collapse]]     a workload of its own
     thprecord --own .. --groups 3 --order 9,4        a workload for each order in each of three control groups
     thprecord -- COMMAND ARGS..                      a command in a control group of its own
 
@@ -24,7 +24,7 @@ from typing import Dict, List, NoReturn, Optional, Tuple
 
 from ..common import machine
 from ..common.errors import DIFFERS, DONE, SKIPPED, InputFault, Unavailable, run_tool
-from ..common.files import COLLAPSE_SLEEP, PMD_ORDER, PTES_NONE, SWITCH, read, size_folder, write
+from ..common.files import COLLAPSE_SLEEP, COMPACT, PMD_ORDER, PTES_NONE, SWITCH, read, size_folder, write
 from ..common.groups import Groups
 from ..common.helpers import helper
 from ..common.journal import journal_text
@@ -47,11 +47,13 @@ def words() -> argparse.Namespace:
     form = argparse.RawDescriptionHelpFormatter
     parser = argparse.ArgumentParser(prog=NAME, description=__doc__, formatter_class=form)
     parser.add_argument("--program", metavar="PATH", help="the thpsplit that judges")
-    parser.add_argument("--own", default="1,300,1", metavar="THREADS,STEPS,SEED[,zeros]")
+    parser.add_argument("--own", default="1,300,1", metavar="THREADS,STEPS,SEED[,zeros][,collapse]")
     parser.add_argument("--order", default=str(PMD_ORDER), metavar="LIST", help="the orders of pages that are followed")
     parser.add_argument("--groups", type=int, default=1, metavar="N", help="control groups, each with the workload")
     parser.add_argument("--underused", default="off", help="off, a threshold, or as-is: leave the machine's setting")
     parser.add_argument("--every", type=float, default=0.02, help="seconds between two reclaims; 0: none")
+    parser.add_argument("--collapse", type=int, metavar="MS", help="khugepaged's pause, which an own workload keeps long")
+    parser.add_argument("--compact", action="store_true", help="compact all memory with each reclaim: pages migrate")
     parser.add_argument("--straighten", action="store_true", help="tell away E (order of putting back) and B (zeros)")
     parser.add_argument("--out", metavar="FILE", help="write the journal there")
     parser.add_argument("--records", metavar="FILE", help="write the records there; further groups' to FILE.2 ..")
@@ -66,8 +68,8 @@ class Recorder:
 
     def __init__(self, asked: argparse.Namespace, keeper: Keeper, memory: KernelMemory) -> None:
         self._asked, self._keeper, self._memory = asked, keeper, memory
-        if not asked.command:
-            keeper.set(COLLAPSE_SLEEP, QUIET)
+        if asked.collapse is not None or not asked.command:
+            keeper.set(COLLAPSE_SLEEP, QUIET if asked.collapse is None else asked.collapse)
         if asked.underused != "as-is":
             if os.path.exists(SWITCH):
                 keeper.set(SWITCH, int(asked.underused != "off"))
@@ -77,6 +79,7 @@ class Recorder:
                 keeper.set(f"{size_folder(order)}/enabled", "madvise")
         self._groups = Groups(keeper, NAME)
         self._paths = [self._groups.add(f"node{number}") for number in range(asked.groups)]
+        self.lacking: List[str] = []  # what this kernel doesn't tell
         on = os.path.exists(SWITCH) and read(SWITCH).strip() == "1"
         self._threshold: Optional[int] = int(read(PTES_NONE)) if on else None
 
@@ -88,7 +91,8 @@ class Recorder:
 
     def record(self, commands: List[List[str]]) -> Tuple[List[List[Record]], int]:
         """The records of these commands in each group, and how many were lost."""
-        taps = [Tap(self._memory, self._memory.group(path)) for path in self._paths]
+        taps = [Tap(self._memory, self._memory.group(path), self._asked.orders) for path in self._paths]
+        self.lacking = taps[0].lacking
         records: List[List[Record]] = [[] for _ in taps]
 
         def take() -> None:
@@ -126,6 +130,8 @@ class Recorder:
         while self._asked.every and not ended.wait(self._asked.every):
             for path in self._paths:
                 self._groups.reclaim(path)
+            if self._asked.compact:
+                write(COMPACT, 1)
 
 
 def workloads(asked: argparse.Namespace, own: List[str], seed: int) -> List[List[str]]:
@@ -213,8 +219,8 @@ def orders_of(text: str) -> List[int]:
 
 def record(asked: argparse.Namespace) -> int:
     own = asked.own.split(",")
-    if len(own) not in (3, 4) or not all(word.isdigit() for word in own[:3]) or own[3:] not in ([], ["zeros"]):
-        raise InputFault("--own wants THREADS,STEPS,SEED, and perhaps zeros")
+    if len(own) < 3 or not all(word.isdigit() for word in own[:3]) or not {*own[3:]} <= {"zeros", "collapse"}:
+        raise InputFault("--own wants THREADS,STEPS,SEED, and perhaps zeros and collapse")
     if asked.underused not in ("off", "as-is") and not asked.underused.isdigit():
         raise InputFault("--underused wants off, a number, or as-is")
     asked.orders = orders_of(asked.order)
@@ -237,6 +243,8 @@ def record(asked: argparse.Namespace) -> int:
                 break
     for what, many in sorted(sums.items()):
         print(f"{many:9} {what}")
+    for line in recorder.lacking:
+        print(line)
     if not events:
         return SKIPPED
     return DONE if good else DIFFERS

@@ -3,8 +3,9 @@
 from __future__ import annotations
 
 from dataclasses import dataclass, field
-from typing import Dict, List, Optional
+from typing import Dict, List, Optional, Tuple
 
+from ..common.files import PMD_ORDER
 from ..common.journal import Event
 from ..common.subpages import bits_of
 
@@ -39,12 +40,14 @@ class Page:
     maps: Dict[int, Mapping] = field(default_factory=dict)
     pins: int = 0
     partly: bool = False
+    partly_since: int = 0  # when that was recorded
     live: bool = True
     split: bool = False
     lost: str = ""  # why it is left out
     freed: bool = False
     freed_frames: int = 0
     written: int = 0
+    changed: int = 0  # when the last call that reached it was recorded
     join: Optional[Line] = None  # the event by which it joined the queue
 
     @staticmethod
@@ -60,3 +63,10 @@ class Page:
         if self.whole:
             return self.every
         return sum(1 << i for i, own in enumerate(self.own) if own)
+
+    def counts(self) -> Tuple[int, int, int]:
+        """What the kernel counts: mappings by PMD entries, all mappings, subpages that PTEs map. A page below their
+        size is mapped by PTEs alone."""
+        pmds = self.whole if self.subpages == 1 << PMD_ORDER else 0
+        own = [own + self.whole - pmds for own in self.own]
+        return pmds, pmds + sum(own), sum(count > 0 for count in own)

@@ -1,9 +1,10 @@
 """Records made into a journal.
 
-Seen: a huge page allocated in a fault; the queue at each scan's start and end, so what is taken and put back, and in
-which order; frames and pages freed. Inferred: mappings by the arguments of system calls, by forks and ends of address
-spaces; pins by what a scan leaves; writes (with the switch on) by the kernel's verdicts. What isn't understood is
-left out by whole pages, with a reason. docs/LINUX.md has the table.
+Seen: a huge page allocated in a fault, or by a collapse; the queue at each scan's start and end, so what is taken and
+put back, and in which order; frames and pages freed; pages that migrate. Inferred: mappings by the arguments of system
+calls (compared with the page's own counts at the call's end), by forks and ends of address spaces; pins by what a scan
+leaves; writes (with the switch on) by the kernel's verdicts. What isn't understood is left out by whole pages, with a
+reason. docs/LINUX.md has the table.
 """
 
 from __future__ import annotations
@@ -11,7 +12,7 @@ from __future__ import annotations
 from collections import Counter as Tallies
 from collections import defaultdict
 from dataclasses import dataclass, replace
-from typing import Callable, Dict, Iterator, List, Optional, Tuple
+from typing import Callable, Dict, Iterator, List, Optional, Set, Tuple
 
 from ..common.files import BASE, PMD_ORDER
 from ..common.journal import Event, NodeJournal, journal_text
@@ -22,7 +23,9 @@ from .tap import MADVISE, MPROTECT, MREMAP, MUNMAP
 
 DONTNEED = 4
 CUTTING = (10, 11, 12, 13, 14, 15, 16, 17, 18, 19)  # advice that cuts an area in two
-LOSING = (8, 9, 20, 21, 25)  # MADV_FREE and its like: not followed
+LOSING = (8, 9, 20, 21)  # MADV_FREE and its like: not followed
+MADV_COLLAPSE = 25
+COLLAPSE = -1  # in the place of a call's number: a collapse takes all mappings of a region away, and makes a page there
 BATCH = 128  # pages that a scan takes at most
 MOST_BLOCKS, CALLERS = 4096, 64
 WRITTEN = 3  # bits of a fault's error code: present, written
@@ -63,10 +66,14 @@ class Journalist:
         self._spaces: Dict[int, Dict[Page, Mapping]] = defaultdict(dict)
         self._callers: Dict[int, int] = {}
         self._faults: Dict[int, Record] = {}
-        self._pending: Dict[int, Record] = {}
+        self._pending: Dict[Tuple[int, Kind], Record] = {}  # calls and collapses that run, by task
+        self._moves: Dict[int, List[Record]] = defaultdict(list)
+        self._remapped: Set[int] = set()  # address spaces in which mremap moved an area
         self._scans: Dict[int, Tuple[Record, List[Optional[Page]]]] = {}
         self._joining: Dict[int, Page] = {}
-        self._live = self._most = 0
+        self._live = self._most = self._now = 0
+        self._is_missing = False  # a scan wasn't followed
+        self._scanned_at = 0  # when the last scan that is told had ended
 
     # what comes out
 
@@ -129,16 +136,23 @@ class Journalist:
         steps: Dict[Kind, Callable[[Record], None]] = {
             Kind.ENTER: self._enter, Kind.EXIT: self._exit, Kind.FAULT: self._fault, Kind.ALLOC: self._alloc,
             Kind.FREE: self._free, Kind.FORK: self._fork, Kind.EXIT_MMAP: self._exit_mmap, Kind.SCAN: self._scan,
-            Kind.SCANNED: self._scanned, Kind.COPY: self._copy,
+            Kind.SCANNED: self._scanned, Kind.COPY: self._copy, Kind.COLLAPSED: self._collapsed,
+            Kind.MOVED: self._moved,
         }
         for record in records:
+            self._now = record.time
+            if record.queue is not None and record.time < self._scanned_at:
+                # begun before the end of a scan whose record came first: the copy may show the queue before that
+                record.queue = None
+                self.seen["copies begun before the end of a scan, not used"] += 1
             if record.kind is not Kind.FREE:  # an interrupt frees in any task's name
                 self._joining.pop(record.task, None)
             if not record.done:
                 steps[record.kind](record)
 
     def _enter(self, record: Record) -> None:
-        self._pending[record.task] = record
+        self._pending[record.task, record.kind] = record
+        self._faults.pop(record.task, None)
 
     def _fault(self, record: Record) -> None:
         self._faults[record.task] = record
@@ -146,24 +160,83 @@ class Journalist:
     def _alloc(self, record: Record) -> None:
         folio, order = record.values[:2]
         fault = self._faults.get(record.task)
+        if record.end:
+            self._collapses(record, record.end)
+            return
+        if not record.space:  # a kernel thread's: a collapse that failed, or a migration
+            return
         if order != self._settings.order:
             self.seen[f"pages of order {order}, not followed"] += 1
             return
         if not fault or fault.space != record.space:
-            self.seen["allocations without a fault, not followed"] += 1
+            asked = self._pending.get((record.task, Kind.ENTER))
+            fails = asked and asked.values[0] == MADVISE and asked.values[3] == MADV_COLLAPSE
+            self.seen["collapses that failed" if fails else "allocations without a fault, not followed"] += 1
             return
-        page = Page.new(len(self._pages), folio, order)
+        page = self._new(record.task, record.space, folio, fault.values[0])
+        if page in self._queue:
+            self._joining[record.task] = page  # it joins between this record and the task's next one
+
+    def _new(self, task: int, space: int, folio: int, address: int) -> Page:
+        """A page that an address space maps whole from now on."""
+        page = Page.new(len(self._pages), folio, self._settings.order)
         self._pages.append(page)
         self._at[folio] = page
-        length = BASE << order
-        page.maps[record.space] = Mapping(fault.values[0] // length * length, True, page.every)
-        self._spaces[record.space][page] = page.maps[record.space]
+        length = BASE << self._settings.order
+        page.maps[space] = self._spaces[space][page] = Mapping(address // length * length, True, page.every)
         self._live += 1
         self._most = max(self._most, self._live)
-        self._say(record.task, page, "alloc")
-        if self._settings.threshold is not None and order == PMD_ORDER:
+        self._say(task, page, "alloc")
+        if self._settings.threshold is not None and self._settings.order == PMD_ORDER:
             self._joins(page)
-            self._joining[record.task] = page  # it joins between this record and the task's next one
+        return page
+
+    # collapses and migrations
+
+    def _collapses(self, record: Record, end: Record) -> None:
+        """A collapse has begun: it is as a call that unmaps a region, until its end or until something shows it."""
+        values = (COLLAPSE, end.values[3] * BASE, BASE << PMD_ORDER, 0, record.values[0], *[0] * 4)
+        asked = Record(Kind.COLLAPSED, record.time, record.task, end.values[0], values, None)
+        self._pending[record.task, Kind.COLLAPSED] = asked
+
+    def _collapsed(self, record: Record) -> None:
+        asked = self._pending.pop((record.task, Kind.COLLAPSED), None)
+        if asked:
+            self._apply(asked, record.queue)
+            self._joining.pop(record.task, None)
+        self._agree(record.queue)
+
+    def _collapse(self, record: Record) -> None:
+        """The page that a collapse made."""
+        _, start, _, _, folio = record.values[:5]
+        if self._settings.order != PMD_ORDER:
+            self.seen["pages made by collapses, of an order that isn't followed"] += 1
+            return
+        page = self._new(record.task, record.space, folio, start)
+        self.seen["pages made by collapses"] += 1
+        if page in self._queue:
+            self._joining[record.task] = page  # where it is told before its end
+        if record.space in self._remapped:
+            self._lose(page, "made by a collapse in an area that mremap may have moved")
+
+    def _moved(self, record: Record) -> None:
+        """A page of ours is mapped again. Where it is another than before, it follows by the free of the old one."""
+        if record.values[1] not in self._at:
+            self._moves[record.task].append(record)
+
+    def _migrated(self, task: int, page: Page) -> bool:
+        """Whether a page that is freed lives on in another place, by what its task has just mapped again."""
+        for record in self._moves.pop(task, ()):
+            address, folio, order = record.values[:3]
+            inside = any(0 <= address - each.base < page.subpages * BASE for each in page.maps.values())
+            if inside and order == self._settings.order and page.live and not page.split:
+                self.seen["pages that migrated"] += 1
+                del self._at[page.folio]
+                page.folio, self._at[folio] = folio, page
+                if page in self._queue:
+                    self._lose(page, "migrated while it was queued (M)")
+                return True
+        return False
 
     def _copy(self, record: Record) -> None:
         """A base page allocated in a fault on a subpage that is mapped: a copy on write took that mapping away."""
@@ -183,6 +256,8 @@ class Journalist:
         if not page:
             return
         if record.values[1] == self._settings.order and record.values[0] == page.folio:
+            if self._migrated(record.task, page):
+                return
             page.freed = True
             if not page.used():  # the last pin went
                 if not page.pins:
@@ -209,11 +284,30 @@ class Journalist:
                     page.own[i] += 1
 
     def _exit(self, record: Record) -> None:
-        asked = self._pending.pop(record.task, None)
+        asked = self._pending.pop((record.task, Kind.ENTER), None)
         if asked and record.values[4] == 0:
             self._end_scans_before(record.queue)
             self._apply(asked, record.queue)
+        self._compare(record)
         self._agree(record.queue)
+
+    def _compare(self, record: Record) -> None:
+        """Compares what a page counts of its mappings at a call's end with what was told, where no other call or scan
+        can have changed it meanwhile."""
+        counts = record.counts()
+        page = self._at.get(counts.folio) if counts else None
+        if not counts or not page or page.split or page.lost or record.space not in page.maps:
+            return
+        if not 0 <= record.values[1] - page.maps[record.space].base < page.subpages * BASE:
+            return  # the page that was there has gone, and this one has its frames
+        if self._scans or page.changed > record.time or any(a.space in page.maps for a in self._pending.values()):
+            return
+        whole, total, mapped = page.counts()
+        kept = counts.mapped or counts.total == counts.whole  # not where NO_PAGE_MAPCOUNT is configured
+        self.seen["map counts compared"] += 1
+        if (counts.whole, counts.total) != (whole, total) or (kept and counts.mapped != mapped):
+            self.seen["map counts that differ"] += 1
+            self._lose(page, "its map counts are others than inferred")
 
     def _exit_mmap(self, record: Record) -> None:
         space = record.values[0]
@@ -233,12 +327,17 @@ class Journalist:
             if low >= high:
                 continue
             bits = bits_of((low - mapping.base) // BASE, (high - low) // BASE)
-            if number == MUNMAP or (number == MADVISE and advice == DONTNEED):
+            page.changed = self._now
+            if number in (MUNMAP, COLLAPSE) or (number == MADVISE and advice == DONTNEED):
                 self._unmap(record, page, mapping, bits, queue)
             elif number == MREMAP or (number == MADVISE and advice in LOSING):
                 self._lose(page, "mremap, or advice that isn't followed")
             elif mapping.whole and bits != page.every and (number == MPROTECT or advice in CUTTING):
                 self._split_pmd(record, page, mapping)
+        if number == COLLAPSE:
+            self._collapse(record)
+        elif number == MREMAP:
+            self._remapped.add(record.space)
 
     def _split_pmd(self, record: Record, page: Page, mapping: Mapping) -> None:
         mapping.whole = False
@@ -294,13 +393,16 @@ class Journalist:
         if not after:
             return self._last_unmap(record, page)
         newly = before != after
-        page.partly |= newly
+        if newly and not page.partly:
+            page.partly, page.partly_since = True, self._now
         seen = queue is not None and page.folio in queue
         if newly and page not in self._queue and (queue is None or seen or not last or page.freed):
             self.seen["queued, seen" if seen else "queued, inferred"] += 1
             return "queued", 0
         if newly and page not in self._queue and self._caught(page):
             return "queued", 0
+        if newly and page not in self._queue:
+            self._lose(page, "partly mapped, and in no queue at the call's end")
         return "stays", 0
 
     def _caught(self, page: Page) -> bool:
@@ -331,17 +433,18 @@ class Journalist:
     # several tasks: the kernel's queue tells the order
 
     def _end_scans_before(self, queue: Optional[List[int]]) -> None:
-        """Tells a scan that another task still runs, where what it puts back stands before a page newly in the
-        queue."""
+        """Tells a scan that another task still runs, where what it puts back stands before a page newly in the queue.
+        The queue shows what it put back: when the scan's end is recorded, a page of these may have been freed, and its
+        place be another page's that stands elsewhere in the queue."""
         told = {page.folio for page in self._queue}
         for start, _ in list(self._scans.values()):
-            end = start.end and start.end.queue
+            end = start.end and start.end.shown()
             if not start.end or not end or not start.queue or queue is None:
                 continue
             back = [folio for folio in end if folio in start.queue]
             if any(f in end and back and end.index(back[0]) < end.index(f) for f in queue if f not in told):
                 start.end.done = True
-                self._scanned(start.end)
+                self._scanned(start.end, queue)
 
     def _agree(self, queue: Optional[List[int]]) -> None:
         """Looks for pages that stand in the kernel's queue for a reason not yet told: a call that still runs."""
@@ -353,14 +456,14 @@ class Journalist:
         for page in list(self._queue):
             if page.folio in queue or page in self._joining.values() or page not in self._queue:
                 continue
-            tasks = [task for task, asked in self._pending.items() if asked.space in page.maps]
-            reaching = [task for task in tasks if self._reaches(self._pending[task], page)]
+            running = [key for key, asked in self._pending.items() if asked.space in page.maps]
+            reaching = [key for key in running if self._reaches(self._pending[key], page)]
             if reaching:  # a call that still runs has freed it
                 page.freed = True
                 self._apply(self._pending.pop(reaching[0]), queue)
                 self.seen["calls told before their end"] += 1
-            elif not tasks:
-                self._lose(page, "left the queue unseen: khugepaged took it (K), or its process ends")
+            elif not running:
+                self._lose(page, f"left the queue unseen: {self._why_gone(page)}")
                 self._leaves(page)
         for page in self._joining.values():
             if page.folio not in queue and page in self._queue and page.join and not page.freed:
@@ -377,23 +480,33 @@ class Journalist:
             self.seen["queues compared"] += 1
             self.seen["queues that differ"] += mine != kernels
 
+    def _why_gone(self, page: Page) -> str:
+        if self._is_missing:
+            return "a scan that isn't followed, perhaps"
+        return "split by a migration (M)" if page.freed_frames else "its process ends, or a collapse (K) that isn't told"
+
     def _reaches(self, asked: Record, page: Page) -> bool:
         """Whether a call takes mappings of a page away."""
         number, start, length, advice = asked.values[:4]
         mapping = page.maps[asked.space]
         first, end = mapping.base, mapping.base + page.subpages * BASE
-        takes = number == MUNMAP or (number == MADVISE and advice == DONTNEED)
+        takes = number in (MUNMAP, COLLAPSE) or (number == MADVISE and advice == DONTNEED)
         return takes and start < end and start + length > first
 
     def _tell_early(self, queue: List[int]) -> None:
         told = {page.folio for page in self._queue}
+        made = {asked.values[4]: key for key, asked in self._pending.items() if asked.kind is Kind.COLLAPSED}
         for folio in queue:
+            if folio in made and made[folio] in self._pending:
+                self._apply(self._pending.pop(made[folio]), queue)
+                self.seen["calls told before their end"] += 1
+                continue
             page = self._at.get(folio)
             if not page or folio in told:
                 continue
-            for task, asked in list(self._pending.items()):
-                if page in self._spaces[asked.space] and page not in self._queue:
-                    del self._pending[task]
+            for key, asked in list(self._pending.items()):
+                if page in self._spaces[asked.space] and page not in self._queue and key in self._pending:
+                    del self._pending[key]
                     self._apply(asked, queue)
                     self.seen["calls told before their end"] += 1
             if page not in self._queue and page.live:
@@ -429,38 +542,51 @@ class Journalist:
     # scans
 
     def _scan(self, record: Record) -> None:
-        self._agree(record.queue)
+        if record.queue is None:
+            record.queue = [page.folio for page in self._queue]
+            self.seen["scans whose start no copy showed"] += 1
+        else:
+            self._agree(record.queue)
         self._scans[record.task] = (record, [self._at.get(folio) for folio in record.queue or ()])
 
-    def _scanned(self, record: Record) -> None:
+    def _scanned(self, record: Record, seen: Optional[List[int]] = None) -> None:
+        """A scan has ended; `seen`: the queue that shows it, where it is told before its end was recorded."""
         start, folios = self._scans.pop(record.task, (None, []))
         if not start:
             return
         total, freeable = start.values[:2]
+        own = record.queue if seen is None else seen
         if total < min(freeable, BATCH) or not start.queue:
-            self._agree(record.queue)
+            self._agree(own)
             return
-        if record.queue is None:
+        self._scanned_at = max(self._scanned_at, min(record.time, self._now))
+        queue = record.shown() if seen is None else seen
+        if queue is None:
             self.seen["scans not followed"] += 1
+            self._is_missing = True
             return
-        self.seen["scans"] += 1
-        self._freed_by_now(folios, record.queue)
-        self._joined_by_now(folios[:total], record.queue)
-        found = [self._at.get(folio) for folio in record.queue]
+        self.seen["scans" if own is not None else "scans whose end the next copy showed"] += 1
+        self._freed_by_now(folios, queue)
+        self._joined_by_now(folios[:total], queue)
+        found = [self._at.get(folio) for folio in queue]
         back: List[Page] = []
         for first, count in batches_of(total, freeable):
             batch = [page for page in folios[first : first + count] if page and page in self._queue]
             stay = [page for page in found if page and page in batch]
-            self._batch(record, batch, folios, stay)
+            self._queued_again(start, stay, found)
+            self._batch(record, batch, folios, stay, queue)
             back += stay
         self._tell_later([page for page in found if page], back)
-        self._agree(record.queue)
+        self._agree(own)
 
-    def _batch(self, record: Record, pages: List[Page], folios: List[Optional[Page]], stay: List[Page]) -> None:
+    def _batch(
+        self, record: Record, pages: List[Page], folios: List[Optional[Page]], stay: List[Page], queue: List[int]
+    ) -> None:
         """Tells one batch of a scan: `stay` are those put back, in the kernel's order."""
         for page in pages:
+            page.changed = max(record.time, self._now)
             if page in stay or self._is_too_full(page):
-                self._partly_by_now(page, record.queue)
+                self._partly_by_now(page, queue)
         if len(stay) > 1 and stay == [page for page in reversed(pages) if page in stay]:
             self.seen["scans that put back two pages or more, turned around (E)"] += 1
         taken, back = pages, stay
@@ -478,12 +604,21 @@ class Journalist:
         self._queue += stay
         self._told += back
 
+    def _queued_again(self, start: Record, stay: List[Page], found: List[Optional[Page]]) -> None:
+        """What a scan puts back joins the queue at once. Where another page stands between, one wasn't put back: the
+        scan had let it go as in use, and a call then queued it, since it became partly mapped."""
+        places = [found.index(page) for page in stay]
+        if places and places[-1] - places[0] >= len(places):
+            for page in stay:
+                if page.partly_since >= start.time:
+                    self._lose(page, "found in use by a scan, and queued again while it ran (U)")
+
     def _freed_by_now(self, folios: List[Optional[Page]], queue: Optional[List[int]]) -> None:
         """A page that was freed while the scan ran: where nothing told so yet, a call that still runs did it."""
         for page in folios:
-            for task, asked in list(self._pending.items()):
+            for key, asked in list(self._pending.items()):
                 if page and page.live and page.freed and asked.space in page.maps and self._reaches(asked, page):
-                    self._apply(self._pending.pop(task), queue)
+                    self._apply(self._pending.pop(key), queue)
                     self.seen["calls told before their end"] += 1
 
     def _joined_by_now(self, folios: List[Optional[Page]], queue: List[int]) -> None:
@@ -494,9 +629,9 @@ class Journalist:
     def _partly_by_now(self, page: Page, queue: Optional[List[int]]) -> None:
         """A page that is put back, or split with too few zeros, is partly mapped: where nothing told so yet, a call
         that still runs did it."""
-        for task, asked in list(self._pending.items()):
+        for key, asked in list(self._pending.items()):
             if not page.partly and asked.space in page.maps and self._reaches(asked, page):
-                self._apply(self._pending.pop(task), queue)
+                self._apply(self._pending.pop(key), queue)
                 self.seen["calls told before their end"] += 1
 
     def _is_too_full(self, page: Page) -> bool:

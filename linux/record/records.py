@@ -7,7 +7,7 @@ import struct
 from dataclasses import dataclass
 from typing import Any, Dict, List, Optional, Tuple
 
-QUEUE_MOST = 240  # pages of a queue that a record carries
+QUEUE_MOST = 500  # pages of a queue that a record carries
 VALUES_AT, COUNT_AT, FOLIOS_AT = 32, 112, 128
 SIZE = FOLIOS_AT + 8 * QUEUE_MOST
 _HEAD = struct.Struct("<16Q")  # kind, time, tid and tgid, mm, nine values, length, count, nothing
@@ -17,7 +17,7 @@ class Kind(enum.IntEnum):
     """What a record tells; its values in brackets."""
 
     ENTER = 0  # a system call begins (number, address, length, advice)
-    EXIT = 1  # it ends (the same, and its result)
+    EXIT = 1  # it ends (the same, its result, and of the page at its address the folio and its map counts: `Counts`)
     FAULT = 2  # a page fault (address, error code)
     ALLOC = 3  # a huge page is allocated (folio, order)
     FREE = 4  # a page is freed in a block where a huge page was made (folio, order)
@@ -26,9 +26,21 @@ class Kind(enum.IntEnum):
     SCAN = 7  # the shrinker begins on the queue (how many it may scan, how many are freeable)
     SCANNED = 8  # it ends (0, how many were freed)
     COPY = 9  # a base page is allocated, perhaps for a copy on write (folio)
+    COLLAPSED = 10  # a region has become a huge page (mm, 1, its folio, its index)
+    MOVED = 11  # a page is mapped again by a migration, or by a split that failed (address, folio, order)
 
 
-WITH_QUEUE = (Kind.EXIT, Kind.EXIT_MMAP, Kind.SCAN, Kind.SCANNED)
+WITH_QUEUE = (Kind.EXIT, Kind.EXIT_MMAP, Kind.SCAN, Kind.SCANNED, Kind.COLLAPSED)
+
+
+@dataclass(frozen=True)
+class Counts:
+    """What struct folio counts of mappings: by PMD entries, all of them, and how many subpages PTEs map."""
+
+    folio: int
+    whole: int
+    total: int
+    mapped: int
 
 
 @dataclass(eq=False)
@@ -42,10 +54,31 @@ class Record:
     values: Tuple[int, ...]
     queue: Optional[List[int]]
     done: bool = False  # told already
-    end: Optional[Record] = None  # of a scan: its end
+    end: Optional[Record] = None  # of a scan: its end; of an allocation: the collapse that it was for
+    later: Optional[List[int]] = None  # of a scan's end without a copy: the next copy, if no scan began before it
+
+    def shown(self) -> Optional[List[int]]:
+        """The queue at a scan's end, by its own copy or the next."""
+        return self.later if self.queue is None else self.queue
+
+    def counts(self) -> Optional[Counts]:
+        """The map counts of the page at a call's address, if one was known there and it wasn't split."""
+        folio, total, whole, mapped = self.values[5:9]
+        if self.kind is not Kind.EXIT or not folio or mapped > _WORD:
+            return None
+        return Counts(folio, _count(whole), _count(total), mapped & _SUBPAGES)
 
     def plain(self) -> List[Any]:
         return [int(self.kind), self.time, self.task, self.space, list(self.values), self.queue]
+
+
+_WORD = (1 << 32) - 1
+_SUBPAGES = (1 << 23) - 1  # of _nr_pages_mapped: above it stands whether a PMD entry maps the page
+
+
+def _count(field: int) -> int:
+    """A map count, which the kernel begins at -1 (include/linux/mm.h: folio_entire_mapcount)."""
+    return (field + 1) & _WORD
 
 
 def record_of(raw: bytes) -> Record:
@@ -70,10 +103,22 @@ def whole(queue: Optional[List[int]]) -> Optional[List[int]]:
 
 
 def lines_with_ends(records: List[Record]) -> None:
-    """Has each scan know its end."""
+    """Has each scan and each allocation for a collapse know its end, and a scan's end without a copy the next one."""
     open_scans: Dict[int, Record] = {}
+    allocated: Dict[int, Record] = {}
+    torn: List[Record] = []
     for record in records:
+        if torn and record.queue is not None and record.time > torn[-1].time:
+            for end in torn:
+                end.later = record.queue
+            torn = []
         if record.kind is Kind.SCAN:
-            open_scans[record.task] = record
+            open_scans[record.task], torn = record, []
         elif record.kind is Kind.SCANNED and record.task in open_scans:
             open_scans.pop(record.task).end = record
+            torn += [record] if record.queue is None else []
+        elif record.kind is Kind.ALLOC:
+            allocated[record.task] = record
+        elif record.kind is Kind.COLLAPSED and record.task in allocated:
+            alloc = allocated.pop(record.task)
+            alloc.end = record if alloc.values[0] == record.values[2] else None

@@ -1,9 +1,10 @@
 /* Threads that make, divide and drop huge pages: something for the recorder to see.
  *
- *   workload THREADS STEPS SEED ORDER [zeros]     `zeros`: most subpages of a page stay zero-filled
+ *   workload THREADS STEPS SEED ORDER [zeros] [collapse]
  *
  * Each thread has a few places. In each step it makes a page in an empty place, or drops a part of a page, splits its
- * PMD entry, unmaps it, pins or unpins it, has a child drop a part (with one thread), or sleeps.
+ * PMD entry, unmaps it, pins or unpins it, has a child drop a part (with one thread), or sleeps. `zeros`: most subpages
+ * of a page stay zero-filled; `collapse`: it also asks for collapses.
  */
 #define _GNU_SOURCE
 #include <fcntl.h>
@@ -15,9 +16,13 @@
 #include <sys/wait.h>
 #include <unistd.h>
 
-enum { BASE = 4096, PLACES = 6, MOST_THREADS = 64 };
+enum { BASE = 4096, PLACES = 6, MOST_THREADS = 64, STEPS = 12 };
 
-static int threads, steps, seed, order, zeros;
+#ifndef MADV_COLLAPSE
+#define MADV_COLLAPSE 25
+#endif
+
+static int threads, steps, seed, order, zeros, collapse;
 
 struct place {
     unsigned char *page;
@@ -95,7 +100,7 @@ static void step(struct place *place, unsigned *chance)
         make(place, chance);
         return;
     }
-    switch (rand_r(chance) % 12) {
+    switch (rand_r(chance) % (STEPS + 2 * collapse)) {
     case 0: case 1: case 2: case 3:
         madvise(place->page + range.first, range.length, MADV_DONTNEED);
         break;
@@ -117,6 +122,9 @@ static void step(struct place *place, unsigned *chance)
     case 9:
         if (threads == 1 && rand_r(chance) % 4 == 0)
             in_a_child(place, range);
+        break;
+    case STEPS: case STEPS + 1:
+        madvise(place->page, size, MADV_COLLAPSE);
         break;
     default:
         usleep(rand_r(chance) % 2000);
@@ -141,7 +149,10 @@ int main(int count, char **words)
     steps = atoi(words[2]);
     seed = atoi(words[3]);
     order = atoi(words[4]);
-    zeros = count > 5;
+    for (int i = 5; i < count; i++) {
+        zeros |= !strcmp(words[i], "zeros");
+        collapse |= !strcmp(words[i], "collapse");
+    }
     for (size_t i = 1; i < (size_t)threads; i++)
         if (pthread_create(&all[i], NULL, work, (void *)i))
             return 1;

@@ -45,6 +45,11 @@ def shot() -> Shot:
     return settings, groups, running
 
 
+def heed_interrupts() -> None:
+    """A shell's background job ignores SIGINT, and so would what it starts."""
+    signal.signal(signal.SIGINT, signal.SIG_DFL)
+
+
 def settled() -> Shot:
     """What is there once no tool holds the lock, and ended processes have had a moment to go."""
     with Keeper():
@@ -62,7 +67,8 @@ def main() -> int:
     for number in (signal.SIGINT, signal.SIGTERM, signal.SIGKILL):
         for moment in range(MOMENTS):
             before = settled()
-            tool = subprocess.Popen(command, cwd=ROOT, stdout=subprocess.DEVNULL, stderr=subprocess.DEVNULL)
+            tool = subprocess.Popen(command, cwd=ROOT, stdout=subprocess.DEVNULL, stderr=subprocess.DEVNULL,
+                                    preexec_fn=heed_interrupts)
             time.sleep(0.15 + 0.25 * moment)
             tool.send_signal(number)
             tool.wait()

@@ -6,7 +6,7 @@ import struct
 from dataclasses import dataclass, field
 from typing import Dict, List, Tuple
 
-_INT, _PTR, _STRUCT, _ENUM = 1, 2, 4, 6
+_INT, _PTR, _STRUCT, _ENUM, _TYPEDEF, _PROTOTYPE = 1, 2, 4, 6, 8, 13
 
 
 @dataclass
@@ -34,6 +34,14 @@ class MadeTypes:
 
     def pointer(self, to: int) -> int:
         return self._add("", _PTR, 0, to, b"")
+
+    def typedef(self, name: str, of: int) -> int:
+        return self._add(name, _TYPEDEF, 0, of, b"")
+
+    def prototype(self, parameters: List[Tuple[str, int]]) -> int:
+        """A function that answers nothing; parameters are (name, type)."""
+        rest = b"".join(struct.pack("<II", self._string(word), kind) for word, kind in parameters)
+        return self._add("", _PROTOTYPE, len(parameters), 0, rest)
 
     def struct(self, name: str, size: int, members: List[Tuple[str, int, int]]) -> int:
         """Members are (name, type, offset in bytes)."""

@@ -12,6 +12,7 @@ import unittest
 from pathlib import Path
 from unittest import mock
 
+from ..common import program as programs
 from ..common.btf import Missing, Types
 from ..common.errors import InputFault, Unavailable
 from ..common.files import chosen
@@ -74,6 +75,22 @@ class TypesTest(unittest.TestCase):
     def test_what_is_no_type_information_is_said(self) -> None:
         with self.assertRaises(Unavailable):
             Types(b"\x7fELF" + bytes(60))
+
+
+class ProgramTest(unittest.TestCase):
+    def test_the_program_below_the_same_prefix_is_found(self) -> None:
+        """Also where the path lacks it, as sudo's does."""
+        with tempfile.TemporaryDirectory() as name:
+            here = Path(name) / "bin/thpsplit"
+            here.parent.mkdir()
+            with mock.patch.multiple(programs, BUILT=here / "none", HERE=Path(name).joinpath(*programs.INSTALLED)):
+                with mock.patch.dict(os.environ, {"PATH": name}):
+                    os.environ.pop("THPSPLIT", None)
+                    with self.assertRaises(Unavailable):
+                        programs.find_program()
+                    here.write_text("")
+                    here.chmod(0o755)
+                    self.assertEqual(programs.find_program(), str(here))
 
 
 class SetsTest(unittest.TestCase):

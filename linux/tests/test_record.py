@@ -144,12 +144,22 @@ class RecordsTest(unittest.TestCase):
 
 class StoredTest(unittest.TestCase):
     def stored(self, name: str, straighten: bool) -> str:
+        return self.told(name, straighten).text()
+
+    def told(self, name: str, straighten: bool) -> Journalist:
         with gzip.open(HERE / f"stored/{name}.records.gz", "rt") as file:
             records = [record_from(json.loads(line)) for line in file]
         journalist = Journalist(Settings(9, None, straighten))
         journalist.tell(records)
         self.assertEqual(journalist.seen["queues that differ"], 0)
-        return journalist.text()
+        return journalist
+
+    def test_two_threads_that_ask_for_collapses(self) -> None:
+        journalist = self.told("collapses", True)
+        seen = [journalist.seen[f"map counts {what}"] for what in ("compared", "that differ")]
+        self.assertEqual((journalist.seen["pages made by collapses"], *seen), (12, 76, 0))
+        self.assertEqual((journalist.pages(), journalist.lost_pages()), (61, 1))
+        self.assertEqual(verdict(journalist.text()), "legal")
 
     def test_a_recording_is_legal_once_straightened(self) -> None:
         self.assertEqual(verdict(self.stored("one_thread", True)), "legal")

@@ -2,7 +2,7 @@
 
 1. 16 huge pages that a fork shares: after `now` and `now --freeze` their frames and map counts are the same.
 2. `verify` and `now --freeze` are sent SIGINT, SIGTERM and SIGKILL at so many moments (10): afterwards each setting
-has its    former value, no control group of ours is left, and no process is stopped.
+   has its former value, no control group of ours is left, and no process is stopped.
 
 The last line is `N passed, M failed`.
 """
@@ -90,11 +90,17 @@ def check_shared() -> List[bool]:
     return out
 
 
+def heed_interrupts() -> None:
+    """A shell's background job ignores SIGINT, and so would what it starts."""
+    signal.signal(signal.SIGINT, signal.SIG_DFL)
+
+
 def check_end(words: List[str], sent: signal.Signals, wait: float, former: Dict[str, str]) -> bool:
     """Whether all is as before after a signal at a moment."""
     sleeper = subprocess.Popen(["sleep", "600"])
     filled = [word.replace("SLEEPER", str(sleeper.pid)) for word in words]
-    tool = subprocess.Popen([str(PROGRAM), *filled], stdout=subprocess.DEVNULL, stderr=subprocess.DEVNULL)
+    tool = subprocess.Popen([str(PROGRAM), *filled], stdout=subprocess.DEVNULL, stderr=subprocess.DEVNULL,
+                            preexec_fn=heed_interrupts)
     time.sleep(wait)
     tool.send_signal(sent)
     tool.wait()
