@@ -7,3 +7,4 @@ pub mod Journals
 pub mod Reading
 pub mod Answers
 pub mod Parts
+pub mod Checking

@@ -6,6 +6,7 @@ ghost use Rattle.thp_journal_reader.specs.Reading.{began, journal_so_far, nodes_
 ghost use Rattle.thp_text.specs.declared.fault.ReadFault.TheVariants.{OutOfMemory};
 
 use crate::journals::{Journals, NodeJournal};
+use crate::keeps_nodes::KeepsNodes;
 use crate::line::Line;
 use std::alloc::{AllocError, Global};
 use thp_least_blocks::LeastBlocks;
@@ -122,26 +123,19 @@ fn add_node(
     Ok(())
 }
 
-/// Adds what a line says, which has this number.
-pub(crate) fn add(
-    alloc: Global,
-    nodes: &mut Option<Nodes>,
-    number: u32,
-    line: Line,
-) -> Result<(), ReadFault>
-    requires reading { IsReading number nodes.old }
-    requires in_range { IsInRange line }
-    requires room { number < 4294967295 }
-    ensures nodes { OnOk result (nodes_in nodes.new ≡ with_line number (nodes_in nodes.old) line) }
-    ensures along { OnOk result (IfSome nodes.new (λ n. GoesAlong n.last)) }
-    ensures memory { IfErr result (λ fault. fault ≡ OutOfMemory) }
-{
-    match line {
-        Line::Node { shape, .. } => add_node(alloc, nodes, number, shape)?,
-        Line::Happened(event) => push(nodes, event)?,
-        Line::Head(_) | Line::End => {}
+impl KeepsNodes for Option<Nodes> {
+    ghost told = { λ nodes. nodes_in nodes };
+
+    ghost goes_along = { λ number nodes. IsReading number nodes };
+
+    fn add(&mut self, alloc: Global, number: u32, line: &Line) -> Result<(), ReadFault> {
+        match line {
+            Line::Node { shape, .. } => add_node(alloc, self, number, *shape)?,
+            Line::Happened(event) => push(self, *event)?,
+            Line::Head(_) | Line::End => {}
+        }
+        Ok(())
     }
-    Ok(())
 }
 
 /// The journals of the nodes that were read.
