@@ -1,8 +1,9 @@
 -- What a check says of the nodes so far, as one more node begins and as one more event is read.
 use Rattle.std.proofs.Common.{◌≡◌, ℕ, ◌+◌, ◌<◌, ◌≤◌, List, [], ◌∷◌, ◌++◌, length, take, Option, Some, None, refl, sym, ap, subst, ◌∙◌, ◌⊎◌, arith, inl, inr, suc, zero, length-append}
-use Rattle.std.specs.Prelude.{All, slice_get}
+use Rattle.std.specs.Prelude.{All, IfErr, IfOk, Result, Ok, Err, is_some, slice_get, true, false}
 use Rattle.std.proofs.lemmas.List.Elements.{All-nil, All-push}
 use Rattle.std.proofs.lemmas.List.{take-append-le, take_at}
+use Rattle.std.proofs.lemmas.List.Sums.{fold_push}
 use Rattle.thp_model.specs.declared.events.Event.{Event}
 use Rattle.thp_model.specs.declared.shape.Shape.{Shape}
 use Rattle.thp_model.specs.BlockLaws.{event_with, least_free}
@@ -10,14 +11,20 @@ use Rattle.thp_model.specs.History.{History}
 use Rattle.thp_model.specs.Legal.{Fits, IsLegal, IsFirstMisfit}
 use Rattle.thp_model.proofs.LegalSteps.{legal_none}
 use Rattle.thp_model.proofs.ListPlaces.{get_push, get-append_left, get_middle, get_below}
+use Rattle.thp_check.specs.declared.replay.Misfit.{Misfit}
 use Rattle.thp_check.specs.Replays.{Replayed}
 use Rattle.thp_check.specs.Replays.{with_event as replayed}
 use Rattle.thp_journal_reader.specs.declared.journals.NodeJournal.{NodeJournal}
 use Rattle.thp_journal_reader.specs.Answers.{AreLegalBefore, IsFirstIllegal, IsFirstIllegalLine, IsLegalNode, TellsIllegal}
-use Rattle.thp_journal_reader.specs.Checking.{AreLegal}
-use Rattle.thp_journal_reader.specs.Reading.{began, on_last, with_event, IsNodeBefore}
+use Rattle.thp_journal_reader.specs.Checking.{illegal_line, nodes_told, verdict_on, AreLegal, GoesWith, HasRoom, Says}
+use Rattle.thp_journal_reader.specs.LineRanges.{IsInRange}
+use Rattle.thp_journal_reader.specs.Reading.{began, on_last, with_event, with_line, IsNodeBefore}
+use Rattle.thp_journal_reader.specs.declared.checked_nodes.CheckedNodes.{CheckedNodes}
+use Rattle.thp_journal_reader.specs.declared.checked_nodes.Verdict.{Verdict}
+use Rattle.thp_journal_reader.specs.declared.checked_nodes.Verdict.TheVariants.{Nothing, Legal, Illegal}
+use Rattle.thp_journal_reader.specs.declared.line.Line.{Line}
 use Rattle.thp_journal_reader.proofs.AnswerLaws.{found_has, misfit_inside}
-use Rattle.thp_journal_reader.proofs.NodeLaws.{on_last-push}
+use Rattle.thp_journal_reader.proofs.NodeLaws.{each_step, on_last-push}
 
 -- a node without events is legal
 no_events_legal : (shape : Shape) → IsLegal shape []
@@ -187,3 +194,65 @@ has_room nodes r number next a each below =
     let lines : a.last.first_line + length a.last.events ≤ number = last.lines in
     let events : length r.history ≡ length a.last.events = ap length a.events_are in
     (omega (arith, a.next_is, events), omega (arith, a.next_is, lines))
+
+-- ---- the nodes that lines tell
+
+pub told_push : (lines : List (ℕ × Line)) (number : ℕ) (line : Line) → nodes_told (lines ++ (number, line) ∷ []) ≡ with_line number (nodes_told lines) line
+unfolding nodes_told
+told_push lines number line = fold_push (λ nodes (l : ℕ × Line). with_line l.0 nodes l.1) [] lines (number, line)
+
+pub told_none : nodes_told [] ≡ []
+unfolding nodes_told
+told_none = refl
+
+-- before any line
+pub goes_first : (nodes : CheckedNodes) → nodes.lines ≡ [] → nodes.verdict ≡ Nothing → GoesWith 1 nodes
+goes_first nodes none nothing =
+    let told : nodes_told nodes.lines ≡ [] = ap nodes_told none ∙ told_none in
+    let P : List NodeJournal → Type 0 = λ ns. All (IsNodeBefore 1) ns in
+    let Q : Verdict → Type 0 = λ v. Says (nodes_told nodes.lines) v in
+    record { each = subst P (sym told) (All-nil (IsNodeBefore 1)); says = subst Q (sym nothing) told }
+
+-- behind one more line
+pub goes_on : (number : ℕ) (old new : CheckedNodes) (line : Line) → GoesWith number old → IsInRange line → new.lines ≡ old.lines ++ (number, line) ∷ [] →
+    Says (with_line number (nodes_told old.lines) line) new.verdict → GoesWith (number + 1) new
+goes_on number old new line along in-range lines says =
+    let told : nodes_told new.lines ≡ with_line number (nodes_told old.lines) line = ap nodes_told lines ∙ told_push old.lines number line in
+    let P : List NodeJournal → Type 0 = λ ns. Says ns new.verdict in
+    record { each = each_step number (nodes_told old.lines) (nodes_told new.lines) line told in-range along.each; says = subst P (sym told) says }
+
+-- there is room for one more event
+pub room_for_one : (number : ℕ) (nodes : List NodeJournal) (verdict : Verdict) → Says nodes verdict → All (IsNodeBefore number) nodes → number < 4294967295 → HasRoom verdict
+room_for_one number nodes Nothing says each below = tt
+room_for_one number nodes (Legal replay next_line) says each below = has_room nodes replay number next_line says each below
+room_for_one number nodes (Illegal line) says each below = tt
+
+-- what is answered is so
+pub tells_verdict : (nodes : List NodeJournal) (verdict : Verdict) → Says nodes verdict → TellsIllegal nodes (illegal_line verdict)
+tells_verdict nodes Nothing says = tells_none nodes says
+tells_verdict nodes (Legal replay next_line) says = tells_legal nodes replay next_line says
+tells_verdict nodes (Illegal line) says = says
+
+-- the event on the next line was admitted, or wasn't
+pub says_on : (nodes : List NodeJournal) (old : Replayed) (next : ℕ) (event : Event) (r : Result Replayed Misfit) → AreLegal nodes old next →
+    IfOk r (λ new. new ≡ replayed old (event_with (least_free old.shape old.history) event)) → IfOk r (λ new. IsLegal new.shape new.history) →
+    IfErr r (λ m. Fits old.shape old.history (event_with (least_free old.shape old.history) event) → ⊥) → Says (on_last (with_event event) nodes) (verdict_on next r)
+says_on nodes old next event (Ok new) a is legal misfit = legal_grows nodes old new next event a is legal
+says_on nodes old next event (Err m) a is legal misfit = turns_illegal nodes old next event a misfit
+
+-- where an event is illegal already, one more node changes nothing that is known
+pub says_still : (nodes : List NodeJournal) (verdict : Verdict) (first_line : ℕ) (shape : Shape) → is_some (illegal_line verdict) ≡ true → Says nodes verdict → Says (nodes ++ began first_line shape ∷ []) verdict
+says_still nodes Nothing first_line shape some says = absurd cc
+says_still nodes (Legal replay next_line) first_line shape some says = absurd cc
+says_still nodes (Illegal line) first_line shape some says = illegal_begins nodes line first_line shape says
+
+-- a node begins
+pub says_begun : (nodes : List NodeJournal) (old : Verdict) (new : Replayed) (first_line : ℕ) (shape : Shape) → is_some (illegal_line old) ≡ false → new.shape ≡ shape → new.history ≡ [] → Says nodes old →
+    Says (nodes ++ began first_line shape ∷ []) (Legal new first_line)
+says_begun nodes Nothing new first_line shape none same empty says = first_begins nodes first_line shape new says same empty
+says_begun nodes (Legal replay next_line) new first_line shape none same empty says = legal_begins nodes replay next_line first_line shape new says same empty
+says_begun nodes (Illegal line) new first_line shape none same empty says = absurd cc
+
+-- before the first node, an event is none of any node
+pub says_nothing : (nodes : List NodeJournal) (event : Event) → Says nodes Nothing → Says (on_last (with_event event) nodes) Nothing
+says_nothing nodes event says = ap (on_last (with_event event)) says

@@ -1,64 +1,23 @@
 //! Nodes whose events are replayed as they are read, and not kept.
 ghost use Rattle.std.specs.Prelude.{◌≡◌, ◌<◌, ◌+◌, ◌^◌, ◌∷◌, ◌++◌, [], length, List, IfOk, IfErr, OnOk};
 ghost use Rattle.thp_check.specs.Replays.{with_event as replayed};
-ghost use Rattle.thp_journal_reader.specs.Answers.{TellsIllegal};
-ghost use Rattle.thp_journal_reader.specs.Checking.{GoesWith, HasRoom, Says};
-ghost use Rattle.thp_journal_reader.specs.Journals.{nodes_of};
-ghost use Rattle.thp_journal_reader.specs.Reading.{began, on_last, with_event};
+ghost use Rattle.thp_journal_reader.specs.Checking.{illegal_line, nodes_told, verdict_on, GoesWith, HasRoom, Says};
+ghost use Rattle.thp_journal_reader.specs.Reading.{began, on_last, with_event, with_line};
+ghost use Rattle.thp_journal_reader.specs.declared.checked_nodes.Verdict.TheVariants.{Nothing};
 ghost use Rattle.thp_journal_reader.specs.declared.journals.NodeJournal.{NodeJournal};
+ghost use Rattle.thp_journal_reader.specs.LineRanges.{IsInRange};
+ghost use Rattle.thp_journal_reader.specs.Later.{goes_later};
 ghost use Rattle.thp_model.specs.BlockLaws.{event_with, least_free};
 ghost use Rattle.thp_model.specs.Legal.{Fits, IsLegal};
 ghost use Rattle.thp_model.specs.Shapes.{IsShape};
 
 use crate::keeps_nodes::KeepsNodes;
 use crate::line::Line;
+use crate::past_lines::PastLines;
 use std::alloc::{AllocError, Global};
-use std::marker::Model;
-use std::snapshot::Snapshot;
 use thp_check::{Misfit, Replay};
 use thp_model::{Event, Shape, What};
 use thp_text::ReadFault;
-
-/// Lines one after the other, the newest outside.
-#[derive(Drop)]
-enum LineSteps {
-    Start,
-    Then(Line, Snapshot<LineSteps>),
-}
-
-/// A list of lines that takes no memory: only contracts see it.
-#[derive(Drop)]
-pub(crate) struct PastLines {
-    steps: Snapshot<LineSteps>,
-}
-
-impl Model for PastLines {
-    ghost use Rattle.std.specs.Prelude.{List};
-    ghost use Rattle.thp_journal_reader.specs.Checking.{lines_in};
-    ghost use Rattle.thp_journal_reader.specs.declared.line.Line.{Line};
-
-    ghost Value = { List Line };
-
-    ghost view = { λ p. lines_in p.steps.value };
-}
-
-impl PastLines {
-    fn new() -> PastLines
-        ensures { result ≡ [] }
-    {
-        PastLines {
-            steps: Snapshot::of(&LineSteps::Start),
-        }
-    }
-
-    fn push(&mut self, line: &Line)
-        ensures { self.new ≡ self.old ++ line.now ∷ [] }
-    {
-        let start = Snapshot::of(&LineSteps::Start);
-        let steps = std::mem::replace(&mut self.steps, start);
-        self.steps = Snapshot::of(&LineSteps::Then(*line, steps));
-    }
-}
 
 /// What is known of the events so far.
 #[derive(Drop)]
@@ -91,12 +50,22 @@ fn admit(replay: Replay, event: &Event) -> Result<Replay, Misfit>
 }
 
 impl Verdict {
+    /// The line of the first event that isn't legal, if there is one.
+    pub(crate) fn illegal(&self) -> Option<u32>
+        ensures { result ≡ illegal_line self.now }
+    {
+        match self {
+            Verdict::Illegal { line } => Some(*line),
+            Verdict::Nothing | Verdict::Legal { .. } => None,
+        }
+    }
+
     /// One more node begins, whose first event stands on this line.
     fn begin(&mut self, alloc: Global, first_line: u32, shape: Shape) -> Result<(), AllocError>
         requires { IsShape shape }
         ensures { OnOk result ((nodes : List NodeJournal) → Says nodes self.old → Says (nodes ++ began first_line shape ∷ []) self.new) }
     {
-        if let Verdict::Illegal { .. } = self {
+        if self.illegal().is_some() {
             return Ok(());
         }
         // so that one replay lives at a time
@@ -116,16 +85,42 @@ impl Verdict {
     {
         match std::mem::replace(self, Verdict::Nothing) {
             Verdict::Legal { replay, next_line } => {
-                *self = match admit(replay, event) {
-                    Ok(replay) => Verdict::Legal {
-                        replay,
-                        next_line: next_line + 1,
-                    },
-                    Err(Misfit) => Verdict::Illegal { line: next_line },
-                };
+                *self = verdict_on(next_line, admit(replay, event));
             }
-            other => *self = other,
+            Verdict::Illegal { line } => *self = Verdict::Illegal { line },
+            Verdict::Nothing => {}
         }
+    }
+
+    /// One more line, which has this number.
+    fn follow(&mut self, alloc: Global, number: u32, line: &Line) -> Result<(), AllocError>
+        requires room { HasRoom self.old }
+        requires in_range { IsInRange line.now }
+        requires number { number < 4294967295 }
+        ensures { OnOk result ((nodes : List NodeJournal) → Says nodes self.old → Says (with_line number nodes line.now) self.new) }
+    {
+        match line {
+            Line::Node { shape, .. } => self.begin(alloc, number + 1, *shape),
+            Line::Happened(event) => {
+                self.admit(event);
+                Ok(())
+            }
+            Line::Head(_) | Line::End => Ok(()),
+        }
+    }
+}
+
+/// What is known once the event on this line was admitted, or wasn't.
+fn verdict_on(line: u32, admitted: Result<Replay, Misfit>) -> Verdict
+    requires { line < 4294967295 }
+    ensures { result ≡ verdict_on line admitted }
+{
+    match admitted {
+        Ok(replay) => Verdict::Legal {
+            replay,
+            next_line: line + 1,
+        },
+        Err(Misfit) => Verdict::Illegal { line },
     }
 }
 
@@ -141,37 +136,25 @@ impl CheckedNodes {
     /// No line has come.
     pub(crate) fn new() -> CheckedNodes
         ensures lines { result.lines ≡ [] }
-        ensures along { GoesWith 1 result }
+        ensures verdict { result.verdict ≡ Nothing }
     {
         CheckedNodes {
             verdict: Verdict::Nothing,
             lines: PastLines::new(),
         }
     }
-
-    /// The line of the first event that isn't legal, if there is one.
-    pub(crate) fn illegal(&self) -> Option<u32>
-        ensures { Says (nodes_of 1 self.now.lines) self.now.verdict → TellsIllegal (nodes_of 1 self.now.lines) result }
-    {
-        match self.verdict {
-            Verdict::Illegal { line } => Some(line),
-            Verdict::Nothing | Verdict::Legal { .. } => None,
-        }
-    }
 }
 
 impl KeepsNodes for CheckedNodes {
-    ghost told = { λ nodes. nodes_of 1 nodes.lines };
+    ghost told = { λ nodes. nodes_told nodes.lines };
 
     ghost goes_along = { λ number nodes. GoesWith number nodes };
 
     fn add(&mut self, alloc: Global, number: u32, line: &Line) -> Result<(), ReadFault> {
-        match line {
-            Line::Node { shape, .. } => self.verdict.begin(alloc, number + 1, *shape)?,
-            Line::Happened(event) => self.verdict.admit(event),
-            Line::Head(_) | Line::End => {}
-        }
-        self.lines.push(line);
+        self.verdict.follow(alloc, number, line)?;
+        self.lines.push(number, line);
         Ok(())
     }
+
+    ghost later = { λ number nodes along. goes_later number nodes along };
 }

@@ -1,7 +1,7 @@
 //! The check of journals whose text comes in parts.
-ghost use Rattle.std.specs.Prelude.{◌≡◌, ◌++◌, All, None, Ok, [], IfOk, IfErr};
+ghost use Rattle.std.specs.Prelude.{◌≡◌, ◌++◌, Ok, [], IfOk, IfErr};
 ghost use Rattle.thp_journal_reader.specs.declared.journals.Journals.{Journals};
-ghost use Rattle.thp_journal_reader.specs.Answers.{CanBeLegal, TellsIllegal};
+ghost use Rattle.thp_journal_reader.specs.Answers.{TellsIllegal};
 ghost use Rattle.thp_journal_reader.specs.Journals.{journals_of};
 ghost use Rattle.thp_journal_reader.specs.Parts.{told_with};
 ghost use Rattle.thp_text.specs.Scripts.{TellsFault};
@@ -24,13 +24,12 @@ pub struct JournalCheck {
 }
 
 impl Model for JournalCheck {
-    ghost use Rattle.thp_journal_reader.specs.Checking.{GoesWith};
-    ghost use Rattle.thp_journal_reader.specs.Journals.{nodes_of};
+    ghost use Rattle.thp_journal_reader.specs.Checking.{nodes_told, GoesWith};
     ghost use Rattle.thp_journal_reader.specs.Parts.{so_far, ReadSoFar};
 
     ghost Value = { ReadSoFar };
 
-    ghost view = { λ c. so_far (nodes_of 1 c.text.nodes.lines) c.text.place c.text.text };
+    ghost view = { λ c. so_far (nodes_told c.text.nodes.lines) c.text.place c.text.text };
 
     ghost invariant = { λ c. GoesWith c.text.text.line c.text.nodes };
 }
@@ -59,12 +58,11 @@ impl JournalCheck {
     /// events are legal; or the first fault of the text, wherever it stands.
     pub fn finish(self) -> Result<Option<u32>, ReadFault>
         ensures line { IfOk result (λ line. (journals : Journals) × (told_with self [] ≡ Ok journals) × TellsIllegal journals.nodes line) }
-        ensures free_choice { IfOk result (λ line. (journals : Journals) → told_with self [] ≡ Ok journals → All CanBeLegal journals.nodes → line ≡ None) }
         ensures fault { IfErr result (TellsFault (told_with self [])) }
     {
         match self.text.fault() {
             Some((line, kind)) => Err(ReadFault::Text { line, kind }),
-            None => Ok(self.text.nodes.illegal()),
+            None => Ok(self.text.nodes.verdict.illegal()),
         }
     }
 }

@@ -25,4 +25,7 @@ pub(crate) trait KeepsNodes: Sized {
         ensures nodes { OnOk result (told self.new ≡ with_line number (told self.old) line.now) }
         ensures along { OnOk result (goes_along (number + 1) self.new) }
         ensures memory { IfErr result (λ fault. fault ≡ OutOfMemory) };
+
+    /// It goes along behind a line that says nothing, too.
+    ghost later: { (number : ℕ) (nodes : Self) → goes_along number nodes → goes_along (number + 1) nodes };
 }

@@ -10,6 +10,7 @@ mod journal_reader;
 mod journals;
 mod keeps_nodes;
 mod line;
+mod past_lines;
 mod place;
 mod reading;
 mod set_text;

@@ -1,6 +1,7 @@
 //! The nodes of a journal as its lines are read.
 ghost use Rattle.std.specs.Prelude.{◌≡◌, ◌≤◌, ◌<◌, ◌+◌, ◌++◌, ◌∷◌, [], IfOk, IfErr, OnOk, IfSome};
 ghost use Rattle.thp_model.specs.History.{by};
+ghost use Rattle.thp_journal_reader.specs.Later.{reads_later};
 ghost use Rattle.thp_journal_reader.specs.LineRanges.{IsInRange};
 ghost use Rattle.thp_journal_reader.specs.Reading.{began, journal_so_far, nodes_in, with_event, with_line, on_last, GoesAlong, IsReading};
 ghost use Rattle.thp_text.specs.declared.fault.ReadFault.TheVariants.{OutOfMemory};
@@ -136,6 +137,8 @@ impl KeepsNodes for Option<Nodes> {
         }
         Ok(())
     }
+
+    ghost later = { λ number nodes along. reads_later number nodes along };
 }
 
 /// The journals of the nodes that were read.

@@ -1,5 +1,5 @@
-use Rattle.std.proofs.Common.{◌≡◌, ◌∙◌, ◌++◌, ◌∷◌, ap, refl, rules, sym, Ok}
-use Rattle.thp_text.specs.TextInParts.{after_line, told_behind, with_begun, with_fault}
+use Rattle.std.proofs.Common.{◌≡◌, ◌∙◌, ◌++◌, ◌∷◌, ◌+◌, ℕ, ap, refl, rules, subst, sym, Ok}
+use Rattle.thp_text.specs.TextInParts.{after_line, told_behind, with_begun, with_fault, TextSoFar}
 use Rattle.thp_text.specs.Words.{Text, lines_of}
 use Rattle.thp_text.proofs.TextLaws.{fault_comes, line_begins}
 use Rattle.thp_journal_reader.specs.JournalLines.{line_in}
@@ -24,7 +24,7 @@ loop-text-preserved g c =
       tells = λ more. rw (after, added, c.place_after-place.ensures)
           (ap (told_behind l.text more) (sym (line_tells (told l.nodes) l.place l.text.line (l.text.begun ++ (l.rest.now ++ more)) bytes (c.next_line.new.rest.now ++ more) said (lines more) says)) ∙ l.invariant.tells more);
       counted = search rules;
-      along = rw (after, number) c.in_ok-add-in-Ok.ensures.along;
+      along = let P : ℕ → Type 0 = λ k. g.N.KeepsNodes.goes_along (k + 1) c.add.new.self in rw after (subst P number c.in_ok-add-in-Ok.ensures.along);
     }
 
 pub returns-clause-text : goal.returns-clause-text
@@ -46,5 +46,21 @@ returns-clause-text g c = λ more.
       | in_default w ↦ (
           let begun : c.next_line.new.self ≡ with_begun l.text l.rest.now = search rules in
           line_begins l.text new l.rest.now more reads (w.text-is ∙ begun) ∙ l.invariant.tells more
+          )
+    ]
+
+pub returns-clause-along : goal.returns-clause-along
+returns-clause-along g c =
+    let l = c.loop-text in
+    let P : TextSoFar → Type 0 = λ t. g.N.KeepsNodes.goes_along t.line l.nodes in
+    elim c.match-branch-2.branch [
+      | in-Some+in-Err w ↦ (
+          let after : c.next_line.new.self ≡ after_line l.text = search rules in
+          let is : c.match-branch-2.text ≡ with_fault (after_line l.text) (w.in-Some.field-0.number, w.in-Err.kind) = rw (w.text-is, w.note_fault.ensures, after) refl in
+          subst P (sym is) (g.met.N.KeepsNodes.later l.text.line l.nodes l.invariant.along)
+          )
+      | in_default w ↦ (
+          let begun : c.next_line.new.self ≡ with_begun l.text l.rest.now = search rules in
+          subst P (sym (w.text-is ∙ begun)) l.invariant.along
           )
     ]
