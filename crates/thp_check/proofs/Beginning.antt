@@ -13,7 +13,7 @@ use Rattle.thp_page.specs.Slots.{slot_at}
 use Rattle.thp_live_pages.specs.Homes.{block_of}
 use Rattle.thp_live_pages.proofs.Starting.{few_events}
 use Rattle.thp_live_pages.proofs.Starting.{node_none}
-use Rattle.thp_check.specs.declared.replay.Replay.{Replay}
+use Rattle.thp_check.specs.declared.node_state.NodeState.{NodeState}
 use Rattle.thp_check.specs.Flights.{FlightsState, blocks_in}
 use Rattle.thp_check.specs.Meanings.{Keeps, Means, is_taker}
 
@@ -30,7 +30,7 @@ unfolding is_taking
 not_taking c = refl
 
 -- an empty replay means the empty history
-pub means_none : (s : Shape) (r : Replay) → s.order ≤ max_order → length r.places.table.slots ≡ s.blocks → r.places.table.order ≡ s.order → ((b : ℕ) → slot_at r.places.table b ≡ None) → r.places.queue ≡ [] →
+pub means_none : (s : Shape) (r : NodeState) → s.order ≤ max_order → length r.places.table.slots ≡ s.blocks → r.places.table.order ≡ s.order → ((b : ℕ) → slot_at r.places.table b ≡ None) → r.places.queue ≡ [] →
     ((c : ℕ) → blocks_in r.flights c ≡ []) → length r.flights.callers ≡ s.blocks → r.shape ≡ s → r.next ≡ 0 → r.closed ≡ false → r.taker ≡ None → Means s [] r
 means_none s r low size order empty none fs room shape next closed taker = record {
   kept = record {
@@ -46,7 +46,7 @@ means_none s r low size order empty none fs room shape next closed taker = recor
 }
 
 -- a replay that notes whether the event was a take
-pub means_after : (s : Shape) (h : History) (e : Event) (r t : Replay) → Keeps s (h ++ e ∷ []) r → t.shape ≡ r.shape → t.places ≡ r.places → t.flights ≡ r.flights → t.next ≡ r.next → t.closed ≡ r.closed →
+pub means_after : (s : Shape) (h : History) (e : Event) (r t : NodeState) → Keeps s (h ++ e ∷ []) r → t.shape ≡ r.shape → t.places ≡ r.places → t.flights ≡ r.flights → t.next ≡ r.next → t.closed ≡ r.closed →
     ((c : ℕ) → takes_by c e.caller e.what ≡ is_taker t.taker c) → Means s (h ++ e ∷ []) t
 means_after s h e r t k shape pages fs next closed taker = record {
   kept = record {
@@ -62,5 +62,5 @@ means_after s h e r t k shape pages fs next closed taker = record {
 }
 
 -- a replay of the first k events has allocated k pages at most
-pub few_pages : (s : Shape) (es : History) (k : ℕ) (r : Replay) → Means s (take k es) r → r.next ≤ k
+pub few_pages : (s : Shape) (es : History) (k : ℕ) (r : NodeState) → Means s (take k es) r → r.next ≤ k
 few_pages s es k r m = omega (arith, m.kept.next_is, few_events is_alloc (take k es), length-take k es)

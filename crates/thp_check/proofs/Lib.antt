@@ -5,3 +5,4 @@ pub mod Steps
 pub mod TakeSteps
 pub mod Beginning
 pub mod Deciding
+pub mod FreeMarks

@@ -36,7 +36,7 @@ use Rattle.thp_model.specs.declared.page_call.Gain.TheVariants as gain
 use Rattle.thp_model.specs.declared.page_call.Loss.{Loss}
 use Rattle.thp_model.specs.declared.page_call.Loss.TheVariants as loss
 use Rattle.thp_model.specs.declared.page_call.PageCall.TheVariants as either
-use Rattle.thp_check.specs.declared.replay.Replay.{Replay}
+use Rattle.thp_check.specs.declared.node_state.NodeState.{NodeState}
 use Rattle.thp_check.specs.Flights.{FlightsState, blocks_in, flight_left}
 use Rattle.thp_check.specs.Meanings.{Keeps, Means}
 use Rattle.thp_model.specs.PageCalls.{gain_call, loss_call, gain_what, loss_what, Gains}
@@ -50,7 +50,7 @@ some_none : (r : Refusal) (o : Option Refusal) → o ≡ Some r → o ≡ None �
 some_none r o e f = cc
 
 -- the numbers of a replay are the same after an event that neither allocates a page nor closes the node
-pub goes_on : (s : Shape) (h : History) (e : Event) (old new : Replay) → Means s h old → IsNode s (h ++ e ∷ []) new.places.table new.places.queue →
+pub goes_on : (s : Shape) (h : History) (e : Event) (old new : NodeState) → Means s h old → IsNode s (h ++ e ∷ []) new.places.table new.places.queue →
     ((d : ℕ) → LieIn (h ++ e ∷ []) (flight (h ++ e ∷ []) d) (blocks_in new.flights d)) → length new.flights.callers ≡ length old.flights.callers → is_alloc e.what ≡ false → closes e.what ≡ false →
     new.shape ≡ old.shape → new.next ≡ old.next → new.closed ≡ old.closed → Keeps s (h ++ e ∷ []) new
 goes_on s h e old new m node fs size a k shape next closed = record {
@@ -64,7 +64,7 @@ goes_on s h e old new m node fs size a k shape next closed = record {
 }
 
 -- flights that stay are those of the history
-kept_blocks : (s : Shape) (h : History) (old new : Replay) → Means s h old → new.flights ≡ old.flights → (d : ℕ) → LieIn h (flight h d) (blocks_in new.flights d)
+kept_blocks : (s : Shape) (h : History) (old new : NodeState) → Means s h old → new.flights ≡ old.flights → (d : ℕ) → LieIn h (flight h d) (blocks_in new.flights d)
 kept_blocks s h old new m fs d = m.kept.flying d ∙ ap (λ f. map (λ n. Some n) (blocks_in f d)) (sym fs)
 
 plain_gain : (g : Gain) (p : ℕ) → (is_alloc (gain_what g p) ≡ false) × (closes (gain_what g p) ≡ false)
@@ -81,17 +81,17 @@ plain_loss (loss.UnmapSub f n) p o r = (refl, refl)
 plain_loss loss.Unpin p o r = (refl, refl)
 
 -- an event about a page that lies nowhere
-pub gain_absent : (s : Shape) (h : History) (c p : ℕ) (g : Gain) (old : Replay) → Means s h old → ((b : ℕ) → HoldsPage (slot_at old.places.table b) p → ⊥) →
+pub gain_absent : (s : Shape) (h : History) (c p : ℕ) (g : Gain) (old : NodeState) → Means s h old → ((b : ℕ) → HoldsPage (slot_at old.places.table b) p → ⊥) →
     Fits s h (by c (gain_what g p)) → ⊥
 gain_absent s h c p g old m none f =
     some_none _ _ (refusal_gone s h p (either.Gain g) (not_live s h old.places.table old.places.queue p m.kept.node none)) (gain_allowed s h c p g f)
 
-pub loss_absent : (s : Shape) (h : History) (c p : ℕ) (l : Loss) (o : Outcome) (r : List Bool) (old : Replay) → Means s h old → ((b : ℕ) → HoldsPage (slot_at old.places.table b) p → ⊥) →
+pub loss_absent : (s : Shape) (h : History) (c p : ℕ) (l : Loss) (o : Outcome) (r : List Bool) (old : NodeState) → Means s h old → ((b : ℕ) → HoldsPage (slot_at old.places.table b) p → ⊥) →
     Fits s h (by c (loss_what l p o r)) → ⊥
 loss_absent s h c p l o r old m none f =
     some_none _ _ (refusal_gone s h p (either.Loss l) (not_live s h old.places.table old.places.queue p m.kept.node none)) (loss_allowed s h c p l o r f)
 
-module _ (s : Shape) (h : History) (c p b : ℕ) (old : Replay) (m : Means s h old) (held : HoldsPage (slot_at old.places.table b) p) where
+module _ (s : Shape) (h : History) (c p b : ℕ) (old : NodeState) (m : Means s h old) (held : HoldsPage (slot_at old.places.table b) p) where
   there : Found s h old.places.table p b
   there = found s h old.places.table old.places.queue p b m.kept.node held
 
@@ -116,7 +116,7 @@ module _ (s : Shape) (h : History) (c p b : ℕ) (old : Replay) (m : Means s h o
   loss_refused l o set r told f = some_none r _ (loss_refusal l ∙ sym (told there.slot there.at p)) (loss_allowed s h c p l o set f)
 
   -- a page that gained
-  pub gain_goes : (g : Gain) (new : Replay) → AtSlot old.places.table b (λ x. (q : ℕ) → None ≡ page_refusal x.page (gain_call g q)) →
+  pub gain_goes : (g : Gain) (new : NodeState) → AtSlot old.places.table b (λ x. (q : ℕ) → None ≡ page_refusal x.page (gain_call g q)) →
       AtSlot old.places.table b (λ x. (t : PageState) × Gains g x.page t × Edits old.places new.places b (Some (record x { page = t })) old.places.queue 0) →
       new.shape ≡ old.shape → new.flights ≡ old.flights → new.next ≡ old.next → new.closed ≡ old.closed → Fits s h (by c (gain_what g p)) × Keeps s (h ++ by c (gain_what g p) ∷ []) new
   gain_goes g new told did shape fs next closed =
@@ -132,7 +132,7 @@ module _ (s : Shape) (h : History) (c p b : ℕ) (old : Replay) (m : Means s h o
       )
 
   -- a page that lost, where the event tells what came of it
-  pub loss_goes : (l : Loss) (o : Outcome) (set : List Bool) (new : Replay) (done : Done) (left : Option ℕ) → ((x : Slot) → slot_at old.places.table b ≡ Some x → (q : ℕ) → None ≡ page_refusal x.page (loss_call l q)) →
+  pub loss_goes : (l : Loss) (o : Outcome) (set : List Bool) (new : NodeState) (done : Done) (left : Option ℕ) → ((x : Slot) → slot_at old.places.table b ≡ Some x → (q : ℕ) → None ≡ page_refusal x.page (loss_call l q)) →
       AtSlot old.places.table b (λ x. Lost l old.closed x old.places new.places b done left) → ((d : ℕ) → blocks_in new.flights d ≡ flight_left left b d (blocks_in old.flights d)) → length new.flights.callers ≡ length old.flights.callers → new.shape ≡ old.shape → new.next ≡ old.next → new.closed ≡ old.closed →
       done.outcome ≡ o → done.released ≡ set → Fits s h (by c (loss_what l p o set)) × Keeps s (h ++ by c (loss_what l p o set) ∷ []) new
   loss_goes l o set new done left refuses did fs size shape next closed same given =
@@ -165,10 +165,10 @@ new_dead s h p legal number =
     let none = (legal_homed s h legal).grown.numbered.fresh p (omega (arith, number)) in ap (λ b. b && not (some_event (frees p) h)) none.never
 
 -- a new page
-pub alloc_new : (s : Shape) (h : History) (p : ℕ) (old : Replay) → Means s h old → p ≡ old.next → (b : ℕ) → HoldsPage (slot_at old.places.table b) p → ⊥
+pub alloc_new : (s : Shape) (h : History) (p : ℕ) (old : NodeState) → Means s h old → p ≡ old.next → (b : ℕ) → HoldsPage (slot_at old.places.table b) p → ⊥
 alloc_new s h p old m e = next_is_new s h old.places.table old.places.queue p m.kept.node (e ∙ m.kept.next_is)
 
-pub alloc_goes : (s : Shape) (h : History) (c p b : ℕ) (queued : Bool) (old new : Replay) → Means s h old → old.closed ≡ false → p ≡ old.next → b < length old.places.table.slots →
+pub alloc_goes : (s : Shape) (h : History) (c p b : ℕ) (queued : Bool) (old new : NodeState) → Means s h old → old.closed ≡ false → p ≡ old.next → b < length old.places.table.slots →
     slot_at old.places.table b ≡ None → queued ≡ shrinks_underused old.shape → Placed p queued old.places new.places b → new.shape ≡ old.shape → new.flights ≡ old.flights → new.next ≡ old.next + 1 →
     new.closed ≡ old.closed → Fits s h (by c (what.Alloc p b)) × Keeps s (h ++ by c (what.Alloc p b) ∷ []) new
 alloc_goes s h c p b queued old new m unclosed number inside empty switch did shape fs next closed =
@@ -195,13 +195,13 @@ alloc_goes s h c p b queued old new m unclosed number inside empty switch did sh
           (λ n. absurd (no_both (is_live h r) (ap (is_live h) (eqb-true r p n) ∙ new_dead s h p m.kept.node.legal (number ∙ m.kept.next_is)) (flies_live s h d r m.kept.node.legal y).0))
           (λ n. n)
 
-pub alloc_closed : (s : Shape) (h : History) (p b : ℕ) (old : Replay) → Means s h old → old.closed ≡ true → FitsAlloc s h p b → ⊥
+pub alloc_closed : (s : Shape) (h : History) (p b : ℕ) (old : NodeState) → Means s h old → old.closed ≡ true → FitsAlloc s h p b → ⊥
 alloc_closed s h p b old m shut f = no_both (is_closed h) (closed_alloc s h f.allowed).0 (sym m.kept.closed_is ∙ shut)
 
-pub alloc_other : (s : Shape) (h : History) (p b : ℕ) (old : Replay) → Means s h old → p ≢ old.next → FitsAlloc s h p b → ⊥
+pub alloc_other : (s : Shape) (h : History) (p b : ℕ) (old : NodeState) → Means s h old → p ≢ old.next → FitsAlloc s h p b → ⊥
 alloc_other s h p b old m other f = other (f.number ∙ sym m.kept.next_is)
 
-pub alloc_taken : (s : Shape) (h : History) (p b : ℕ) (old : Replay) → Means s h old → (b < length old.places.table.slots → IsSome (slot_at old.places.table b)) → FitsAlloc s h p b → ⊥
+pub alloc_taken : (s : Shape) (h : History) (p b : ℕ) (old : NodeState) → Means s h old → (b < length old.places.table.slots → IsSome (slot_at old.places.table b)) → FitsAlloc s h p b → ⊥
 alloc_taken s h p b old m taken f = go (slot_at old.places.table b) refl (taken (omega (arith, f.inside, m.kept.node.size))) where
   go : (o : Option Slot) → slot_at old.places.table b ≡ o → IsSome o → ⊥
   go None e y = absurd (cc)
@@ -209,7 +209,7 @@ alloc_taken s h p b old m taken f = go (slot_at old.places.table b) refl (taken 
       no_both (block_in_use h b) f.free (block_taken s h x.id b (legal_homed s h m.kept.node.legal) (slot_is s h old.places.table old.places.queue b x m.kept.node e).home)
 
 -- a close
-pub close_goes : (s : Shape) (h : History) (c : ℕ) (old new : Replay) → Means s h old → old.closed ≡ false → new.shape ≡ old.shape → new.places ≡ old.places → new.flights ≡ old.flights → new.next ≡ old.next →
+pub close_goes : (s : Shape) (h : History) (c : ℕ) (old new : NodeState) → Means s h old → old.closed ≡ false → new.shape ≡ old.shape → new.places ≡ old.places → new.flights ≡ old.flights → new.next ≡ old.next →
     new.closed ≡ true → Fits s h (by c what.Close) × Keeps s (h ++ by c what.Close ∷ []) new
 close_goes s h c old new m unclosed shape pages fs next closed =
     let e : Event = by c what.Close in
@@ -230,5 +230,5 @@ close_goes s h c old new m unclosed shape pages fs next closed =
       last true = refl
       last false = refl
 
-pub close_closed : (s : Shape) (h : History) (old : Replay) → Means s h old → old.closed ≡ true → refusal s h call.close ≡ None → ⊥
+pub close_closed : (s : Shape) (h : History) (old : NodeState) → Means s h old → old.closed ≡ true → refusal s h call.close ≡ None → ⊥
 close_closed s h old m shut f = no_both (is_closed h) (closed_close s h f) (sym m.kept.closed_is ∙ shut)

@@ -36,7 +36,7 @@ use Rattle.thp_live_pages.proofs.PageEvents.{slot_is}
 use Rattle.thp_live_pages.proofs.Standings.{standing_queued, standing_flying}
 use Rattle.thp_model.specs.declared.page_call.Done.{Done}
 use Rattle.thp_model.specs.declared.page_call.Loss.{Loss}
-use Rattle.thp_check.specs.declared.replay.Replay.{Replay}
+use Rattle.thp_check.specs.declared.node_state.NodeState.{NodeState}
 use Rattle.thp_check.specs.Flights.{blocks_in, flight_left}
 use Rattle.thp_check.specs.Meanings.{Keeps, Means, is_taker}
 use Rattle.thp_check.proofs.FlightBlocks.{LiesAlone, LieIn, block_there, page_there, first_block, first_page, none_there, unmoved, departed}
@@ -51,14 +51,14 @@ neither false true e = (refl, refl)
 neither false false e = absurd (cc)
 
 -- whether a caller may take
-may_is : (s : Shape) (h : History) (c : ℕ) (old : Replay) → Means s h old → (no_pages (blocks_in old.flights c) || is_taker old.taker c) ≡ (no_pages (flight h c) || is_taking h c)
+may_is : (s : Shape) (h : History) (c : ℕ) (old : NodeState) → Means s h old → (no_pages (blocks_in old.flights c) || is_taker old.taker c) ≡ (no_pages (flight h c) || is_taking h c)
 may_is s h c old m = ap₂ (λ n t. n || t) (none_there h (flight h c) (blocks_in old.flights c) (m.kept.flying c)) (sym (m.taking c))
 
 -- a page that lies somewhere lies there alone
 alone : (s : Shape) (h : History) (p b : ℕ) → IsLegal s h → block_of h p ≡ Some b → LiesAlone h p b
 alone s h p b legal home = (home, λ r y. (legal_homed s h legal).once r p b y home)
 
-pub take_goes : (s : Shape) (h : History) (c p b : ℕ) (old new : Replay) → Means s h old → HoldsPage (slot_at old.places.table b) p → (no_pages (blocks_in old.flights c) || is_taker old.taker c) ≡ true →
+pub take_goes : (s : Shape) (h : History) (c p b : ℕ) (old new : NodeState) → Means s h old → HoldsPage (slot_at old.places.table b) p → (no_pages (blocks_in old.flights c) || is_taker old.taker c) ≡ true →
     TakesFirst old.places new.places c p → ((d : ℕ) → blocks_in new.flights d ≡ cond (nat_eq c d) (blocks_in old.flights d ++ b ∷ []) (blocks_in old.flights d)) →
     length new.flights.callers ≡ length old.flights.callers → new.shape ≡ old.shape → new.next ≡ old.next → new.closed ≡ old.closed → FitsTaken s h c p × Keeps s (h ++ by c (what.Taken p) ∷ []) new
 take_goes s h c p b old new m held may took fs size shape next closed =
@@ -76,7 +76,7 @@ take_goes s h c p b old new m held may took fs size shape next closed =
       longer d false home = m.kept.flying d
 
 -- a block in which the oldest page lies is in no flight
-pub oldest_apart : (s : Shape) (h : History) (c p b : ℕ) (old : Replay) (new : PlacesState) → Means s h old → HoldsPage (slot_at old.places.table b) p → TakesFirst old.places new c p →
+pub oldest_apart : (s : Shape) (h : History) (c p b : ℕ) (old : NodeState) (new : PlacesState) → Means s h old → HoldsPage (slot_at old.places.table b) p → TakesFirst old.places new c p →
     (d : ℕ) → Contains (blocks_in old.flights d) b → ⊥
 oldest_apart s h c p b old new m held took d i =
     let homed : Homed s h = legal_homed s h m.kept.node.legal in
@@ -88,12 +88,12 @@ oldest_apart s h c p b old new m held took d i =
     cc
 
 -- the oldest page lies somewhere
-pub take_absent : (s : Shape) (h : History) (c p : ℕ) (old : Replay) → Means s h old → ((b : ℕ) → HoldsPage (slot_at old.places.table b) p → ⊥) → FitsTaken s h c p → ⊥
+pub take_absent : (s : Shape) (h : History) (c p : ℕ) (old : NodeState) → Means s h old → ((b : ℕ) → HoldsPage (slot_at old.places.table b) p → ⊥) → FitsTaken s h c p → ⊥
 take_absent s h c p old m none f =
     no_both (is_live h p) (not_live s h old.places.table old.places.queue p m.kept.node none)
     ((legal_homed s h m.kept.node.legal).grown.sound.live p (omega (arith, has_times p (queue s h) (first_has p (queue s h) f.oldest))))
 
-pub take_busy : (s : Shape) (h : History) (c p : ℕ) (old : Replay) → Means s h old → (no_pages (blocks_in old.flights c) || is_taker old.taker c) ≡ false → FitsTaken s h c p → ⊥
+pub take_busy : (s : Shape) (h : History) (c p : ℕ) (old : NodeState) → Means s h old → (no_pages (blocks_in old.flights c) || is_taker old.taker c) ≡ false → FitsTaken s h c p → ⊥
 take_busy s h c p old m may f = no_both _ (sym (may_is s h c old m) ∙ may) f.may_take
 
 pub same_slot : (x y : Slot) → Some x ≡ Some y → x ≡ y
@@ -102,11 +102,11 @@ same_slot x y e = cc
 pub same_some : (a b : ℕ) → Some a ≡ Some b → a ≡ b
 same_some a b e = cc
 
-pub take_other : (s : Shape) (h : History) (c p first : ℕ) (old : Replay) (new : PlacesState) → Means s h old → TakesFirst old.places new c first → first ≢ p → FitsTaken s h c p → ⊥
+pub take_other : (s : Shape) (h : History) (c p first : ℕ) (old : NodeState) (new : PlacesState) → Means s h old → TakesFirst old.places new c first → first ≢ p → FitsTaken s h c p → ⊥
 take_other s h c p first old new m took other f =
     other (same_some first p (sym (first_is s h c old.places new first (legal_homed s h m.kept.node.legal) m.kept.node took) ∙ f.oldest))
 
-pub take_none : (s : Shape) (h : History) (c p : ℕ) (old : Replay) → Means s h old → length old.places.queue ≡ 0 → FitsTaken s h c p → ⊥
+pub take_none : (s : Shape) (h : History) (c p : ℕ) (old : NodeState) → Means s h old → length old.places.queue ≡ 0 → FitsTaken s h c p → ⊥
 take_none s h c p old m none f = go (queue s h) old.places.queue m.kept.node.queue_is none f.oldest where
   go : (ps bs : List ℕ) → map (block_of h) ps ≡ map (λ b. Some b) bs → length bs ≡ 0 → slice_get ps 0 ≡ Some p → ⊥
   go [] bs e n g = cc
@@ -114,7 +114,7 @@ take_none s h c p old m none f = go (queue s h) old.places.queue m.kept.node.que
   go (x ∷ ps) (b ∷ bs) e n g = omega (arith, n)
 
 -- a page that isn't in the caller's batch isn't in its flight
-pub elsewhere : (s : Shape) (h : History) (c p : ℕ) (old : Replay) → Means s h old → IsElsewhere old.places.table c p → has_page p (flight h c) ≡ false
+pub elsewhere : (s : Shape) (h : History) (c p : ℕ) (old : NodeState) → Means s h old → IsElsewhere old.places.table c p → has_page p (flight h c) ≡ false
 elsewhere s h c p old m e =
     let t = old.places.table in
     let q = old.places.queue in
@@ -126,20 +126,20 @@ elsewhere s h c p old m e =
           flies_not_there s h t q c p w.0 m.kept.node there (λ y. w.4 (ap (λ (x : Slot). x.standing) (same_slot w.1 there.slot (sym w.2 ∙ there.at)) ∙ y))
     ]
 
-pub split_absent : (s : Shape) (h k : History) (c p : ℕ) (set : List Bool) (old : Replay) → Means s h old → IsElsewhere old.places.table c p → FitsSplit s h k c p set → ⊥
+pub split_absent : (s : Shape) (h k : History) (c p : ℕ) (set : List Bool) (old : NodeState) → Means s h old → IsElsewhere old.places.table c p → FitsSplit s h k c p set → ⊥
 split_absent s h k c p set old m e f = no_both _ (elsewhere s h c p old m e) f.in_flight
 
-pub pinned_absent : (s : Shape) (h : History) (c p : ℕ) (old : Replay) → Means s h old → IsElsewhere old.places.table c p → has_page p (flight h c) ≡ true × (0 < pins h p) × (is_worth_split s h p ≡ true) → ⊥
+pub pinned_absent : (s : Shape) (h : History) (c p : ℕ) (old : NodeState) → Means s h old → IsElsewhere old.places.table c p → has_page p (flight h c) ≡ true × (0 < pins h p) × (is_worth_split s h p ≡ true) → ⊥
 pinned_absent s h c p old m e f = no_both _ (elsewhere s h c p old m e) f.0
 
-pub used_absent : (s : Shape) (h : History) (c p : ℕ) (old : Replay) → Means s h old → IsElsewhere old.places.table c p → has_page p (flight h c) ≡ true × (is_worth_split s h p ≡ false) → ⊥
+pub used_absent : (s : Shape) (h : History) (c p : ℕ) (old : NodeState) → Means s h old → IsElsewhere old.places.table c p → has_page p (flight h c) ≡ true × (is_worth_split s h p ≡ false) → ⊥
 used_absent s h c p old m e f = no_both _ (elsewhere s h c p old m e) f.0
 
 -- the first page of a flight is in the caller's batch
-pub first_absent : (s : Shape) (h : History) (c p : ℕ) (old : Replay) → Means s h old → IsElsewhere old.places.table c p → slice_get (flight h c) 0 ≡ Some p → ⊥
+pub first_absent : (s : Shape) (h : History) (c p : ℕ) (old : NodeState) → Means s h old → IsElsewhere old.places.table c p → slice_get (flight h c) 0 ≡ Some p → ⊥
 first_absent s h c p old m e f = no_both _ (elsewhere s h c p old m e) (first_has p (flight h c) f)
 
-module _ (s : Shape) (h : History) (c p b : ℕ) (old : Replay) (m : Means s h old) (at : IsFlyingAt old.places.table c p b) where
+module _ (s : Shape) (h : History) (c p b : ℕ) (old : NodeState) (m : Means s h old) (at : IsFlyingAt old.places.table c p b) where
   homed : Homed s h
   homed = legal_homed s h m.kept.node.legal
 
@@ -168,7 +168,7 @@ module _ (s : Shape) (h : History) (c p b : ℕ) (old : Replay) (m : Means s h o
   flies_whole y e = ap (λ (z : Slot). z.page.split) (same_slot y at.slot (sym e ∙ at.at)) ∙ flying_whole s h c b at.slot old.places old.places homed m.kept.node at.at at.stands
 
   -- the flights once the page has left its batch
-  left : (w : What) (new : Replay) → ((d : ℕ) → blocks_in new.flights d ≡ flight_left (Some c) b d (blocks_in old.flights d)) →
+  left : (w : What) (new : NodeState) → ((d : ℕ) → blocks_in new.flights d ≡ flight_left (Some c) b d (blocks_in old.flights d)) →
       ((d : ℕ) → flight (h ++ by c w ∷ []) d ≡ flight_left (Some c) at.slot.id d (flight h d)) → ((r : ℕ) → block_of (h ++ by c w ∷ []) r ≡ block_of h r) →
       (d : ℕ) → LieIn (h ++ by c w ∷ []) (flight (h ++ by c w ∷ []) d) (blocks_in new.flights d)
   left w new fs is homes d =
@@ -191,7 +191,7 @@ module _ (s : Shape) (h : History) (c p b : ℕ) (old : Replay) (m : Means s h o
   splits : (page : PageState) → PageSplit (shrinks_underused old.shape) at.slot.page page → PageSplit (shrinks_underused s) at.slot.page page
   splits page how = let P : Shape → Type 0 = λ z. PageSplit (shrinks_underused z) at.slot.page page in subst P m.kept.shape_is how
 
-  pub split_goes : (set : List Bool) (new : Replay) (page : PageState) → PageSplit (shrinks_underused old.shape) at.slot.page page → is_worth old.shape.underused at.slot.page ≡ true → at.slot.page.pins ≡ 0 → set ≡ gives_frames at.slot.page page →
+  pub split_goes : (set : List Bool) (new : NodeState) (page : PageState) → PageSplit (shrinks_underused old.shape) at.slot.page page → is_worth old.shape.underused at.slot.page ≡ true → at.slot.page.pins ≡ 0 → set ≡ gives_frames at.slot.page page →
       Edits old.places new.places b (Some (record at.slot { page = page; standing = Nowhere })) old.places.queue 0 → ((d : ℕ) → blocks_in new.flights d ≡ flight_left (Some c) b d (blocks_in old.flights d)) → length new.flights.callers ≡ length old.flights.callers →
       new.shape ≡ old.shape → new.next ≡ old.next → new.closed ≡ old.closed → Fits s h (by c (what.Split p set)) × Keeps s (h ++ by c (what.Split p set) ∷ []) new
   split_goes set new page how worth none is did fs size shape next closed =
@@ -232,7 +232,7 @@ module _ (s : Shape) (h : History) (c p b : ℕ) (old : Replay) (m : Means s h o
   pub pinned_idle : is_worth old.shape.underused at.slot.page ≡ false → has_page p (flight h c) ≡ true × (0 < pins h p) × (is_worth_split s h p ≡ true) → ⊥
   pinned_idle idle f = no_both _ (worthless idle) f.2
 
-  pub used_goes : (new : Replay) → is_worth old.shape.underused at.slot.page ≡ false → Edits old.places new.places b (Some (record at.slot { standing = Nowhere })) old.places.queue 0 →
+  pub used_goes : (new : NodeState) → is_worth old.shape.underused at.slot.page ≡ false → Edits old.places new.places b (Some (record at.slot { standing = Nowhere })) old.places.queue 0 →
       ((d : ℕ) → blocks_in new.flights d ≡ flight_left (Some c) b d (blocks_in old.flights d)) → length new.flights.callers ≡ length old.flights.callers → new.shape ≡ old.shape → new.next ≡ old.next → new.closed ≡ old.closed →
       Fits s h (by c (what.Used p)) × Keeps s (h ++ by c (what.Used p) ∷ []) new
   used_goes new idle did fs size shape next closed =
@@ -249,7 +249,7 @@ module _ (s : Shape) (h : History) (c p b : ℕ) (old : Replay) (m : Means s h o
   dropped_as : (old.closed || not at.slot.page.partly) ≡ is_dropped s h at.slot.id
   dropped_as = ap₂ (λ a z. a || not z) m.kept.closed_is slot.tallies.partly
 
-  pub back_goes : (new : Replay) → (old.closed || not at.slot.page.partly) ≡ false → slice_get (blocks_in old.flights c) 0 ≡ Some b →
+  pub back_goes : (new : NodeState) → (old.closed || not at.slot.page.partly) ≡ false → slice_get (blocks_in old.flights c) 0 ≡ Some b →
       Edits old.places new.places b (Some (record at.slot { standing = Queued })) (old.places.queue ++ b ∷ []) 4 → ((d : ℕ) → blocks_in new.flights d ≡ flight_left (Some c) b d (blocks_in old.flights d)) → length new.flights.callers ≡ length old.flights.callers → new.shape ≡ old.shape → new.next ≡ old.next → new.closed ≡ old.closed →
       Fits s h (by c (what.Back p)) × Keeps s (h ++ by c (what.Back p) ∷ []) new
   back_goes new stays first did fs size shape next closed =
@@ -264,7 +264,7 @@ module _ (s : Shape) (h : History) (c p b : ℕ) (old : Replay) (m : Means s h o
   back_dropped out f =
       no_both (is_dropped s h p) (ap₂ (λ a z. a || not z) f.1 f.2) (ap (is_dropped s h) (sym at.id_is) ∙ sym dropped_as ∙ out)
 
-  pub dropped_goes : (new : Replay) → (old.closed || not at.slot.page.partly) ≡ true → slice_get (blocks_in old.flights c) 0 ≡ Some b →
+  pub dropped_goes : (new : NodeState) → (old.closed || not at.slot.page.partly) ≡ true → slice_get (blocks_in old.flights c) 0 ≡ Some b →
       Edits old.places new.places b (Some (record at.slot { standing = Nowhere })) old.places.queue 0 → ((d : ℕ) → blocks_in new.flights d ≡ flight_left (Some c) b d (blocks_in old.flights d)) → length new.flights.callers ≡ length old.flights.callers → new.shape ≡ old.shape → new.next ≡ old.next → new.closed ≡ old.closed →
       Fits s h (by c (what.Dropped p)) × Keeps s (h ++ by c (what.Dropped p) ∷ []) new
   dropped_goes new out first did fs size shape next closed =
@@ -286,7 +286,7 @@ leaver_is outcome.Queued w d e = absurd (cc)
 leaver_is outcome.Stays w d e = absurd (cc)
 
 -- the block of a page that leaves a batch by a loss is one of the flight's
-pub lost_there : (s : Shape) (h : History) (p b : ℕ) (old : Replay) → Means s h old → HoldsPage (slot_at old.places.table b) p → (l : Loss) (new : PlacesState) (done : Done) (left : Option ℕ) →
+pub lost_there : (s : Shape) (h : History) (p b : ℕ) (old : NodeState) → Means s h old → HoldsPage (slot_at old.places.table b) p → (l : Loss) (new : PlacesState) (done : Done) (left : Option ℕ) →
     AtSlot old.places.table b (λ x. Lost l old.closed x old.places new b done left) → (d : ℕ) → left ≡ Some d → Contains (blocks_in old.flights d) b
 lost_there s h p b old m held l new done left lost d e =
     let there : Found s h old.places.table p b = found s h old.places.table old.places.queue p b m.kept.node held in

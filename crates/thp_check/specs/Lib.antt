@@ -1,2 +1,4 @@
 pub mod Flights
 pub mod Meanings
+pub mod Replays
+pub mod Freeing

@@ -11,11 +11,11 @@ use Rattle.thp_model.specs.Legal.{Fits}
 use Rattle.thp_live_pages.specs.Holding.{IsNode}
 use Rattle.thp_live_pages.specs.Homes.{block_of}
 use Rattle.thp_check.specs.Flights.{blocks_in}
-use Rattle.thp_check.specs.declared.replay.Replay.{Replay}
+use Rattle.thp_check.specs.declared.node_state.NodeState.{NodeState}
 
 -- the pages, the queue, the flights and the numbers of a replay are those of the history, which is legal; a flight's blocks
 -- are those of its pages in order
-pub record Keeps (s : Shape) (h : History) (r : Replay) : Type 0 where
+pub record Keeps (s : Shape) (h : History) (r : NodeState) : Type 0 where
   pub shape_is : r.shape ≡ s
   pub low : s.order ≤ max_order
   pub node : IsNode s h r.places.table r.places.queue
@@ -30,25 +30,25 @@ is_taker None c = false
 is_taker (Some d) c = nat_eq d c
 
 -- and the replay knows whether the last event was a take, and by whom
-pub record Means (s : Shape) (h : History) (r : Replay) : Type 0 where
+pub record Means (s : Shape) (h : History) (r : NodeState) : Type 0 where
   pub kept : Keeps s h r
   pub taking : (c : ℕ) → is_taking h c ≡ is_taker r.taker c
 
 -- whether what c does fits each history that the replay may mean; where it does, the replay goes on with it
-abbrev pub Follows : Replay → Replay → ℕ → What → Bool → Type 0
+abbrev pub Follows : NodeState → NodeState → ℕ → What → Bool → Type 0
 Follows old new c w fits =
     (s : Shape) (h : History) → Means s h old → MatchBool fits (Fits s h (by c w) × Keeps s (h ++ by c w ∷ []) new) (Fits s h (by c w) → ⊥)
 
 -- the same of a whole event
-abbrev pub Admits : Replay → Replay → Event → Bool → Type 0
+abbrev pub Admits : NodeState → NodeState → Event → Bool → Type 0
 Admits old new e fits = (s : Shape) (h : History) → Means s h old → MatchBool fits (Fits s h e × Means s (h ++ e ∷ []) new) (Fits s h e → ⊥)
 
 -- the replay means some history
-pub record IsKnown (r : Replay) : Type 0 where
+pub record IsKnown (r : NodeState) : Type 0 where
   pub shape : Shape
   pub history : History
   pub means : Means shape history r
 
 -- page p is first in the flight of caller c at no history that the replay may mean
-abbrev pub IsNeverFirst : Replay → ℕ → ℕ → Type 0
+abbrev pub IsNeverFirst : NodeState → ℕ → ℕ → Type 0
 IsNeverFirst r c p = (s : Shape) (h : History) → Means s h r → slice_get (flight h c) 0 ≢ Some p

@@ -4,7 +4,7 @@ ghost use Rattle.thp_model.specs.Limits.{max_order, min_order};
 ghost use Rattle.thp_model.specs.Legal.{IsLegal};
 ghost use Rattle.thp_model.specs.Checks.{Tells};
 
-use crate::replay::Replay;
+use crate::node_state::NodeState;
 use std::alloc::Global;
 use thp_model::{CheckFault, Event, Shape};
 
@@ -22,12 +22,12 @@ pub fn check(alloc: Global, shape: Shape, events: &[Event]) -> Result<(), CheckF
     ensures legal { OnOk result (IsLegal shape events.now) }
     ensures illegal { IfErr result (Tells shape events.now) }
 {
-    let mut replay = match Replay::new(alloc, shape) {
-        Ok(replay) => replay,
+    let mut state = match NodeState::new(alloc, shape) {
+        Ok(state) => state,
         Err(_) => return Err(CheckFault::OutOfMemory),
     };
     for (place, event) in events.iter().enumerate() {
-        if !replay.admit(event) {
+        if !state.admit(event) {
             return Err(CheckFault::Illegal(place));
         }
     }

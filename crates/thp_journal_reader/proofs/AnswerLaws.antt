@@ -57,10 +57,11 @@ illegal_here nodes place node line inside is before first = record {
 -- ---- any choice of blocks
 
 -- the node's blocks are the least ones
-abbrev HasLeastBlocks : NodeJournal → Type 0
+abbrev pub HasLeastBlocks : NodeJournal → Type 0
 HasLeastBlocks node = (h : History) × (node.events ≡ with_least_blocks node.shape h)
 
-each_least : (number : ℕ) (lines : List Line) → All HasLeastBlocks (nodes_of number lines)
+-- each node that lines tell has them
+pub each_least : (number : ℕ) (lines : List Line) → All HasLeastBlocks (nodes_of number lines)
 each_least number [] = All-nil HasLeastBlocks
 each_least number (Head version ∷ lines) = each_least (number + 1) lines
 each_least number (Happened event ∷ lines) = each_least (number + 1) lines
@@ -103,14 +104,14 @@ misfit_is_illegal : (shape : Shape) (h : History) (place : ℕ) → IsFirstMisfi
 misfit_is_illegal shape h place first legal = first.misfit.2 (legal.each place first.misfit.0 first.misfit.1)
 
 -- an element that was found has what all have
-found_has : (P : NodeJournal → Type 0) (nodes : List NodeJournal) (place : ℕ) (node : NodeJournal) → slice_get nodes place ≡ Some node → All P nodes → P node
+pub found_has : (P : NodeJournal → Type 0) (nodes : List NodeJournal) (place : ℕ) (node : NodeJournal) → slice_get nodes place ≡ Some node → All P nodes → P node
 found_has P nodes place node here all =
     let inside : place < length nodes = slice_get_within nodes place node here in
     let there : slice_get nodes place ≡ Some (get_or nodes place node) = slice_get-get_or nodes place node inside in
     let same : get_or nodes place node ≡ node = cc in
     subst P same (all place node inside)
 
-none_wronged : (nodes : List NodeJournal) (line : Option ℕ) → All HasLeastBlocks nodes → TellsIllegal nodes line → All CanBeLegal nodes → line ≡ None
+pub none_wronged : (nodes : List NodeJournal) (line : Option ℕ) → All HasLeastBlocks nodes → TellsIllegal nodes line → All CanBeLegal nodes → line ≡ None
 none_wronged nodes None least told can = refl
 none_wronged nodes (Some line) least told can =
     let node = told.node in

@@ -5,3 +5,4 @@ pub mod AnswerLaws
 pub mod PlainWords
 pub mod PlainLines
 pub mod PartLaws
+pub mod CheckLaws

@@ -7,3 +7,6 @@ pub mod Journals
 pub mod Reading
 pub mod Answers
 pub mod Parts
+pub mod PastLines
+pub mod Checking
+pub mod Later

@@ -17,6 +17,9 @@ pub record ReadSoFar : Type 0 where
   pub place : Place
   pub text : TextSoFar
 
+abbrev pub so_far : List NodeJournal → Place → TextSoFar → ReadSoFar
+so_far nodes place text = record { nodes = nodes; place = place; text = text }
+
 -- the nodes after further lines, the first of which has this number
 abbrev pub with_lines : ℕ → List NodeJournal → List Line → List NodeJournal
 with_lines number nodes [] = nodes

@@ -7,7 +7,7 @@ ghost use Rattle.thp_text.specs.Limits.{max_input};
 ghost use Rattle.thp_text.specs.Scripts.{TellsFault};
 ghost use Rattle.thp_text.specs.Words.{Text};
 
-use crate::journal_reader::read_journal;
+use crate::journal_check::JournalCheck;
 use crate::journals::{Journals, NodeJournal};
 use std::alloc::{AllocError, Global};
 use thp_check::{CheckFault, check};
@@ -62,15 +62,12 @@ pub fn check_journals(alloc: Global, journals: &Journals) -> Result<Option<u32>,
 /// The line of the first illegal event that a journal text tells, in the order of the text, or none where each node's
 /// events are legal.
 ///
-/// The text is read whole before its events are looked at, so its first fault comes before any of them. Blocks stand in no
-/// journal: a text is told legal exactly where some choice of blocks makes it so.
+/// Its events are replayed as they are read, and none is kept. The first fault of the text comes before any of them, wherever
+/// it stands. Blocks stand in no journal: a text is told legal exactly where some choice of blocks makes it so.
 pub fn check_text(alloc: Global, text: &[u8]) -> Result<Option<u32>, ReadFault>
     ensures line { IfOk result (λ line. (journals : Journals) × (journals_of text.now ≡ Ok journals) × TellsIllegal journals.nodes line) }
     ensures free_choice { IfOk result (λ line. (journals : Journals) → journals_of text.now ≡ Ok journals → All CanBeLegal journals.nodes → line ≡ None) }
     ensures fault { IfErr result (TellsFault (journals_of text.now)) }
 {
-    match read_journal(alloc, text) {
-        Ok(journals) => Ok(check_journals(alloc, &journals)?),
-        Err(fault) => Err(fault),
-    }
+    JournalCheck::new(alloc).read_part(text)?.finish()
 }

@@ -2,50 +2,34 @@
 ghost use Rattle.std.specs.Prelude.{◌≡◌, ◌++◌, Ok, [], IfOk, IfErr};
 ghost use Rattle.thp_journal_reader.specs.Journals.{journals_of, AreJournals};
 ghost use Rattle.thp_journal_reader.specs.Parts.{told_with};
-ghost use Rattle.thp_journal_reader.specs.Reading.{fault_at};
-ghost use Rattle.thp_text.specs.Lines.{fault_behind};
 ghost use Rattle.thp_text.specs.Scripts.{TellsFault};
 ghost use Rattle.thp_text.specs.Words.{Text};
 ghost use Rattle.thp_text.specs.declared.fault.ReadFault.TheVariants.{OutOfMemory};
 
 use crate::journals::Journals;
-use crate::place::{Place, line_in, place_after};
-use crate::reading::{Nodes, add, finish};
+use crate::reading::{Nodes, finish};
+use crate::text_reader::TextReader;
 use std::alloc::Global;
 use std::marker::Model;
-use thp_text::{ReadFault, TextInParts, TextKind, WholeLine, fault_behind};
-
-/// The fault of what stands behind the last line, at this place.
-fn fault_at(behind: &[u8], place: Place) -> Option<TextKind>
-    ensures { result ≡ fault_at (fault_behind behind.now) place }
-{
-    match (fault_behind(behind), place) {
-        (Some(kind), _) => Some(kind),
-        (None, Place::Ended { .. }) => None,
-        (None, _) => Some(TextKind::Cut),
-    }
-}
+use thp_text::ReadFault;
 
 /// A reader of journals whose text comes in parts of any length. It keeps the events that it has read, and of the text no
 /// more than the line begun. Each allocation gets the least block that no live page holds, as no journal tells blocks.
 #[derive(Drop)]
 pub struct JournalReader {
     alloc: Global,
-    nodes: Option<Nodes>,
-    // behind the last line
-    place: Place,
-    text: TextInParts,
+    text: TextReader<Option<Nodes>>,
 }
 
 impl Model for JournalReader {
-    ghost use Rattle.thp_journal_reader.specs.Parts.{ReadSoFar};
+    ghost use Rattle.thp_journal_reader.specs.Parts.{so_far, ReadSoFar};
     ghost use Rattle.thp_journal_reader.specs.Reading.{nodes_in, IsReading};
 
     ghost Value = { ReadSoFar };
 
-    ghost view = { λ r. record { nodes = nodes_in r.nodes; place = r.place; text = r.text } };
+    ghost view = { λ r. so_far (nodes_in r.text.nodes) r.text.place r.text.text };
 
-    ghost invariant = { λ r. IsReading r.text.line r.nodes };
+    ghost invariant = { λ r. IsReading r.text.text.line r.text.nodes };
 }
 
 impl JournalReader {
@@ -55,9 +39,7 @@ impl JournalReader {
     {
         JournalReader {
             alloc,
-            nodes: None,
-            place: Place::Start,
-            text: TextInParts::new(alloc),
+            text: TextReader::new(alloc, None),
         }
     }
 
@@ -67,33 +49,9 @@ impl JournalReader {
         ensures text { IfOk result (λ reader. (more : Text) → told_with reader more ≡ told_with self (part.now ++ more)) }
         ensures memory { IfErr result (λ fault. fault ≡ OutOfMemory) }
     {
-        let JournalReader {
-            alloc,
-            mut nodes,
-            mut place,
-            mut text,
-        } = self;
-        let mut rest = text.next_part(part);
-        while let Some(WholeLine { number, bytes }) = text.next_line(&mut rest)? {
-            let said = line_in(place, bytes.as_slice());
-            drop(bytes);
-            match said {
-                Ok(said) => {
-                    add(alloc, &mut nodes, number, said)?;
-                    place = place_after(place, &said);
-                }
-                Err(kind) => {
-                    text.note_fault(number, kind);
-                    break;
-                }
-            }
-        }
-        Ok(JournalReader {
-            alloc,
-            nodes,
-            place,
-            text,
-        })
+        let JournalReader { alloc, text } = self;
+        let text = text.read_part(part)?;
+        Ok(JournalReader { alloc, text })
     }
 
     /// The journals that the whole text spells, or its first fault.
@@ -102,13 +60,9 @@ impl JournalReader {
         ensures in_range { IfOk result AreJournals }
         ensures fault { IfErr result (TellsFault (told_with self [])) }
     {
-        if let Some((line, kind)) = self.text.fault() {
-            return Err(ReadFault::Text { line, kind });
-        }
-        let (line, behind) = self.text.last_line();
-        match fault_at(behind, self.place) {
-            Some(kind) => Err(ReadFault::Text { line, kind }),
-            None => finish(self.alloc, self.nodes),
+        match self.text.fault() {
+            Some((line, kind)) => Err(ReadFault::Text { line, kind }),
+            None => finish(self.alloc, self.text.nodes),
         }
     }
 }

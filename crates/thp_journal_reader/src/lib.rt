@@ -1,19 +1,25 @@
 //! Journals from text, and whether what they tell is legal.
 #![tactic(auto)]
 
+mod checked_nodes;
 mod checking;
 mod event_line;
 mod event_word;
+mod journal_check;
 mod journal_reader;
 mod journals;
+mod keeps_nodes;
 mod line;
+mod past_lines;
 mod place;
 mod reading;
 mod set_text;
+mod text_reader;
 mod version;
 
 pub use checking::{check_journals, check_text};
 pub use event_word::{EventWord, LossWord, PageWord, RangeWord};
+pub use journal_check::JournalCheck;
 pub use journal_reader::{JournalReader, read_journal};
 pub use journals::{Journals, NodeJournal};
 pub use line::Line;

@@ -1,11 +1,13 @@
 //! The nodes of a journal as its lines are read.
 ghost use Rattle.std.specs.Prelude.{◌≡◌, ◌≤◌, ◌<◌, ◌+◌, ◌++◌, ◌∷◌, [], IfOk, IfErr, OnOk, IfSome};
 ghost use Rattle.thp_model.specs.History.{by};
+ghost use Rattle.thp_journal_reader.specs.Later.{reads_later};
 ghost use Rattle.thp_journal_reader.specs.LineRanges.{IsInRange};
 ghost use Rattle.thp_journal_reader.specs.Reading.{began, journal_so_far, nodes_in, with_event, with_line, on_last, GoesAlong, IsReading};
 ghost use Rattle.thp_text.specs.declared.fault.ReadFault.TheVariants.{OutOfMemory};
 
 use crate::journals::{Journals, NodeJournal};
+use crate::keeps_nodes::KeepsNodes;
 use crate::line::Line;
 use std::alloc::{AllocError, Global};
 use thp_least_blocks::LeastBlocks;
@@ -122,26 +124,21 @@ fn add_node(
     Ok(())
 }
 
-/// Adds what a line says, which has this number.
-pub(crate) fn add(
-    alloc: Global,
-    nodes: &mut Option<Nodes>,
-    number: u32,
-    line: Line,
-) -> Result<(), ReadFault>
-    requires reading { IsReading number nodes.old }
-    requires in_range { IsInRange line }
-    requires room { number < 4294967295 }
-    ensures nodes { OnOk result (nodes_in nodes.new ≡ with_line number (nodes_in nodes.old) line) }
-    ensures along { OnOk result (IfSome nodes.new (λ n. GoesAlong n.last)) }
-    ensures memory { IfErr result (λ fault. fault ≡ OutOfMemory) }
-{
-    match line {
-        Line::Node { shape, .. } => add_node(alloc, nodes, number, shape)?,
-        Line::Happened(event) => push(nodes, event)?,
-        Line::Head(_) | Line::End => {}
+impl KeepsNodes for Option<Nodes> {
+    ghost told = { λ nodes. nodes_in nodes };
+
+    ghost goes_along = { λ number nodes. IsReading number nodes };
+
+    fn add(&mut self, alloc: Global, number: u32, line: &Line) -> Result<(), ReadFault> {
+        match line {
+            Line::Node { shape, .. } => add_node(alloc, self, number, *shape)?,
+            Line::Happened(event) => push(self, *event)?,
+            Line::Head(_) | Line::End => {}
+        }
+        Ok(())
     }
-    Ok(())
+
+    ghost later = { λ number nodes along. reads_later number nodes along };
 }
 
 /// The journals of the nodes that were read.

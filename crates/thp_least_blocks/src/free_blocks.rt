@@ -3,20 +3,29 @@ ghost use Rattle.std.specs.Prelude.{◌≡◌, ◌<◌, ◌≤◌, ◌*◌, ◌/
 ghost use Rattle.thp_model.specs.Words.{in_words};
 
 use std::alloc::{AllocError, Global};
+use std::marker::Model;
 
-// A set of blocks.
+/// A set of blocks. Contracts see its words: block b is bit b % 64 of word b / 64.
 #[derive(Drop)]
-pub(crate) struct FreeBlocks {
-    // block b is bit b % 64 of word b / 64
+pub struct FreeBlocks {
     words: Vec<u64>,
-    ghost small: { length words.items ≤ 2 ^ 26 },
+}
+
+impl Model for FreeBlocks {
+    ghost use Rattle.std.specs.Prelude.{ℕ, List, length, ◌≤◌, ◌^◌};
+
+    ghost Value = { List ℕ };
+
+    ghost view = { λ f. f.words.items };
+
+    ghost invariant = { λ f. length f.words.items ≤ 2 ^ 26 };
 }
 
 impl FreeBlocks {
-    // Each block below `count`.
-    pub(crate) fn new(alloc: Global, count: u32) -> Result<FreeBlocks, AllocError>
-        ensures all { IfOk result (λ f. (b : ℕ) → in_words f.words.items b ≡ nat_lt b count) }
-        ensures size { IfOk result (λ f. count ≤ 64 * length f.words.items) }
+    /// Each block below `count`. Fails where its memory is refused.
+    pub fn new(alloc: Global, count: u32) -> Result<FreeBlocks, AllocError>
+        ensures all { IfOk result (λ f. (b : ℕ) → in_words f b ≡ nat_lt b count) }
+        ensures size { IfOk result (λ f. count ≤ 64 * length f) }
     {
         let words = vec![in alloc; 0; count.div_ceil(64) as usize]?;
         let mut free = FreeBlocks { words };
@@ -26,31 +35,31 @@ impl FreeBlocks {
         Ok(free)
     }
 
-    // Puts a block into the set.
-    pub(crate) fn insert(&mut self, block: u32)
-        requires { block < 64 * length self.old.words.items }
-        ensures with_it { (b : ℕ) → in_words self.new.words.items b ≡ cond (nat_eq b block) true (in_words self.old.words.items b) }
-        ensures size { length self.new.words.items ≡ length self.old.words.items }
+    /// Puts a block into the set.
+    pub fn insert(&mut self, block: u32)
+        requires { block < 64 * length self.old }
+        ensures with_it { (b : ℕ) → in_words self.new b ≡ cond (nat_eq b block) true (in_words self.old b) }
+        ensures size { length self.new ≡ length self.old }
     {
         let at = block as usize / 64;
         self.words[at] |= 1u64 << (block % 64);
     }
 
-    // Takes a block out of the set.
-    pub(crate) fn remove(&mut self, block: u32)
-        requires { block < 64 * length self.old.words.items }
-        ensures without_it { (b : ℕ) → in_words self.new.words.items b ≡ cond (nat_eq b block) false (in_words self.old.words.items b) }
-        ensures size { length self.new.words.items ≡ length self.old.words.items }
+    /// Takes a block out of the set.
+    pub fn remove(&mut self, block: u32)
+        requires { block < 64 * length self.old }
+        ensures without_it { (b : ℕ) → in_words self.new b ≡ cond (nat_eq b block) false (in_words self.old b) }
+        ensures size { length self.new ≡ length self.old }
     {
         let at = block as usize / 64;
         self.words[at] &= !(1u64 << (block % 64));
     }
 
-    // The least block of the set.
-    pub(crate) fn least(&self) -> Option<u32>
-        ensures there { IfSome result (λ b. in_words self.now.words.items b ≡ true) }
-        ensures least { IfSome result (λ b. (k : ℕ) → k < b → in_words self.now.words.items k ≡ false) }
-        ensures none { IfNone result ((k : ℕ) → in_words self.now.words.items k ≡ false) }
+    /// The least block of the set.
+    pub fn least(&self) -> Option<u32>
+        ensures there { IfSome result (λ b. in_words self.now b ≡ true) }
+        ensures least { IfSome result (λ b. (k : ℕ) → k < b → in_words self.now k ≡ false) }
+        ensures none { IfNone result ((k : ℕ) → in_words self.now k ≡ false) }
     {
         for (at, word) in self.words.iter().enumerate() {
             if *word != 0 {

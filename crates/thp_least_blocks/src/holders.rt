@@ -24,7 +24,7 @@ impl Model for Holders {
 
     ghost view = { λ h. h.counts.items };
 
-    ghost invariant = { λ h. AreFree h.counts.items h.free.words.items };
+    ghost invariant = { λ h. AreFree h.counts.items h.free };
 }
 
 impl Holders {

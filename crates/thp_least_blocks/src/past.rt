@@ -10,9 +10,9 @@ enum Steps {
     Then(Event, Snapshot<Steps>),
 }
 
-// A list of events that takes no memory: only contracts see it.
+/// A list of events that takes no memory: only contracts see it.
 #[derive(Drop)]
-pub(crate) struct Past {
+pub struct Past {
     steps: Snapshot<Steps>,
 }
 
@@ -29,8 +29,8 @@ impl Model for Past {
 impl Past {
     ghost use Rattle.std.specs.Prelude.{◌≡◌, [], ◌∷◌, ◌++◌};
 
-    // No event.
-    pub(crate) fn new() -> Past
+    /// No event.
+    pub fn new() -> Past
         ensures { result ≡ [] }
     {
         Past {
@@ -38,8 +38,8 @@ impl Past {
         }
     }
 
-    // One more event.
-    pub(crate) fn push(&mut self, event: &Event)
+    /// One more event.
+    pub fn push(&mut self, event: &Event)
         ensures { self.new ≡ self.old ++ event.now ∷ [] }
     {
         let start = Snapshot::of(&Steps::Start);

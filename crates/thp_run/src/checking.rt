@@ -4,12 +4,11 @@ ghost use Rattle.thp_run.specs.Calls.{ReadsOn};
 ghost use Rattle.thp_run.specs.Passages.{WritesAnswer};
 ghost use Rattle.thp_run.specs.Verdicts.{verdict_text, CheckEnds};
 
-use crate::device::{read_journal_parts, write_text};
+use crate::device::{read_check_parts, write_text};
 use crate::fault::RunFault;
 use crate::watched::Watched;
 use std::alloc::{AllocError, Global};
 use std::io::{Read, Write};
-use thp_journal_reader::check_journals;
 
 /// The line that tells whether a journal is legal, by the line of its first illegal event.
 #[tactic(auto, unfolding(crate::specs::Verdicts::verdict_text))]
@@ -35,9 +34,8 @@ pub fn check_run<R: Read, W: Write>(
     ensures reads { ReadsOn reader.new.failed reader.old.calls reader.new.calls }
     ensures writes { WritesAnswer result writer.new.failed writer.old.calls writer.new.calls }
 {
-    let parts = read_journal_parts(alloc, reader)?;
-    let journals = parts.finish()?;
-    let illegal = check_journals(alloc, &journals)?;
+    let check = read_check_parts(alloc, reader)?;
+    let illegal = check.finish()?;
     let text = verdict(alloc, illegal)?;
     write_text(writer, text.as_bytes()).ok_or(RunFault::Write)?;
     Ok(illegal.is_none())

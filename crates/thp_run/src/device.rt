@@ -15,7 +15,7 @@ use crate::fault::RunFault;
 use crate::watched::Watched;
 use std::alloc::Global;
 use std::io::{Read, Write};
-use thp_journal_reader::JournalReader;
+use thp_journal_reader::JournalCheck;
 use thp_text::{MAX_INPUT, ReadFault, ScriptReader, Settings};
 
 /// How many bytes one read may give.
@@ -50,11 +50,11 @@ impl<'a> ReadsParts for ScriptReader<'a> {
     ghost more_read = { λ a b c first more old new. (λ rest. new.0 rest ∙ old.0 (more ++ rest) ∙ ap (spelled_with a) (sym (append_assoc first more rest)), new.1 ∙ old.1) };
 }
 
-impl ReadsParts for JournalReader {
+impl ReadsParts for JournalCheck {
     ghost has_read = { λ old bytes new. (more : List ℕ) → told_with new more ≡ told_with old (bytes ++ more) };
 
     fn read_part(self, part: &[u8]) -> Result<Self, ReadFault> {
-        JournalReader::read_part(self, part)
+        JournalCheck::read_part(self, part)
     }
 
     ghost nothing_read = { λ r more. refl };
@@ -108,18 +108,18 @@ pub(crate) fn read_script_parts<'a, R: Read>(
     read_parts(script, reader)
 }
 
-/// The journals whose text a reader gives, part by part: all of its bytes, or more of them than an input may have.
-pub(crate) fn read_journal_parts<R: Read>(
+/// The check of the journals whose text a reader gives, part by part: all of its bytes, or more of them than an input may have.
+pub(crate) fn read_check_parts<R: Read>(
     alloc: Global,
     reader: &mut Watched<R>,
-) -> Result<JournalReader, RunFault>
+) -> Result<JournalCheck, RunFault>
     requires { reader.old.failed ≡ false }
-    ensures parts { IfOk result (λ journals. (bytes : List ℕ) × IfSome (R.remaining reader.old.device) (IsInputOf bytes) × (told_with journals [] ≡ journals_of bytes)) }
+    ensures parts { IfOk result (λ check. (bytes : List ℕ) × IfSome (R.remaining reader.old.device) (IsInputOf bytes) × (told_with check [] ≡ journals_of bytes)) }
     ensures flag { IfOk result (λ _. reader.new.failed ≡ false) }
     ensures fault { IfErr result (IsReadingFault reader.new.failed) }
     ensures calls { ReadsOn reader.new.failed reader.old.calls reader.new.calls }
 {
-    read_parts(JournalReader::new(alloc), reader)
+    read_parts(JournalCheck::new(alloc), reader)
 }
 
 /// Writes a text and flushes, once. At `None` the writer failed, and took some front of the text; no call comes behind the

@@ -8,7 +8,7 @@ use Rattle.thp_check.proofs.Deciding.{passed, failed}
 use Rattle.thp_check.proofs.checking.check.Goals as goal
 
 pub admit-requires-clause-small : goal.admit-requires-clause-small
-admit-requires-clause-small c = omega (arith, few_pages c.args.shape c.args.events.now c.loop-place.place c.loop-place.replay c.loop-place.invariant)
+admit-requires-clause-small c = omega (arith, few_pages c.args.shape c.args.events.now c.loop-place.place c.loop-place.state c.loop-place.invariant)
 
 pub returns-then-not-admit-clause-illegal : goal.returns-then-not-admit-clause-illegal
 returns-then-not-admit-clause-illegal c =

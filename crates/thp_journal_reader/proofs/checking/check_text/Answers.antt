@@ -1,18 +1,19 @@
-use Rattle.std.proofs.Common.{◌≡◌, Ok, subst}
-use Rattle.std.specs.Prelude.{All}
-use Rattle.thp_text.specs.Words.{Text}
-use Rattle.thp_journal_reader.specs.declared.journals.Journals.{Journals}
-use Rattle.thp_journal_reader.specs.Answers.{CanBeLegal}
+use Rattle.std.proofs.Common.{◌≡◌, ◌∙◌, ◌++◌, [], ap, sym}
+use Rattle.std.proofs.lemmas.List.{append-nil}
 use Rattle.thp_journal_reader.specs.Journals.{journals_of}
+use Rattle.thp_journal_reader.specs.Parts.{told_with}
+use Rattle.thp_journal_reader.proofs.AnswerLaws.{free_choice}
+use Rattle.thp_journal_reader.proofs.NodeLaws.{if_ok}
 use Rattle.thp_journal_reader.proofs.checking.check_text.Goals as goal
 
--- a text spells one list of journals
-same_journals : (text : Text) (journals others : Journals) → journals_of text ≡ Ok journals → journals_of text ≡ Ok others → All CanBeLegal others.nodes → All CanBeLegal journals.nodes
-same_journals text journals others read read-too can =
-    let same : others ≡ journals = cc in
-    let P : Journals → Type 0 = λ js. All CanBeLegal js.nodes in
-    subst P same can
+pub returns-clause-line : goal.returns-clause-line
+returns-clause-line c =
+    let text = c.args.text.now in
+    let read : told_with c.in_ok-read_part.field-0 [] ≡ journals_of text = c.in_ok-read_part.ensures.text [] ∙ c.new.ensures (text ++ []) ∙ ap journals_of (append-nil text) in
+    if_ok c.finish.result _ _ c.finish.ensures.line (λ line told. (told.0, sym read ∙ told.1, told.2))
 
-pub returns-in_ok-check_journals-in-Ok-clause-free_choice : goal.returns-in_ok-check_journals-in-Ok-clause-free_choice
-returns-in_ok-check_journals-in-Ok-clause-free_choice c = λ journals is can.
-    c.in_ok-check_journals-in-Ok.ensures.free_choice c.args.text.now c.in-Ok.ensures.journals (same_journals c.args.text.now c.in-Ok.journals journals c.in-Ok.ensures.journals is can)
+pub returns-clause-free_choice : goal.returns-clause-free_choice
+returns-clause-free_choice c =
+    let text = c.args.text.now in
+    let read : told_with c.in_ok-read_part.field-0 [] ≡ journals_of text = c.in_ok-read_part.ensures.text [] ∙ c.new.ensures (text ++ []) ∙ ap journals_of (append-nil text) in
+    if_ok c.finish.result _ _ c.finish.ensures.line (λ line told. λ journals is can. free_choice text told.0 line (sym read ∙ told.1) told.2 journals is can)

@@ -8,7 +8,7 @@ pub returns-in_err-journals-clause-ends : goal.returns-in_err-journals-clause-en
 returns-in_err-journals-clause-ends g c =
     let p = err_from_is_err_and c.from_residual-in_err-journals.result c.from_residual-in_err-journals.ensures.1 in
     let read = c.in_ok-parts.ensures.parts in
-    check_ends_early (g.R.Read.remaining c.args.reader.now.device) (g.W.Write.contents c.args.writer.now.device) read.0 c.read_journal_parts.new.reader.failed c.args.writer.now.failed
+    check_ends_early (g.R.Read.remaining c.args.reader.now.device) (g.W.Write.contents c.args.writer.now.device) read.0 c.read_check_parts.new.reader.failed c.args.writer.now.failed
     c.in_err-journals.field-0.0 c.from_residual-in_err-journals.result read.1 (rw read.2 at c.in_err-journals.ensures.fault) c.in_ok-parts.ensures.flag c.requires.writer (p.1 ∙ ap (λ fault. Err fault) p.2)
 
 pub returns-in_err-ok_or-clause-ends : goal.returns-in_err-ok_or-clause-ends
@@ -18,7 +18,7 @@ returns-in_err-ok_or-clause-ends g c =
     let read = c.in_ok-parts.ensures.parts in
     let spelled : journals_of read.0 ≡ Ok c.in_ok-journals.journals = sym read.2 ∙ c.in_ok-journals.ensures.journals in
     check_ends_cut (g.R.Read.remaining c.args.reader.now.device) (g.W.Write.contents c.args.writer.now.device) (g.W.Write.contents c.write_text.new.writer.device) read.0 c.as_bytes.result.now
-    c.read_journal_parts.new.reader.failed c.write_text.new.writer.failed c.in_ok-illegal.illegal c.write_text.result c.from_residual-in_err-ok_or.result read.1
+    c.read_check_parts.new.reader.failed c.write_text.new.writer.failed c.in_ok-illegal.illegal c.write_text.result c.from_residual-in_err-ok_or.result read.1
     (record { journals = c.in_ok-journals.journals; spelled = spelled; illegal = c.in_ok-illegal.illegal; told = c.in_ok-illegal.ensures.line; free_choice = c.in_ok-illegal.ensures.free_choice read.0 spelled; answer = refl; written = c.as_bytes.ensures.value ∙ c.in_ok-text.ensures })
     cut.0 c.write_text.ensures.cut c.write_text.ensures.failed c.in_ok-parts.ensures.flag (p.1 ∙ ap (λ fault. Err fault) (p.2 ∙ sym cut.1))
 
@@ -27,7 +27,7 @@ returns-clause-ends g c =
     let read = c.in_ok-parts.ensures.parts in
     let spelled : journals_of read.0 ≡ Ok c.in_ok-journals.journals = sym read.2 ∙ c.in_ok-journals.ensures.journals in
     check_ends_written (g.R.Read.remaining c.args.reader.now.device) (g.W.Write.contents c.args.writer.now.device) (g.W.Write.contents c.write_text.new.writer.device) read.0 c.as_bytes.result.now
-    c.read_journal_parts.new.reader.failed c.write_text.new.writer.failed c.in_ok-illegal.illegal c.write_text.result c.in_ok-ok_or.field-0 c.is_none.result read.1
+    c.read_check_parts.new.reader.failed c.write_text.new.writer.failed c.in_ok-illegal.illegal c.write_text.result c.in_ok-ok_or.field-0 c.is_none.result read.1
     (record { journals = c.in_ok-journals.journals; spelled = spelled; illegal = c.in_ok-illegal.illegal; told = c.in_ok-illegal.ensures.line; free_choice = c.in_ok-illegal.ensures.free_choice read.0 spelled; answer = refl; written = c.as_bytes.ensures.value ∙ c.in_ok-text.ensures })
     (sym c.ok_or.ensures.value ∙ c.in_ok-ok_or.was) c.write_text.ensures.written c.write_text.ensures.flag c.in_ok-parts.ensures.flag (legal_is c.in_ok-illegal.illegal c.is_none.result c.is_none.ensures)
 

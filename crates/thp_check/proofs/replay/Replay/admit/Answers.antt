@@ -1,8 +1,43 @@
-use Rattle.std.proofs.Common.{refl}
-use Rattle.thp_check.proofs.Beginning.{means_after}
-use Rattle.thp_check.proofs.Deciding.{passed_on}
+use Rattle.std.proofs.Common.{◌≡◌, ◌+◌, ◌≤◌, ◌∙◌, ◌++◌, ◌∷◌, [], ℕ, List, length, ap, arith, subst, sym}
+use Rattle.thp_model.specs.declared.events.Event.{Event}
+use Rattle.thp_model.specs.declared.shape.Shape.{Shape}
+use Rattle.thp_model.specs.Counts.{allocations, is_alloc}
+use Rattle.thp_model.specs.History.{History}
+use Rattle.thp_model.specs.Words.{in_words}
+use Rattle.thp_live_pages.proofs.Starting.{few_events}
+use Rattle.thp_check.specs.declared.node_state.NodeState.{NodeState}
+use Rattle.thp_check.specs.Freeing.{free_after, MarksFree}
+use Rattle.thp_check.specs.Meanings.{Means}
+use Rattle.thp_check.specs.Replays.{Replayed}
+use Rattle.thp_check.proofs.Deciding.{passed}
+use Rattle.thp_check.proofs.FreeMarks.{freed_inside, marks_push}
 use Rattle.thp_check.proofs.replay.Replay.admit.Goals as goal
 
-pub returns : goal.returns
-returns c = λ s h m.
-    passed_on c.apply-fits.result _ _ _ (λ w. (w.0, means_after s h c.args.event.now c.apply-fits.new.self _ w.1 refl refl refl refl refl c.taker_of-self.ensures)) (c.apply-fits.ensures s h m)
+pub admit-requires-clause-small : goal.admit-requires-clause-small
+admit-requires-clause-small c =
+    let i = c.self.inside in
+    let state : c.deref_mut.result.now.next ≡ i.state.value.next = ap (λ (r : NodeState). r.next) c.deref_mut.ensures.value in
+    let next : i.state.value.next ≡ allocations i.past = c.self.invariant.0.kept.next_is in
+    let past : length i.past ≡ length c.args.self.history = ap (λ (r : Replayed). length r.history) c.self.view_is in
+    omega (arith, state, next, few_events is_alloc i.past, past, c.requires.room)
+
+pub mark-requires-clause-freed : goal.mark-requires-clause-freed
+mark-requires-clause-freed c =
+    let i = c.self.inside in
+    let s : Shape = i.state.value.shape in
+    let M : NodeState → Type 0 = λ r. Means s i.past r in
+    freed_inside s i.past c.args.event.now.what i.free c.freed_block-freed.result c.self.invariant.0.kept.node.legal c.self.invariant.1 (c.freed_block-freed.ensures s i.past (subst M (sym c.deref.ensures) c.self.invariant.0))
+
+pub invariant_of-result : goal.invariant_of-result
+invariant_of-result c =
+    let i = c.self.inside in
+    let s : Shape = i.state.value.shape in
+    let e : Event = c.args.event.now in
+    let M : NodeState → Type 0 = λ r. Means s i.past r in
+    let freed = c.freed_block-freed.ensures s i.past (subst M (sym c.deref.ensures) c.self.invariant.0) in
+    let went = passed c.admit.result _ _ c.if-not-admit.false (c.admit.ensures s i.past (subst M (sym c.deref_mut.ensures.value) c.self.invariant.0)) in
+    let marks : MarksFree s (i.past ++ e ∷ []) c.mark.new.free =
+    marks_push s i.past e c.self.invariant.0.kept.node.legal went.0 i.free c.mark.new.free c.freed_block-freed.result c.self.invariant.1 freed c.mark.ensures.size
+    (λ b. c.mark.ensures.marked b ∙ ap (λ t. free_after t c.freed_block-freed.result b (in_words i.free b)) c.taken_block.ensures) in
+    let P : Shape → History → Type 0 = λ z h. Means z h c.admit.new.self × MarksFree z h c.mark.new.free in
+    subst (λ z. P z c.push.new.self) (sym went.1.kept.shape_is) (subst (λ h. P s h) (sym c.push.ensures) (went.1, marks))

@@ -14,18 +14,18 @@ lowest_of ws vs at e some fits f =
     subst P (sym same) (in-lowest ws at (omega (arith, some)) (omega arith) f)
 
 pub returns-then-word-ne0-clause-there : goal.returns-then-word-ne0-clause-there
-returns-then-word-ne0-clause-there c = (lowest_of c.args.self.now.words.items c.deref-word-items.result.now c.loop-at.at c.deref-word-items.ensures.value c.if-word-ne0.true (omega arith) c.loop-at.invariant).0
+returns-then-word-ne0-clause-there c = (lowest_of c.args.self.now c.deref-word-items.result.now c.loop-at.at (c.deref-word-items.ensures.value ∙ c.self.view_is) c.if-word-ne0.true (omega arith) c.loop-at.invariant).0
 
 pub returns-then-word-ne0-clause-least : goal.returns-then-word-ne0-clause-least
-returns-then-word-ne0-clause-least c = (lowest_of c.args.self.now.words.items c.deref-word-items.result.now c.loop-at.at c.deref-word-items.ensures.value c.if-word-ne0.true (omega arith) c.loop-at.invariant).1
+returns-then-word-ne0-clause-least c = (lowest_of c.args.self.now c.deref-word-items.result.now c.loop-at.at (c.deref-word-items.ensures.value ∙ c.self.view_is) c.if-word-ne0.true (omega arith) c.loop-at.invariant).1
 
 pub loop-at-preserved : goal.loop-at-preserved
-loop-at-preserved c = in-passed c.args.self.now.words.items c.loop-at.at (ap (λ (xs : List ℕ). get_or xs c.loop-at.at 0) (sym c.deref-word-items.ensures.value) ∙ c.if-word-ne0.false) c.loop-at.invariant
+loop-at-preserved c = in-passed c.args.self.now c.loop-at.at (ap (λ (xs : List ℕ). get_or xs c.loop-at.at 0) (sym (c.deref-word-items.ensures.value ∙ c.self.view_is)) ∙ c.if-word-ne0.false) c.loop-at.invariant
 
 pub returns-clause-none : goal.returns-clause-none
 returns-clause-none c = λ k.
-    let all : length c.args.self.now.words.items ≤ c.loop-at.at = omega (arith, ap length c.deref-word-items.ensures.value) in
+    let all : length c.args.self.now ≤ c.loop-at.at = omega (arith, ap length (c.deref-word-items.ensures.value ∙ c.self.view_is)) in
     elim (cases_lt (k / 64) c.loop-at.at) [
       | inl l ↦ c.loop-at.invariant k l
-      | inr g ↦ in-past c.args.self.now.words.items k (omega arith)
+      | inr g ↦ in-past c.args.self.now k (omega arith)
     ]

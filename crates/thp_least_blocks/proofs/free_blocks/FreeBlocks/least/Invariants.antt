@@ -4,4 +4,4 @@ use Rattle.thp_least_blocks.proofs.free_blocks.FreeBlocks.least.Given as goal
 
 -- no block in the words passed
 abbrev pub invariant-loop-at : goal.invariant-loop-at
-invariant-loop-at l = (k : ℕ) → k / 64 < l.at → in_words l.self.words.items k ≡ false
+invariant-loop-at l = (k : ℕ) → k / 64 < l.at → in_words l.self k ≡ false

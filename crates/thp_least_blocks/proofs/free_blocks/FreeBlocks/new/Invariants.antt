@@ -5,6 +5,6 @@ use Rattle.thp_least_blocks.proofs.free_blocks.FreeBlocks.new.Given as goal
 -- the blocks so far are in the set
 abbrev pub invariant-loop-block : goal.invariant-loop-block
 invariant-loop-block l = record {
-  marked : (b : ℕ) → in_words l.free.words.items b ≡ nat_lt b l.block;
-  size : l.count ≤ 64 * length l.free.words.items;
+  marked : (b : ℕ) → in_words l.free b ≡ nat_lt b l.block;
+  size : l.count ≤ 64 * length l.free;
 }

@@ -1,0 +1,263 @@
+-- The blocks where no live page lies, after one more event.
+use Rattle.std.proofs.Common.{◌≡◌, ◌≢◌, ℕ, ◌*◌, ◌<◌, ◌≤◌, Bool, true, false, cond, not, ◌&&◌, nat_eq, nat_lt, List, [], ◌∷◌, ◌++◌, length, Option, Some, None, refl, ap, sym, ◌∙◌, subst, arith, inl, inr, eq-eqb, eqb-true, ne_eqb}
+use Rattle.std.specs.Prelude.{⊤, IfSome, MatchOption}
+use Rattle.std.specs.List.{range_with_len}
+use Rattle.std.proofs.lemmas.Bool.{cases_lt, lt-ltb, le-ltb}
+use Rattle.std.proofs.lemmas.Bool.Decides.{eqb_tells}
+use Rattle.thp_model.specs.declared.events.Event.{Event}
+use Rattle.thp_model.specs.declared.events.Outcome.{Outcome}
+use Rattle.thp_model.specs.declared.events.What.{What}
+use Rattle.thp_model.specs.declared.events.What.TheVariants.{Alloc, UnmapWhole, UnmapSub, Unpin}
+use Rattle.thp_model.specs.declared.shape.Shape.{Shape}
+use Rattle.thp_model.specs.BlockLaws.{first_that, least_free}
+use Rattle.thp_model.specs.Counts.{allocates, frees, is_freed, is_live}
+use Rattle.thp_model.specs.Frames.{block_in_use}
+use Rattle.thp_model.specs.History.{History, some_event}
+use Rattle.thp_model.specs.Legal.{Fits, FitsAlloc, FitsBy, IsLegal}
+use Rattle.thp_model.specs.Words.{in_words}
+use Rattle.thp_model.proofs.Bools.{by_bool, and_both, and-true}
+use Rattle.thp_model.proofs.LegalSteps.{legal_push}
+use Rattle.thp_page.specs.Slots.{slot_at, HoldsPage}
+use Rattle.thp_page.specs.Table.{Slot, Table}
+use Rattle.thp_live_pages.specs.Holding.{IsNode}
+use Rattle.thp_live_pages.specs.Homes.{block_of, block_after}
+use Rattle.thp_live_pages.proofs.Admitting.{Found, found, at_home}
+use Rattle.thp_live_pages.proofs.Homing.{Homed, legal_homed, block_push, block_stays, block_freed, block_free, block_taken, alloc_of}
+use Rattle.thp_least_blocks.proofs.Least.{first_found, first_none}
+use Rattle.thp_check.specs.Freeing.{MarksFree, IsFreed, free_after, taken_block}
+
+no_both : (z : Bool) → z ≡ false → z ≡ true → ⊥
+no_both z e f = cc
+
+cond_and : (x l u : Bool) → cond x false (l && not u) ≡ (l && not (cond x true u))
+cond_and true true u = refl
+cond_and true false u = refl
+cond_and false l u = refl
+
+-- ---- which blocks are in use
+
+module _ (s : Shape) (h k : History) (m : Homed s h) (n : Homed s k) where
+  -- a block is in use before and after, or at neither, where the same pages lie there
+  same_use : (b : ℕ) → ((q : ℕ) → block_of h q ≡ Some b → block_of k q ≡ Some b) → ((q : ℕ) → block_of k q ≡ Some b → block_of h q ≡ Some b) → block_in_use k b ≡ block_in_use h b
+  same_use b f g =
+      by_bool (block_in_use h b) _
+      (λ y. stays y)
+      (λ y. block_free s k b n (λ q there. no_both (block_in_use h b) y (block_taken s h q b m (g q there))) ∙ sym y) where
+        stays : block_in_use h b ≡ true → block_in_use k b ≡ block_in_use h b
+        stays y =
+            by_bool (block_in_use k b) _ (λ z. z ∙ sym y)
+            (λ z. absurd (no_both (block_in_use h b) (block_free s h b m (λ q there. no_both (block_in_use k b) z (block_taken s k q b n (f q there)))) y))
+
+by_other : (p q r : ℕ) (o : Option ℕ) (u : Outcome) → (nat_eq p r && is_freed u) ≡ true → nat_eq q p ≡ false → cond (nat_eq q r) (cond (is_freed u) None o) o ≡ o
+by_other p q r o u f y =
+    let same : p ≡ r = eqb-true p r (and_both _ _ f).0 in
+    ap (λ x. cond x (cond (is_freed u) None o) o) (ap (nat_eq q) (sym same) ∙ y)
+
+-- an event that frees another page leaves the block of this one
+freed_other : (p q : ℕ) (o : Option ℕ) (w : What) → frees p w ≡ true → nat_eq q p ≡ false → block_after q o w ≡ o
+freed_other p q o (UnmapWhole u r set) f y = by_other p q r o u f y
+freed_other p q o (UnmapSub u r first count set) f y = by_other p q r o u f y
+freed_other p q o (Unpin u r set) f y = by_other p q r o u f y
+freed_other p q o w f y = absurd (cc)
+
+-- what takes a block is an allocation there, and nothing else is one
+taker : (w : What) (c : ℕ) → taken_block w ≡ Some c → (p : ℕ) × (w ≡ Alloc p c)
+taker (Alloc p b) c e = (p, let same : b ≡ c = cc in ap (λ x. Alloc p x) same)
+taker w c e = absurd (cc)
+
+no_taker : (w : What) (q : ℕ) → taken_block w ≡ None → allocates q w ≡ false
+no_taker (Alloc p b) q e = absurd (cc)
+no_taker w q e = refl
+
+module _ (s : Shape) (h : History) (e : Event) (legal : IsLegal s h) (fits : Fits s h e) where
+  abbrev pub k : History
+  k = h ++ e ∷ []
+
+  m : Homed s h
+  m = legal_homed s h legal
+
+  n : Homed s k
+  n = legal_homed s k (legal_push s h e legal fits)
+
+  -- a block of the node, where one is meant
+  abbrev IsInsideNode : Option ℕ → Type 0
+  IsInsideNode None = ⊤
+  IsInsideNode (Some c) = c < s.blocks
+
+  -- where each page lies as before
+  quiet : ((q : ℕ) → block_of k q ≡ block_of h q) → (b : ℕ) → block_in_use k b ≡ block_in_use h b
+  quiet same b = same_use s h k m n b (λ q y. same q ∙ y) (λ q y. sym (same q) ∙ y)
+
+  -- a new page takes its block
+  alloc_use : (p c : ℕ) → e.what ≡ Alloc p c → (b : ℕ) → block_in_use k b ≡ cond (nat_eq b c) true (block_in_use h b)
+  alloc_use p c is b =
+      elim (eqb_tells b c) [
+        | inl y ↦ ap (block_in_use k) y.1 ∙ block_taken s k p c n (lies p refl) ∙ sym (ap (λ x. cond x true (block_in_use h b)) y.0)
+        | inr y ↦ same_use s h k m n b (goes y.1) (came y.1) ∙ sym (ap (λ x. cond x true (block_in_use h b)) y.0)
+      ]
+    where
+      lies : (q : ℕ) → q ≡ p → block_of k q ≡ Some c
+      lies q y = block_push h e q ∙ ap (block_after q (block_of h q)) is ∙ ap (λ x. cond x (Some c) (block_of h q)) (eq-eqb q p y)
+
+      other : (q : ℕ) → nat_eq q p ≡ false → block_of k q ≡ block_of h q
+      other q y = block_push h e q ∙ ap (block_after q (block_of h q)) is ∙ ap (λ x. cond x (Some c) (block_of h q)) y
+
+      new : is_live h p ≡ false
+      new =
+          let F : What → Type 0 = λ w. FitsBy s h k e.caller w in
+          let fresh : FitsAlloc s h p c = subst F is fits in
+          let never = m.grown.numbered.fresh p (omega (arith, fresh.number)) in ap (λ x. x && not (some_event (frees p) h)) never.never
+
+      goes : b ≢ c → (q : ℕ) → block_of h q ≡ Some b → block_of k q ≡ Some b
+      goes f q y =
+          by_bool (nat_eq q p) _
+          (λ z. absurd (no_both (is_live h p) new (ap (is_live h) (sym (eqb-true q p z)) ∙ (m.from q b y).live)))
+          (λ z. other q z ∙ y)
+
+      came : b ≢ c → (q : ℕ) → block_of k q ≡ Some b → block_of h q ≡ Some b
+      came f q y =
+          by_bool (nat_eq q p) _
+          (λ z. absurd (f (let there = lies q (eqb-true q p z) in cc)))
+          (λ z. sym (other q z) ∙ y)
+
+  -- a page that is freed leaves its block
+  freed_use : (p c : ℕ) → frees p e.what ≡ true → block_of h p ≡ Some c → (b : ℕ) → block_in_use k b ≡ cond (nat_eq b c) false (block_in_use h b)
+  freed_use p c gone home b =
+      elim (eqb_tells b c) [
+        | inl y ↦ ap (block_in_use k) y.1 ∙ block_free s k c n empty ∙ sym (ap (λ x. cond x false (block_in_use h b)) y.0)
+        | inr y ↦ same_use s h k m n b (goes y.1) came ∙ sym (ap (λ x. cond x false (block_in_use h b)) y.0)
+      ]
+    where
+      other : (q : ℕ) → nat_eq q p ≡ false → block_of k q ≡ block_of h q
+      other q y = block_push h e q ∙ freed_other p q (block_of h q) e.what gone y
+
+      none : block_of k p ≡ None
+      none = block_push h e p ∙ block_freed p (block_of h p) e.what gone
+
+      apart : (q b : ℕ) → block_of k q ≡ Some b → nat_eq q p ≡ false
+      apart q b y = by_bool (nat_eq q p) _ (λ z. absurd (let here : block_of k q ≡ None = ap (block_of k) (eqb-true q p z) ∙ none in cc)) (λ z. z)
+
+      empty : (q : ℕ) → block_of k q ≡ Some c → ⊥
+      empty q y =
+          let z : nat_eq q p ≡ false = apart q c y in
+          let same : q ≡ p = m.once q p c (sym (other q z) ∙ y) home in
+          no_both (nat_eq q p) z (eq-eqb q p same)
+
+      came : (q : ℕ) → block_of k q ≡ Some b → block_of h q ≡ Some b
+      came q y = sym (other q (apart q b y)) ∙ y
+
+      goes : b ≢ c → (q : ℕ) → block_of h q ≡ Some b → block_of k q ≡ Some b
+      goes f q y =
+          by_bool (nat_eq q p) _
+          (λ z. absurd (f (let here : block_of h q ≡ Some c = ap (block_of h) (eqb-true q p z) ∙ home in cc)))
+          (λ z. other q z ∙ y)
+
+  -- where no page with a block is freed, and none is new, each page lies as before
+  nothing_moves : taken_block e.what ≡ None → ((p : ℕ) → frees p e.what ≡ true → block_of h p ≡ None) → (q : ℕ) → block_of k q ≡ block_of h q
+  nothing_moves none homeless q =
+      block_push h e q
+      ∙ by_bool (frees q e.what) _
+      (λ f. block_freed q (block_of h q) e.what f ∙ sym (homeless q f))
+      (λ f. block_stays q (block_of h q) e.what (no_taker e.what q none) f)
+
+  -- whether a block is in use after the event
+  abbrev use_after : Option ℕ → Option ℕ → ℕ → Bool
+  use_after (Some c) freed b = cond (nat_eq b c) true (block_in_use h b)
+  use_after None (Some c) b = cond (nat_eq b c) false (block_in_use h b)
+  use_after None None b = block_in_use h b
+
+  used : (taken freed : Option ℕ) → taken_block e.what ≡ taken → IsFreed h e.what freed → (b : ℕ) → block_in_use k b ≡ use_after taken freed b
+  used (Some c) freed t f b = let w = taker e.what c t in alloc_use w.0 c w.1 b
+  used None (Some c) t f b = freed_use f.0 c f.1 f.2 b
+  used None None t f b = quiet (nothing_moves t f) b
+
+  free_then : (taken freed : Option ℕ) (b : ℕ) → IsInsideNode freed → free_after taken freed b (nat_lt b s.blocks && not (block_in_use h b)) ≡ (nat_lt b s.blocks && not (use_after taken freed b))
+  free_then (Some c) freed b f = cond_and (nat_eq b c) (nat_lt b s.blocks) (block_in_use h b)
+  free_then None (Some c) b f = elim (eqb_tells b c) [
+    | inl y ↦
+        ap (λ x. cond x true (nat_lt b s.blocks && not (block_in_use h b))) y.0
+        ∙ sym (ap (λ x. nat_lt b s.blocks && not (cond x false (block_in_use h b))) y.0 ∙ ap (λ x. x && true) (lt-ltb b s.blocks (omega (arith, y.1, f))))
+    | inr y ↦
+        ap (λ x. cond x true (nat_lt b s.blocks && not (block_in_use h b))) y.0
+        ∙ sym (ap (λ x. nat_lt b s.blocks && not (cond x false (block_in_use h b))) y.0)
+  ]
+  free_then None None b f = refl
+
+  -- the words with these bits changed are those of the blocks that are free then
+  pub marks_push : (words others : List ℕ) (freed : Option ℕ) → MarksFree s h words → IsFreed h e.what freed → length others ≡ length words →
+      ((b : ℕ) → in_words others b ≡ free_after (taken_block e.what) freed b (in_words words b)) → MarksFree s k others
+  marks_push words others freed a f size changed = record {
+    marked = λ b.
+        changed b
+        ∙ ap (free_after (taken_block e.what) freed b) (a.marked b)
+        ∙ free_then (taken_block e.what) freed b (inside freed f)
+        ∙ ap (λ x. nat_lt b s.blocks && not x) (sym (used (taken_block e.what) freed refl f b));
+    size = omega (arith, size, a.size);
+  } where
+    inside : (o : Option ℕ) → IsFreed h e.what o → IsInsideNode o
+    inside None f = tt
+    inside (Some c) f = (m.from f.0 c f.2).below
+
+-- ---- where a page that is known by its slot lies
+
+-- a page that is held in a block lies there
+pub lies_held : (s : Shape) (h : History) (t : Table) (q : List ℕ) (p b : ℕ) → IsNode s h t q → HoldsPage (slot_at t b) p → block_of h p ≡ Some b
+lies_held s h t q p b node held = (found s h t q p b node held).home
+
+-- and one that no block holds lies nowhere
+pub lies_nowhere : (s : Shape) (h : History) (t : Table) (q : List ℕ) (p : ℕ) → IsNode s h t q → ((b : ℕ) → HoldsPage (slot_at t b) p → ⊥) → block_of h p ≡ None
+lies_nowhere s h t q p node none = go (block_of h p) refl where
+  go : (o : Option ℕ) → block_of h p ≡ o → o ≡ None
+  go None e = refl
+  go (Some b) e =
+      let w = at_home s h t q p b node e in
+      let P : Option Slot → Type 0 = λ o. HoldsPage o p in
+      absurd (none b (subst P (sym w.at) w.id_is))
+
+-- the block where the page was found that is freed
+pub freed_found : (s : Shape) (h : History) (t : Table) (q : List ℕ) (w : What) (p : ℕ) (o : Option ℕ) → IsNode s h t q → frees p w ≡ true → ((r : ℕ) → frees r w ≡ true → Some p ≡ Some r) →
+    MatchOption o ((b : ℕ) → HoldsPage (slot_at t b) p → ⊥) (λ b. HoldsPage (slot_at t b) p) → IsFreed h w o
+freed_found s h t q w p None node f same none = λ r g.
+    let is : p ≡ r = let e : Some p ≡ Some r = same r g in cc in
+    ap (block_of h) (sym is) ∙ lies_nowhere s h t q p node none
+freed_found s h t q w p (Some b) node f same held = (p, f, lies_held s h t q p b node held)
+
+-- it is one of the node's, and has a bit
+pub freed_inside : (s : Shape) (h : History) (w : What) (words : List ℕ) (o : Option ℕ) → IsLegal s h → MarksFree s h words → IsFreed h w o → IfSome o (λ b. b < 64 * length words)
+freed_inside s h w words None legal a f = tt
+freed_inside s h w words (Some b) legal a f = omega (arith, ((legal_homed s h legal).from f.0 b f.2).below, a.size)
+
+-- ---- the least free block
+
+pub least_found : (s : Shape) (h : History) (words : List ℕ) (b : ℕ) → MarksFree s h words → in_words words b ≡ true → ((k : ℕ) → k < b → in_words words k ≡ false) → b ≡ least_free s h
+unfolding least_free
+least_found s h words b a there least =
+    let both = and_both _ _ (sym (a.marked b) ∙ there) in
+    let within : b < s.blocks = inside b s.blocks both.0 in
+    sym (first_found (λ i. not (block_in_use h i)) 0 s.blocks b (omega arith) (omega (arith, within)) both.1 (λ i l. second (nat_lt i s.blocks) _ (lt-ltb i s.blocks (omega (arith, within))) (sym (a.marked i) ∙ least i l))) where
+      inside : (i j : ℕ) → nat_lt i j ≡ true → i < j
+      inside i j e = grind arith
+
+      second : (x y : Bool) → x ≡ true → (x && y) ≡ false → y ≡ false
+      second true y e f = f
+      second false y e f = absurd (cc)
+
+pub least_missing : (s : Shape) (h : History) (words : List ℕ) → MarksFree s h words → ((k : ℕ) → in_words words k ≡ false) → 0 ≡ least_free s h
+unfolding least_free
+least_missing s h words a none =
+    sym (first_none (λ i. not (block_in_use h i)) 0 s.blocks (λ i l. second (nat_lt i s.blocks) _ (lt-ltb i s.blocks (omega arith)) (sym (a.marked i) ∙ none i))) where
+      second : (x y : Bool) → x ≡ true → (x && y) ≡ false → y ≡ false
+      second true y e f = f
+      second false y e f = absurd (cc)
+
+-- ---- no event yet
+
+no_use : (b : ℕ) → block_in_use [] b ≡ false
+unfolding some_event
+no_use b = refl
+
+pub marks_none : (s : Shape) (words : List ℕ) → ((b : ℕ) → in_words words b ≡ nat_lt b s.blocks) → s.blocks ≤ 64 * length words → MarksFree s [] words
+marks_none s words f size = record {
+  marked = λ b. f b ∙ sym (ap (λ u. nat_lt b s.blocks && not u) (no_use b) ∙ and-true (nat_lt b s.blocks));
+  size = size;
+}

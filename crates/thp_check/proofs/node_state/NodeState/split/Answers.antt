@@ -1,0 +1,43 @@
+use Rattle.std.proofs.Common.{◌≡◌, Bool, ℕ, Contains, refl, sym, ◌∙◌, subst}
+use Rattle.thp_model.specs.Pages.{PageSplit}
+use Rattle.thp_model.specs.Underused.{shrinks_underused}
+use Rattle.thp_model.proofs.WordLemmas.{same_set-Decides}
+use Rattle.thp_check.proofs.Deciding.{tested}
+use Rattle.thp_check.specs.Flights.{blocks_in}
+use Rattle.thp_check.proofs.TakeSteps.{split_absent, split_idle, split_goes, split_tells, flies_whole, same_slot, is_there, same_some}
+use Rattle.thp_check.proofs.node_state.NodeState.split.Goals as goal
+
+pub returns-in-None : goal.returns-in-None
+returns-in-None c = λ s h m f. split_absent s h _ c.args.caller c.args.page c.args.released c.args.self.now m c.in-None.ensures.none f
+
+pub returns-then-not-is_worth : goal.returns-then-not-is_worth
+returns-then-not-is_worth c = λ s h m f.
+    let at = c.in-Some.ensures.there in
+    split_idle s h c.args.caller c.args.page c.in-Some.block c.args.self.now m at c.args.released (sym (c.is_worth.ensures at.slot at.at) ∙ c.if-not-is_worth.true) f
+
+pub split-given-requires-clause-allowed : goal.split-given-requires-clause-allowed
+split-given-requires-clause-allowed c = λ x e.
+    let k = c.requires in
+    let at = c.in-Some.ensures.there in (
+      flies_whole k.shape k.history c.args.caller c.args.page c.in-Some.block c.args.self.now k.means at x e,
+      sym (c.pins.ensures x e) ∙ c.if-pins-ne0.false,
+      λ q. let same : x ≡ at.slot = same_slot x at.slot (sym e ∙ at.at) in let stands = at.stands in cc,
+    )
+
+pub returns : goal.returns
+returns c = λ s h m.
+    let at = c.in-Some.ensures.there in
+    let did = c.split-given.ensures at.slot at.at in
+    let P : Bool → Type 0 = λ z. PageSplit z at.slot.page did.0 in
+    let how : P (shrinks_underused c.args.self.now.shape) = subst P c.shrinks_underused.ensures did.1 in
+    tested c.eq.result (c.split-given.result ≡ c.args.released) _ _
+    (λ e. (same_set-Decides c.split-given.result c.args.released).0 (sym c.eq.ensures ∙ e))
+    (λ e. c.eq.ensures ∙ (same_set-Decides c.split-given.result c.args.released).1 e)
+    (λ e. split_goes s h c.args.caller c.args.page c.in-Some.block c.args.self.now m at c.args.released _ did.0 how (sym (c.is_worth.ensures at.slot at.at) ∙ c.if-not-is_worth.false) (sym (c.pins.ensures at.slot at.at) ∙ c.if-pins-ne0.false) (sym e ∙ did.2) did.3 c.leave.ensures.left c.leave.ensures.size refl refl refl)
+    (λ f. did.2 ∙ split_tells s h c.args.caller c.args.page c.in-Some.block c.args.self.now m at c.args.released did.0 how f)
+
+pub leave-requires : goal.leave-requires
+leave-requires c = λ d e.
+    let k = c.requires in
+    let P : ℕ → Type 0 = λ n. Contains (blocks_in c.args.self.now.flights n) c.in-Some.block in
+    subst P (same_some c.args.caller d e) (is_there k.shape k.history c.args.caller c.args.page c.in-Some.block c.args.self.now k.means c.in-Some.ensures.there)

@@ -1,0 +1,14 @@
+-- What contracts see of a replay.
+use Rattle.std.specs.Prelude.{[], ◌∷◌, ◌++◌}
+use Rattle.thp_model.specs.declared.events.Event.{Event}
+use Rattle.thp_model.specs.declared.shape.Shape.{Shape}
+use Rattle.thp_model.specs.History.{History}
+
+-- the node's shape, and the events so far
+pub record Replayed : Type 0 where
+  pub shape : Shape
+  pub history : History
+
+-- the same with one more event
+abbrev pub with_event : Replayed → Event → Replayed
+with_event r e = record { shape = r.shape; history = r.history ++ e ∷ [] }

@@ -1,0 +1,358 @@
+//! What a node holds after the events of a history so far.
+ghost use Rattle.std.specs.Prelude.{◌≡◌, ◌<◌, ◌≤◌, ◌+◌, ◌^◌, ℕ, [], ◌||◌, not, slice_get, Some, IfNone, IfOk, IfSome, IsSome, IsTrue, ◌↔◌};
+ghost use Rattle.thp_model.specs.Limits.{max_order, min_order};
+ghost use Rattle.thp_model.specs.Pages.{is_worth};
+ghost use Rattle.thp_model.specs.Places.{no_pages, takes_by};
+ghost use Rattle.thp_page.specs.Slots.{slot_at};
+ghost use Rattle.thp_live_pages.specs.Flying.{IsFlyingAt};
+ghost use Rattle.thp_model.specs.PageCalls.{gain_what, loss_what};
+ghost use Rattle.thp_live_pages.specs.PlacesState.{AtSlot};
+ghost use Rattle.thp_check.specs.Flights.{blocks_in};
+ghost use Rattle.thp_check.specs.Meanings.{is_taker};
+
+use crate::flights::Flights;
+use std::alloc::{AllocError, Global};
+use thp_live_pages::Places;
+use thp_model::{Done, Event, Gain, Loss, Outcome, PageId, Shape, SubSet, What};
+
+// The state after the events so far. Once an event didn't fit it may be any.
+#[derive(Drop)]
+pub(crate) struct NodeState {
+    pub(crate) shape: Shape,
+    pub(crate) places: Places,
+    flights: Flights,
+    // how many pages were allocated: the next page's number
+    next: u64,
+    closed: bool,
+    // the caller of the last event, if that was a take
+    taker: Option<u32>,
+}
+
+impl NodeState {
+    ghost use Rattle.thp_check.specs.Meanings.{Means, IsKnown, IsNeverFirst, Follows, Admits};
+
+    // The state before any event.
+    pub(crate) fn new(alloc: Global, shape: Shape) -> Result<NodeState, AllocError>
+        requires least { min_order ≤ shape.order }
+        requires most { shape.order ≤ max_order }
+        ensures { IfOk result (Means shape []) }
+    {
+        let places = Places::new(alloc, shape)?;
+        let flights = Flights::new(alloc, shape.blocks)?;
+        Ok(NodeState {
+            shape,
+            places,
+            flights,
+            next: 0,
+            closed: false,
+            taker: None,
+        })
+    }
+
+    // Whether an event fits, and the state after it where it does.
+    pub(crate) fn admit(&mut self, event: &Event) -> bool
+        requires known { IsKnown self.old }
+        requires small { self.old.next + 1 < 2 ^ 64 }
+        ensures { Admits self.old self.new event.now result }
+    {
+        let fits = self.apply(event.caller, &event.what);
+        self.taker = taker_of(event);
+        fits
+    }
+
+    // `admit`, but for the note whether the event is a take.
+    fn apply(&mut self, caller: u32, what: &What) -> bool
+        requires known { IsKnown self.old }
+        requires small { self.old.next + 1 < 2 ^ 64 }
+        ensures { Follows self.old self.new caller what.now result }
+    {
+        match *what {
+            What::Alloc { page, block } => self.alloc(page, block),
+            What::MapWhole { page } => self.gain(page, Gain::MapWhole),
+            What::UnmapWhole {
+                outcome,
+                page,
+                released,
+            } => self.lose(page, Loss::UnmapWhole, outcome, released),
+            What::MapSub { page, first, count } => match short(first, count) {
+                Some((first, count)) => self.gain(page, Gain::MapSub { first, count }),
+                None => false,
+            },
+            What::UnmapSub {
+                outcome,
+                page,
+                first,
+                count,
+                released,
+            } => match short(first, count) {
+                Some((first, count)) => {
+                    self.lose(page, Loss::UnmapSub { first, count }, outcome, released)
+                }
+                None => false,
+            },
+            What::SplitPmd { page } => self.gain(page, Gain::SplitPmd),
+            What::Pin { page } => self.gain(page, Gain::Pin),
+            What::Unpin {
+                outcome,
+                page,
+                released,
+            } => self.lose(page, Loss::Unpin, outcome, released),
+            What::Write { page, first, count } => match short(first, count) {
+                Some((first, count)) => self.gain(page, Gain::Write { first, count }),
+                None => false,
+            },
+            What::Zero { page, first, count } => match short(first, count) {
+                Some((first, count)) => self.gain(page, Gain::Zero { first, count }),
+                None => false,
+            },
+            What::Taken { page } => self.take(caller, page),
+            What::Split { page, released } => self.split(caller, page, released),
+            What::Pinned { page } => self.is_pinned(caller, page),
+            What::Used { page } => self.leave_used(caller, page),
+            What::Back { page } => self.put_back(caller, page),
+            What::Dropped { page } => self.drop_page(caller, page),
+            What::Close => self.close(),
+        }
+    }
+
+    // A new page.
+    fn alloc(&mut self, page: PageId, block: u32) -> bool
+        requires known { IsKnown self.old }
+        requires small { self.old.next + 1 < 2 ^ 64 }
+        ensures { (c : ℕ) → Follows self.old self.new c (What.Alloc page block) result }
+    {
+        if self.closed || page.0 != self.next {
+            return false;
+        }
+        if !self.places.is_free(block) {
+            return false;
+        }
+        let queued = self.shape.shrinks_underused();
+        self.places.place(block, page, queued);
+        self.next += 1;
+        true
+    }
+
+    // A page that gets mappings, a pin, data or zeros.
+    fn gain(&mut self, page: PageId, gain: Gain) -> bool
+        ensures { (c : ℕ) → Follows self.old self.new c (gain_what gain page) result }
+    {
+        let block = match self.places.find(page) {
+            Some(block) => block,
+            None => return false,
+        };
+        match self.places.gain(block, gain) {
+            Ok(()) => true,
+            Err(_) => false,
+        }
+    }
+
+    // A page that loses mappings or a pin, with the outcome and the frames that the event tells.
+    fn lose(&mut self, page: PageId, loss: Loss, outcome: Outcome, released: SubSet) -> bool
+        requires { IsKnown self.old }
+        ensures { (c : ℕ) → Follows self.old self.new c (loss_what loss page outcome released) result }
+    {
+        let block = match self.places.find(page) {
+            Some(block) => block,
+            None => return false,
+        };
+        let mut done = Done::none();
+        let left = match self.places.lose(block, loss, self.closed, &mut done) {
+            Ok(left) => left,
+            Err(_) => return false,
+        };
+        self.flights.leave(left, block);
+        is_told(&done, outcome, released)
+    }
+
+    // A take of the oldest page.
+    fn take(&mut self, caller: u32, page: PageId) -> bool
+        requires { IsKnown self.old }
+        ensures { Follows self.old self.new caller (What.Taken page) result }
+    {
+        if !self.may_take(caller) {
+            return false;
+        }
+        let block = match self.places.find(page) {
+            Some(block) => block,
+            None => return false,
+        };
+        if self.places.queue().len() == 0 {
+            return false;
+        }
+        let first = self.places.take_first(caller);
+        if first != page {
+            return false;
+        }
+        self.flights.join(caller, block);
+        true
+    }
+
+    // Whether a caller has no page in flight, or goes on taking.
+    fn may_take(&self, caller: u32) -> bool
+        ensures { result ≡ (no_pages (blocks_in self.now.flights caller) || is_taker self.now.taker caller) }
+    {
+        if let None = self.flights.first_of(caller) {
+            return true;
+        }
+        match self.taker {
+            Some(taker) => taker == caller,
+            None => false,
+        }
+    }
+
+    // A try that splits a page of the caller's flight, with the frames that the event tells.
+    fn split(&mut self, caller: u32, page: PageId, released: SubSet) -> bool
+        requires { IsKnown self.old }
+        ensures { Follows self.old self.new caller (What.Split page released) result }
+    {
+        let block = match self.places.find_in_batch(page, caller) {
+            Some(block) => block,
+            None => return false,
+        };
+        if !self.is_worth(block) {
+            return false;
+        }
+        if self.places.pins(block) != 0 {
+            return false;
+        }
+        let given = self.places.split(block, self.shape.shrinks_underused());
+        self.flights.leave(Some(caller), block);
+        given == released
+    }
+
+    // A try that finds a page of the caller's flight pinned.
+    fn is_pinned(&self, caller: u32, page: PageId) -> bool
+        ensures { Follows self.now self.now caller (What.Pinned page) result }
+    {
+        let block = match self.places.find_in_batch(page, caller) {
+            Some(block) => block,
+            None => return false,
+        };
+        if !self.is_worth(block) {
+            return false;
+        }
+        self.places.pins(block) != 0
+    }
+
+    // A try that finds a page of the caller's flight in use, which leaves the flight and goes nowhere.
+    fn leave_used(&mut self, caller: u32, page: PageId) -> bool
+        requires { IsKnown self.old }
+        ensures { Follows self.old self.new caller (What.Used page) result }
+    {
+        let block = match self.places.find_in_batch(page, caller) {
+            Some(block) => block,
+            None => return false,
+        };
+        if self.is_worth(block) {
+            return false;
+        }
+        self.places.drop_out(block);
+        self.flights.leave(Some(caller), block);
+        true
+    }
+
+    // Whether the page of a block is worth a split.
+    fn is_worth(&self, block: u32) -> bool
+        requires { IsSome (slot_at self.now.places.table block) }
+        ensures { AtSlot self.now.places.table block (λ x. result ≡ is_worth self.now.shape.underused x.page) }
+    {
+        self.places.is_worth(block, self.shape.underused)
+    }
+
+    // A put-back of the first page of the caller's flight.
+    fn put_back(&mut self, caller: u32, page: PageId) -> bool
+        requires { IsKnown self.old }
+        ensures { Follows self.old self.new caller (What.Back page) result }
+    {
+        let block = match self.find_first(caller, page) {
+            Some(block) => block,
+            None => return false,
+        };
+        if self.is_dropped(block) {
+            return false;
+        }
+        self.places.enqueue(block);
+        self.flights.leave(Some(caller), block);
+        true
+    }
+
+    // The first page of the caller's flight, which goes nowhere.
+    fn drop_page(&mut self, caller: u32, page: PageId) -> bool
+        requires { IsKnown self.old }
+        ensures { Follows self.old self.new caller (What.Dropped page) result }
+    {
+        let block = match self.find_first(caller, page) {
+            Some(block) => block,
+            None => return false,
+        };
+        if !self.is_dropped(block) {
+            return false;
+        }
+        self.places.drop_out(block);
+        self.flights.leave(Some(caller), block);
+        true
+    }
+
+    // Whether the page of a block, where it leaves a batch, is dropped rather than put back.
+    fn is_dropped(&self, block: u32) -> bool
+        requires { IsSome (slot_at self.now.places.table block) }
+        ensures { AtSlot self.now.places.table block (λ x. result ≡ (self.now.closed || not x.page.partly)) }
+    {
+        self.closed || !self.places.is_partly(block)
+    }
+
+    // The block of a page that is the first of a caller's flight.
+    fn find_first(&self, caller: u32, page: PageId) -> Option<u32>
+        ensures there { IfSome result (IsFlyingAt self.now.places.table caller page) }
+        ensures first { IfSome result (λ b. slice_get (blocks_in self.now.flights caller) 0 ≡ Some b) }
+        ensures none { IfNone result (IsNeverFirst self.now caller page) }
+    {
+        let block = self.places.find_in_batch(page, caller)?;
+        if self.flights.is_first(caller, block) {
+            Some(block)
+        } else {
+            None
+        }
+    }
+
+    // The close of the node.
+    fn close(&mut self) -> bool
+        ensures { (c : ℕ) → Follows self.old self.new c What.Close result }
+    {
+        if self.closed {
+            return false;
+        }
+        self.closed = true;
+        true
+    }
+}
+
+// The caller of an event that is a take.
+fn taker_of(event: &Event) -> Option<u32>
+    ensures { (c : ℕ) → takes_by c event.now.caller event.now.what ≡ is_taker result c }
+{
+    match event.what {
+        What::Taken { .. } => Some(event.caller),
+        _ => None,
+    }
+}
+
+// Whether an event tells the outcome and the frames that there were.
+fn is_told(done: &Done, outcome: Outcome, released: SubSet) -> bool
+    ensures { IsTrue result ↔ ((done.now.outcome ≡ outcome) × (done.now.released ≡ released)) }
+{
+    done.outcome == outcome && done.released == released
+}
+
+// The operands of a range as a page call has them, where they aren't too large for any page.
+fn short(first: u32, count: u32) -> Option<(u16, u16)>
+    ensures first { IfSome result (λ r. r.0 ≡ first) }
+    ensures count { IfSome result (λ r. r.1 ≡ count) }
+    ensures none { IfNone result (¬ ((first ≤ 65535) × (count ≤ 65535))) }
+{
+    if first > 65_535 || count > 65_535 {
+        return None;
+    }
+    Some((first as u16, count as u16))
+}

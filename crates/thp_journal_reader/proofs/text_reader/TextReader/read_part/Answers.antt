@@ -1,0 +1,66 @@
+use Rattle.std.proofs.Common.{◌≡◌, ◌∙◌, ◌++◌, ◌∷◌, ◌+◌, ℕ, ap, refl, rules, subst, sym, Ok}
+use Rattle.thp_text.specs.TextInParts.{after_line, told_behind, with_begun, with_fault, TextSoFar}
+use Rattle.thp_text.specs.Words.{Text, lines_of}
+use Rattle.thp_text.proofs.TextLaws.{fault_comes, line_begins}
+use Rattle.thp_journal_reader.specs.JournalLines.{line_in}
+use Rattle.thp_journal_reader.specs.Parts.{lines_tell}
+use Rattle.thp_journal_reader.specs.Reading.{with_line}
+use Rattle.thp_journal_reader.proofs.PartLaws.{line_is_wrong, line_tells}
+use Rattle.thp_journal_reader.proofs.text_reader.TextReader.read_part.Goals as goal
+use Rattle.thp_journal_reader.proofs.text_reader.TextReader.read_part.Goals.{in-Some+in-Err, in_default}
+
+pub loop-text-preserved : goal.loop-text-preserved
+loop-text-preserved g c =
+    let told = g.N.KeepsNodes.told in
+    let l = c.loop-text in
+    let bytes = c.as_slice.result.now in
+    let said = c.in-Ok.said in
+    let after : c.next_line.new.self ≡ after_line l.text = search rules in
+    let lines : (more : Text) → lines_of (l.text.begun ++ (l.rest.now ++ more)) ≡ bytes ∷ lines_of (c.next_line.new.rest.now ++ more) = search rules in
+    let says : Ok said ≡ line_in l.place bytes = c.in-Ok.ensures.value in
+    let number : c.in-Some.field-0.number ≡ l.text.line = rw c.in-Some.is at c.in_ok-number.ensures.number in
+    let added : told c.add.new.self ≡ with_line l.text.line (told l.nodes) said = rw number at c.in_ok-add-in-Ok.ensures.nodes in
+    record {
+      tells = λ more. rw (after, added, c.place_after-place.ensures)
+          (ap (told_behind l.text more) (sym (line_tells (told l.nodes) l.place l.text.line (l.text.begun ++ (l.rest.now ++ more)) bytes (c.next_line.new.rest.now ++ more) said (lines more) says)) ∙ l.invariant.tells more);
+      counted = search rules;
+      along = let P : ℕ → Type 0 = λ k. g.N.KeepsNodes.goes_along (k + 1) c.add.new.self in rw after (subst P number c.in_ok-add-in-Ok.ensures.along);
+    }
+
+pub returns-clause-text : goal.returns-clause-text
+returns-clause-text g c = λ more.
+    let told = g.N.KeepsNodes.told in
+    let l = c.loop-text in
+    let new = c.match-branch-2.text in
+    let reads = lines_tell (told l.nodes) l.place in
+    elim c.match-branch-2.branch [
+      | in-Some+in-Err w ↦ (
+          let kind = w.in-Err.kind in
+          let after : c.next_line.new.self ≡ after_line l.text = search rules in
+          let number : w.in-Some.field-0.number ≡ l.text.line = rw w.in-Some.is at c.in_ok-number.ensures.number in
+          let line : lines_of (l.text.begun ++ (l.rest.now ++ more)) ≡ w.as_slice.result.now ∷ lines_of (c.next_line.new.rest.now ++ more) = rw w.as_slice.ensures.value ((rw w.in-Some.is at c.in_ok-number.ensures.line) more) in
+          let is : new ≡ with_fault (after_line l.text) (l.text.line, kind) = rw (w.text-is, w.note_fault.ensures, after, number) refl in
+          let wrong = line_is_wrong (told l.nodes) l.place l.text.line (l.text.begun ++ (l.rest.now ++ more)) w.as_slice.result.now (c.next_line.new.rest.now ++ more) kind line w.in-Err.ensures.value in
+          fault_comes (after_line l.text) new (l.text.line, kind) more (reads new.line (new.begun ++ more)) is ∙ ap (told_behind l.text more) (sym wrong) ∙ l.invariant.tells more
+          )
+      | in_default w ↦ (
+          let begun : c.next_line.new.self ≡ with_begun l.text l.rest.now = search rules in
+          line_begins l.text new l.rest.now more reads (w.text-is ∙ begun) ∙ l.invariant.tells more
+          )
+    ]
+
+pub returns-clause-along : goal.returns-clause-along
+returns-clause-along g c =
+    let l = c.loop-text in
+    let P : TextSoFar → Type 0 = λ t. g.N.KeepsNodes.goes_along t.line l.nodes in
+    elim c.match-branch-2.branch [
+      | in-Some+in-Err w ↦ (
+          let after : c.next_line.new.self ≡ after_line l.text = search rules in
+          let is : c.match-branch-2.text ≡ with_fault (after_line l.text) (w.in-Some.field-0.number, w.in-Err.kind) = rw (w.text-is, w.note_fault.ensures, after) refl in
+          subst P (sym is) (g.met.N.KeepsNodes.later l.text.line l.nodes l.invariant.along)
+          )
+      | in_default w ↦ (
+          let begun : c.next_line.new.self ≡ with_begun l.text l.rest.now = search rules in
+          subst P (sym (w.text-is ∙ begun)) l.invariant.along
+          )
+    ]
