@@ -1,15 +1,14 @@
 -- The blocks where no live page lies, after one more event.
-use Rattle.std.proofs.Common.{◌≡◌, ◌≢◌, ℕ, ◌*◌, ◌<◌, ◌≤◌, Bool, true, false, cond, not, ◌&&◌, nat_eq, nat_lt, List, [], ◌∷◌, ◌++◌, length, Option, Some, None, refl, ap, sym, ◌∙◌, subst, arith, inl, inr, eq-eqb, eqb-true, ne_eqb}
+use Rattle.std.proofs.Common.{◌≡◌, ◌≢◌, ℕ, ◌*◌, ◌<◌, ◌≤◌, Bool, true, false, cond, not, ◌&&◌, nat_eq, nat_lt, List, [], ◌∷◌, ◌++◌, length, Option, Some, None, refl, ap, sym, ◌∙◌, subst, arith, inl, inr, eq-eqb, eqb-true}
 use Rattle.std.specs.Prelude.{⊤, IfSome, MatchOption}
-use Rattle.std.specs.List.{range_with_len}
-use Rattle.std.proofs.lemmas.Bool.{cases_lt, lt-ltb, le-ltb}
+use Rattle.std.proofs.lemmas.Bool.{lt-ltb}
 use Rattle.std.proofs.lemmas.Bool.Decides.{eqb_tells}
 use Rattle.thp_model.specs.declared.events.Event.{Event}
 use Rattle.thp_model.specs.declared.events.Outcome.{Outcome}
 use Rattle.thp_model.specs.declared.events.What.{What}
 use Rattle.thp_model.specs.declared.events.What.TheVariants.{Alloc, UnmapWhole, UnmapSub, Unpin}
 use Rattle.thp_model.specs.declared.shape.Shape.{Shape}
-use Rattle.thp_model.specs.BlockLaws.{first_that, least_free}
+use Rattle.thp_model.specs.BlockLaws.{least_free}
 use Rattle.thp_model.specs.Counts.{allocates, frees, is_freed, is_live}
 use Rattle.thp_model.specs.Frames.{block_in_use}
 use Rattle.thp_model.specs.History.{History, some_event}
@@ -21,8 +20,8 @@ use Rattle.thp_page.specs.Slots.{slot_at, HoldsPage}
 use Rattle.thp_page.specs.Table.{Slot, Table}
 use Rattle.thp_live_pages.specs.Holding.{IsNode}
 use Rattle.thp_live_pages.specs.Homes.{block_of, block_after}
-use Rattle.thp_live_pages.proofs.Admitting.{Found, found, at_home}
-use Rattle.thp_live_pages.proofs.Homing.{Homed, legal_homed, block_push, block_stays, block_freed, block_free, block_taken, alloc_of}
+use Rattle.thp_live_pages.proofs.Admitting.{found, at_home}
+use Rattle.thp_live_pages.proofs.Homing.{Homed, legal_homed, block_push, block_stays, block_freed, block_free, block_taken}
 use Rattle.thp_least_blocks.proofs.Least.{first_found, first_none}
 use Rattle.thp_check.specs.Freeing.{MarksFree, IsFreed, free_after, taken_block}
 

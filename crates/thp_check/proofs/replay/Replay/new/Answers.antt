@@ -1,4 +1,4 @@
-use Rattle.std.proofs.Common.{◌≡◌, [], ap, sym, subst, List, ℕ}
+use Rattle.std.proofs.Common.{◌≡◌, [], sym, subst}
 use Rattle.thp_model.specs.declared.shape.Shape.{Shape}
 use Rattle.thp_model.specs.History.{History}
 use Rattle.thp_check.specs.declared.node_state.NodeState.{NodeState}
