@@ -3,13 +3,6 @@ use crate::event::{Event, Outcome, Shape, What};
 use crate::node::{Node, Tried};
 use crate::text::{Kind, TextFault, Words, last_words, number, read_lines, set_of, small_number, words_of};
 
-/// What a text tells of a node: its shape, the line of its first event, and its events.
-pub struct Told {
-    shape: Shape,
-    line: usize,
-    events: Vec<Event>,
-}
-
 enum Line {
     Head(u32),
     Node(u32, Shape),
@@ -17,38 +10,32 @@ enum Line {
     End,
 }
 
-/// The journals that a text tells, or its first fault.
-pub fn read_journals(text: &[u8]) -> Result<Vec<Told>, TextFault> {
-    let mut told: Vec<Told> = Vec::new();
-    let (mut version, mut ended) = (None, false);
+/// The line of the first event that doesn't fit those before it, if there is one, or the text's first fault. Each event is
+/// replayed as its line is read, and none is kept.
+pub fn first_illegal(text: &[u8]) -> Result<Option<usize>, TextFault> {
+    let (mut version, mut ended, mut nodes) = (None, false, 0);
+    let (mut node, mut illegal) = (None, None);
     let lines = read_lines(text, |number, line| {
         let line = line_of(line, version.unwrap_or(1))?;
         let is_begun = version.is_some() && !ended;
-        let is_inside = is_begun && !told.is_empty();
-        match line {
-            Line::Head(first) if version.is_none() => version = Some(first),
-            Line::Node(at, shape) if is_begun && at as usize == told.len() => {
-                told.push(Told { shape, line: number + 1, events: Vec::new() });
+        match (line, &mut node) {
+            (Line::Head(first), _) if version.is_none() => version = Some(first),
+            (Line::Node(at, shape), _) if is_begun && at == nodes => {
+                node = Some(Node::new(shape));
+                nodes += 1;
             }
-            Line::Happened(event) if is_inside => told.last_mut().unwrap().events.push(event),
-            Line::End if is_inside => ended = true,
+            (Line::Happened(event), Some(node)) if is_begun => {
+                node.journal.clear();
+                if illegal.is_none() && !is_replayed(node, &event) {
+                    illegal = Some(number);
+                }
+            }
+            (Line::End, Some(_)) if is_begun => ended = true,
             _ => return Err(Kind::BadOrder),
         }
         Ok(())
     })?;
-    if ended { Ok(told) } else { Err(TextFault { line: lines + 1, kind: Kind::Cut }) }
-}
-
-/// The line of the first event that doesn't fit those before it.
-pub fn first_illegal(told: &[Told]) -> Option<usize> {
-    told.iter().find_map(|Told { shape, line, events }| {
-        let mut node = Node::new(*shape);
-        let misfit = events.iter().position(|event| {
-            node.journal.clear();
-            !is_replayed(&mut node, event)
-        });
-        misfit.map(|at| line + at)
-    })
+    if ended { Ok(illegal) } else { Err(TextFault { line: lines + 1, kind: Kind::Cut }) }
 }
 
 // does what an event tells of, and answers whether that is what happens

@@ -91,11 +91,7 @@ fn serve() -> Result<bool, Fault> {
 }
 
 fn check() -> Result<bool, Fault> {
-    let told = {
-        let input = read_input()?;
-        check::read_journals(&input)?
-    };
-    let illegal = check::first_illegal(&told);
+    let illegal = check::first_illegal(&read_input()?)?;
     let verdict = illegal.map_or("legal\n".into(), |line| format!("illegal line {line}\n"));
     write_output(verdict.as_bytes())?;
     Ok(illegal.is_none())

@@ -13,9 +13,9 @@ use thp_model::{CheckFault, Event, Shape};
 /// threshold. Fails with `Illegal` at the first event that doesn't fit, and with `OutOfMemory` where the memory for the pages
 /// and flights of the replay is refused.
 ///
-/// It takes one pass, and all its memory before the first event, however long the history is. An event takes no more work
-/// where more pages are queued or in flight, but that the first page of a caller is looked for behind those of callers that
-/// are the same in their low six bits.
+/// It takes one pass, and memory for the pages and flights of the node, however long the history is. An event takes no more
+/// work where more pages are queued or in flight, but that the first page of a caller is looked for behind those of callers
+/// that are the same in their low six bits.
 pub fn check(alloc: Global, shape: Shape, events: &[Event]) -> Result<(), CheckFault>
     requires least { min_order ≤ shape.order }
     requires most { shape.order ≤ max_order }
