@@ -11,7 +11,7 @@ abbrev pub left_from : ℕ → List ℕ → ℕ → ℕ
 left_from zero nexts at = 0
 left_from (suc n) nexts at = cond (nat_eq at NIL) 0 (suc (left_from n nexts (get_or nexts at 0)))
 
--- a chain that has an end of its own begins with one of its blocks
+-- where a chain isn't empty, its beginning is one of its blocks
 pub first_in : (nexts : List ℕ) (at : ℕ) (bs : List ℕ) → IsLinked nexts at bs → at ≢ NIL → Contains bs at
 first_in nexts at [] l real = absurd (real l)
 first_in nexts at (b ∷ bs) l real = let P : ℕ → Type 0 = λ x. Contains (b ∷ bs) x in subst P (sym l.0) (Contains-head b bs)
