@@ -35,6 +35,24 @@ impl Model for Worked {
     ghost view = { λ w. record { answers = w.answers.items; rest = w.rest; opened = w.opened.items } };
 }
 
+impl PartialEq for Worked {
+    ghost use Rattle.thp_run.specs.Comparing.{same_worked, same_worked-partial_equiv};
+
+    ghost eq = { same_worked };
+
+    ghost laws = { same_worked-partial_equiv };
+
+    fn eq(&self, other: &Worked) -> bool {
+        self.answers == other.answers && self.rest == other.rest && self.opened == other.opened
+    }
+}
+
+impl Eq for Worked {
+    ghost use Rattle.thp_run.specs.Comparing.{same_worked-equiv};
+
+    ghost laws = { same_worked-equiv };
+}
+
 /// The answers to the commands of a worker, in order; setup is worker 0.
 #[derive(Debug, Drop)]
 pub struct Section {
@@ -48,6 +66,24 @@ impl Model for Section {
     ghost Value = { SectionList };
 
     ghost view = { λ s. record { worker = s.worker; answers = s.answers.items } };
+}
+
+impl PartialEq for Section {
+    ghost use Rattle.thp_run.specs.Comparing.{same_section, same_section-partial_equiv};
+
+    ghost eq = { same_section };
+
+    ghost laws = { same_section-partial_equiv };
+
+    fn eq(&self, other: &Section) -> bool {
+        self.worker == other.worker && self.answers == other.answers
+    }
+}
+
+impl Eq for Section {
+    ghost use Rattle.thp_run.specs.Comparing.{same_section-equiv};
+
+    ghost laws = { same_section-equiv };
 }
 
 /// Does the commands of a section, in order, as steps of one caller, and puts back the batches that it left open.
