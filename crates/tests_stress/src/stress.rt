@@ -11,6 +11,7 @@ use std::time::Clock;
 use thp_check::check;
 use thp_node::Node;
 use thp_script_runs::Ran;
+use thp_sections::{KeptSection, kept_sections};
 use thp_text::{Script, Settings};
 
 // What the events of each node add up to.
@@ -23,26 +24,38 @@ fn tallies_of(alloc: Global, nodes: &[Node]) -> Option<Vec<Tally>> {
 }
 
 // Each section's answers are explained.
-fn explain_sections(rt: &impl Abort, alloc: Global, tallies: &[Tally], script: &Script, ran: &Ran) {
-    assert!(rt; ran.sections.len() == script.workers.as_slice().len() + 1);
-    for (number, section) in ran.sections.iter().enumerate() {
+fn explain_sections(
+    rt: &impl Abort,
+    alloc: Global,
+    tallies: &[Tally],
+    script: &Script,
+    nodes: &[Node],
+    sections: &[KeptSection],
+) {
+    assert!(rt; sections.len() == script.workers.as_slice().len() + 1);
+    for (number, section) in sections.iter().enumerate() {
         assert!(rt; section.worker as usize == number);
         let commands = match number.checked_sub(1) {
             Some(worker) => script.workers.as_slice().get(worker).expect(rt, "a worker"),
             None => &script.setup,
         };
         let commands = commands.as_slice();
-        let explained = explain_section(alloc, ran.nodes.as_slice(), tallies, commands, section);
+        let explained = explain_section(alloc, nodes, tallies, commands, section);
         assert!(rt; explained.is_some(), "section {number}");
     }
 }
 
 // The reports tell what the nodes and the answers say.
-fn tell_the_run(rt: &impl Abort, alloc: Global, settings: &Settings, tallies: &[Tally], ran: &Ran) {
-    let nodes = ran.nodes.as_slice();
+fn tell_the_run(
+    rt: &impl Abort,
+    alloc: Global,
+    settings: &Settings,
+    tallies: &[Tally],
+    nodes: &[Node],
+    sections: &[KeptSection],
+) {
     assert!(rt; is_journal(alloc, settings, nodes) == Some(true));
     assert!(rt; are_totals(alloc, settings, nodes, tallies) == Some(true));
-    let sections = ran.sections.as_slice();
     assert!(rt; are_answers(alloc, settings, nodes, sections) == Some(true));
 }
 
@@ -66,14 +79,19 @@ fn changes_of(nodes: &[Node]) -> usize {
 fn run_plan<R: Threads + Clock + Abort + Sync>(rt: &R, alloc: Global, plan: &Plan) -> usize {
     let settings = settings_of(rt, plan);
     let (script, ran) = ran(rt, alloc, plan, &settings);
-    assert!(rt; ran.nodes.len() == 8);
-    for node in ran.nodes.iter() {
+    let Ran { nodes, sections } = ran;
+    let nodes = nodes.as_slice();
+    assert!(rt; nodes.len() == 8);
+    for node in nodes {
         assert!(rt; check(alloc, node.shape(), node.journal()).is_ok());
     }
-    let tallies = tallies_of(alloc, ran.nodes.as_slice()).expect(rt, "a tally");
-    explain_sections(rt, alloc, tallies.as_slice(), &script, &ran);
-    tell_the_run(rt, alloc, &settings, tallies.as_slice(), &ran);
-    changes_of(ran.nodes.as_slice())
+    let tallies = tallies_of(alloc, nodes).expect(rt, "a tally");
+    let tallies = tallies.as_slice();
+    let sections = kept_sections(alloc, sections).expect(rt, "room");
+    let sections = sections.as_slice();
+    explain_sections(rt, alloc, tallies, &script, nodes, sections);
+    tell_the_run(rt, alloc, &settings, tallies, nodes, sections);
+    changes_of(nodes)
 }
 
 // Where workers take turns, of some 100,000 events.

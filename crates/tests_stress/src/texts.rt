@@ -6,7 +6,7 @@ use thp_journal_reader::{NodeJournal, check_text, read_journal};
 use thp_model::{Event, Outcome, PageId, Refusal, SubSet};
 use thp_node::{BackReply, Node, ScanReply, Tried};
 use thp_report::report_text;
-use thp_sections::{Reply, Section};
+use thp_sections::{KeptSection, Reply};
 use thp_text::{Report, Settings};
 
 // The report of this kind.
@@ -15,7 +15,7 @@ fn report_of(
     settings: &Settings,
     report: Report,
     nodes: &[Node],
-    sections: &[Section],
+    sections: &[KeptSection],
 ) -> Option<Vec<u8>> {
     let mut settings = *settings;
     settings.report = report;
@@ -67,7 +67,7 @@ pub(crate) fn are_answers(
     alloc: Global,
     settings: &Settings,
     nodes: &[Node],
-    sections: &[Section],
+    sections: &[KeptSection],
 ) -> Option<bool> {
     let told = report_of(alloc, settings, Report::Answers, nodes, sections)?;
     let mut text = String::new(alloc);
@@ -77,7 +77,11 @@ pub(crate) fn are_answers(
     Some(told.as_slice() == text.as_bytes())
 }
 
-fn write_section(text: &mut String, nodes: &[Node], section: &Section) -> Result<(), AllocError> {
+fn write_section(
+    text: &mut String,
+    nodes: &[Node],
+    section: &KeptSection,
+) -> Result<(), AllocError> {
     for place in 0..section.answers.len() {
         let Some(answer) = section.answers.get(place) else {
             return Err(AllocError);

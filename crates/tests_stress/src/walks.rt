@@ -6,7 +6,7 @@ use crate::tallies::Tally;
 use std::alloc::Global;
 use thp_model::Refusal;
 use thp_node::{Node, ScanReply, Tried};
-use thp_sections::{AnswerLog, Reply, Section};
+use thp_sections::{KeptAnswers, KeptSection, Reply};
 use thp_text::{Command, Op};
 
 // A caller on a node: the events that aren't explained yet, and the open batch.
@@ -123,7 +123,7 @@ fn is_so(holds: bool) -> Option<()> {
 fn explain_answers(
     alloc: Global,
     commands: &[Command],
-    answers: &AnswerLog,
+    answers: &KeptAnswers,
     walks: &mut Vec<Walk<'_>>,
 ) -> Option<()> {
     if answers.len() != commands.len() {
@@ -148,7 +148,7 @@ pub(crate) fn explain_section(
     nodes: &[Node],
     tallies: &[Tally],
     commands: &[Command],
-    section: &Section,
+    section: &KeptSection,
 ) -> Option<()> {
     let mut walks = Vec::new(alloc);
     for (node, tally) in nodes.iter().zip(tallies) {

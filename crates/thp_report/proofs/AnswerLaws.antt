@@ -6,12 +6,9 @@ use Rattle.std.proofs.lemmas.Option.{get_or_from_slice_get, slice_get_within}
 use Rattle.std.specs.declared.alloc.AllocError.{AllocError}
 use Rattle.thp_node.specs.declared.answers.Tried.{Tried}
 use Rattle.thp_node.specs.declared.answers.Tried.TheVariants as tried
-use Rattle.thp_sections.specs.declared.answer_log.Answers.{Answers}
-use Rattle.thp_sections.specs.declared.answer_log.Answers.TheVariants.{Kept, Counted}
 use Rattle.thp_sections.specs.declared.reply.Reply.{Reply}
 use Rattle.thp_sections.specs.declared.reply.Reply.TheVariants as reply
 use Rattle.thp_sections.specs.Does.{Reaction}
-use Rattle.thp_sections.specs.Logs.{if_kept}
 use Rattle.thp_journal_writer.specs.EventLines.{line_of}
 use Rattle.thp_journal_writer.specs.Journals.{ended}
 use Rattle.thp_report.specs.Answers.{tried_words, reply_words, reaction_words}
@@ -57,11 +54,6 @@ pub answer-put : (r : Result (Unit {0}) AllocError) (ws own : List (List ℕ)) (
 answer-put (Err e) ws own t t1 t2 t3 a b s o p q g = tt
 answer-put (Ok u) ws own t t1 t2 t3 a b s o p q g =
     g ∙ ap (λ x. x ++ ended (line_of ws)) (q ∙ ap (λ x. x ++ b ++ 32 ∷ []) p) ∙ line-goes_on ws t a b s ∙ ap (λ x. t ++ ended (line_of (a ∷ b ∷ x))) (sym o)
-
--- an answer of a log, where there is one, is the one at its place
-pub kept_answer : {A : Type 0} (are : Answers) (at : Option A) (answer : A) → Some answer ≡ if_kept are at → Some answer ≡ at
-kept_answer Kept at answer is = is
-kept_answer Counted at answer is = absurd cc
 
 -- what is left of a list from a place at which this stands
 pub drop_at_get : {A : Type 0} (xs : List A) (place : ℕ) (x : A) → Some x ≡ slice_get xs place → drop place xs ≡ x ∷ drop (place + 1) xs

@@ -5,39 +5,45 @@ ghost use Rattle.thp_journal_writer.specs.EventLines.{line_of};
 ghost use Rattle.thp_journal_writer.specs.Journals.{ended};
 ghost use Rattle.thp_report.specs.Answers.{refusal_word, tried_words, back_words, scan_words, used_words, reply_words, looks, answer_line, section_text, answers_text as text_of};
 ghost use Rattle.thp_report.specs.Reports.{shape_of};
+ghost use Rattle.thp_sections.specs.Logs.{kept_log};
 
 use std::alloc::{AllocError, Global};
 use thp_journal_writer::{put, put_number, put_outcome};
 use thp_model::Refusal;
 use thp_node::{Node, ScanReply, Tried};
-use thp_sections::{Answer, Reply, Section};
+use thp_sections::{Answer, KeptAnswers, KeptSection, Reply};
 
 /// The answers of the sections, in order, a line for each.
 #[tactic(auto, unfolding(crate::specs::Answers::answers_text))]
 pub(crate) fn answers_text(
     alloc: Global,
     nodes: &[Node],
-    sections: &[Section],
+    sections: &[KeptSection],
 ) -> Result<Vec<u8>, AllocError>
     ensures { IfOk result (λ text. text.items ≡ text_of (map shape_of nodes.now) sections.now) }
 {
     let mut text = Vec::new(alloc);
     for section in sections {
-        put_section(&mut text, nodes, section)?;
+        put_section(&mut text, nodes, section.worker, &section.answers)?;
     }
     Ok(text)
 }
 
-// the answers of a section; those that weren't kept can't be had, as if memory for them was refused
+// the answers of a worker's section
 #[tactic(auto, unfolding(crate::specs::Answers::section_text))]
-fn put_section(text: &mut Vec<u8>, nodes: &[Node], section: &Section) -> Result<(), AllocError>
-    ensures { OnOk result (text.new.items ≡ text.old.items ++ section_text (map shape_of nodes.now) section.now) }
+fn put_section(
+    text: &mut Vec<u8>,
+    nodes: &[Node],
+    worker: u32,
+    answers: &KeptAnswers,
+) -> Result<(), AllocError>
+    ensures { OnOk result (text.new.items ≡ text.old.items ++ section_text (map shape_of nodes.now) (record { worker = worker; answers = kept_log answers.now })) }
 {
-    for place in 0..section.answers.len() {
-        let Some(answer) = section.answers.get(place) else {
-            return Err(AllocError);
+    for place in 0..answers.len() {
+        let Some(answer) = answers.get(place) else {
+            unreachable!();
         };
-        put_answer(text, nodes, section.worker, &answer)?;
+        put_answer(text, nodes, worker, &answer)?;
     }
     Ok(())
 }

@@ -8,7 +8,7 @@ use crate::totals::totals_text;
 use std::alloc::{AllocError, Global};
 use thp_journal_writer::{NodeHistory, journal_text};
 use thp_node::Node;
-use thp_sections::Section;
+use thp_sections::KeptSection;
 use thp_text::{Report, Settings};
 
 /// The report that the settings ask for, of nodes that are numbered from 0 on and of the answers to the sections' commands.
@@ -18,6 +18,8 @@ use thp_text::{Report, Settings};
 /// - answers: a line for each answer, `S I ANSWER`, where section S is 0 for setup and K for worker K, and I is the command's
 ///   place in its section, from 1 on.
 ///
+/// Answers that were only counted can't be told, so the sections are such as keep theirs; the other reports don't look at them.
+///
 /// The text is written into one buffer, which grows. The only error is that it couldn't. A refusal for want of memory has no
 /// word: such a run has no report.
 #[tactic(auto, using(crate::proofs::ReportLaws::shapes_told))]
@@ -25,7 +27,7 @@ pub fn report_text(
     alloc: Global,
     settings: &Settings,
     nodes: &[Node],
-    sections: &[Section],
+    sections: &[KeptSection],
 ) -> Result<Vec<u8>, AllocError>
     ensures { IfOk result (λ text. text.items ≡ report_of settings.now.report (map told_of nodes.now) sections.now) }
 {

@@ -2,4 +2,5 @@ pub mod CallLaws
 pub mod DeviceLaws
 pub mod PassageLaws
 pub mod OutcomeLaws
+pub mod KeptLaws
 pub mod ListedLaws

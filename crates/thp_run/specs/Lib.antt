@@ -8,3 +8,4 @@ pub mod Verdicts
 pub mod Choices
 pub mod Outcomes
 pub mod Listed
+pub mod Comparing

@@ -13,7 +13,9 @@ use std::alloc::{AllocError, Global};
 use std::marker::Model;
 use thp_model::Refusal;
 use thp_node::{Node, Tried};
-use thp_sections::{Answer, AnswerLog, Answers, Gate, Reply, Rest, Steps};
+use thp_sections::{
+    Answer, AnswerLog, Answers, Gate, KeptAnswers, KeptSection, Reply, Rest, Steps,
+};
 use thp_text::{Command, Settings};
 
 /// What became of a section: the answers to its commands, in order, and where it stopped, if it did.
@@ -33,6 +35,24 @@ impl Model for Worked {
     ghost view = { λ w. record { answers = w.answers.items; rest = w.rest; opened = w.opened.items } };
 }
 
+impl PartialEq for Worked {
+    ghost use Rattle.thp_run.specs.Comparing.{same_worked, same_worked-partial_equiv};
+
+    ghost eq = { same_worked };
+
+    ghost laws = { same_worked-partial_equiv };
+
+    fn eq(&self, other: &Worked) -> bool {
+        self.answers == other.answers && self.rest == other.rest && self.opened == other.opened
+    }
+}
+
+impl Eq for Worked {
+    ghost use Rattle.thp_run.specs.Comparing.{same_worked-equiv};
+
+    ghost laws = { same_worked-equiv };
+}
+
 /// The answers to the commands of a worker, in order; setup is worker 0.
 #[derive(Debug, Drop)]
 pub struct Section {
@@ -46,6 +66,24 @@ impl Model for Section {
     ghost Value = { SectionList };
 
     ghost view = { λ s. record { worker = s.worker; answers = s.answers.items } };
+}
+
+impl PartialEq for Section {
+    ghost use Rattle.thp_run.specs.Comparing.{same_section, same_section-partial_equiv};
+
+    ghost eq = { same_section };
+
+    ghost laws = { same_section-partial_equiv };
+
+    fn eq(&self, other: &Section) -> bool {
+        self.worker == other.worker && self.answers == other.answers
+    }
+}
+
+impl Eq for Section {
+    ghost use Rattle.thp_run.specs.Comparing.{same_section-equiv};
+
+    ghost laws = { same_section-equiv };
 }
 
 /// Does the commands of a section, in order, as steps of one caller, and puts back the batches that it left open.
@@ -111,11 +149,11 @@ pub fn report_text(
 ) -> Result<Vec<u8>, AllocError>
     ensures { IfOk result (λ text. text.items ≡ report_of settings.now.report (map told_of nodes.now) (sections_of sections.now)) }
 {
-    let mut logs = Vec::with_capacity(alloc, sections.len())?;
+    let mut kept = Vec::with_capacity(alloc, sections.len())?;
     for section in sections {
-        logs.push(with_log(alloc, section)?)?;
+        kept.push(to_kept(alloc, section)?)?;
     }
-    thp_report::report_text(alloc, settings, nodes, logs.as_slice())
+    thp_report::report_text(alloc, settings, nodes, kept.as_slice())
 }
 
 /// What a log kept, in a vector.
@@ -130,68 +168,77 @@ fn from_log(alloc: Global, worked: thp_sections::Worked) -> Result<Worked, Alloc
         rest,
         opened,
     } = worked;
+    let kept = kept_by(log);
     let begun = Worked {
-        answers: Vec::with_capacity(alloc, log.len())?,
+        answers: Vec::with_capacity(alloc, kept.len())?,
         rest,
         opened,
     };
-    filled(begun, &log)
+    filled(begun, &kept)
 }
 
-/// What became of a section, with the answers that a log kept in place of none.
+/// The answers of a log that keeps them.
+fn kept_by(log: AnswerLog) -> KeptAnswers
+    requires { log.are ≡ Kept }
+    ensures items { result.items ≡ log.items }
+    ensures room { result.room ≡ log.room }
+{
+    match log.into_kept() {
+        Some(kept) => kept,
+        None => unreachable!(),
+    }
+}
+
+/// What became of a section, with the answers that were kept in place of none.
 #[tactic(auto, using(crate::proofs::ListedLaws::one_more))]
-fn filled(begun: Worked, log: &AnswerLog) -> Result<Worked, AllocError>
-    requires kept { log.now.are ≡ Kept }
-    requires empty { begun.answers ≡ [] }
-    ensures answers { IfOk result (λ list. list.answers ≡ log.now.items) }
+fn filled(begun: Worked, kept: &KeptAnswers) -> Result<Worked, AllocError>
+    requires { begun.answers ≡ [] }
+    ensures answers { IfOk result (λ list. list.answers ≡ kept.now.items) }
     ensures rest { IfOk result (λ list. list.rest ≡ begun.rest) }
     ensures opened { IfOk result (λ list. list.opened ≡ begun.opened) }
 {
     let mut list = begun;
-    for place in 0..log.len() {
-        list.push_at(log, place)?;
+    for place in 0..kept.len() {
+        list.push_at(kept, place)?;
     }
     Ok(list)
 }
 
 impl Worked {
-    /// Adds the answer at a place of a log that kept it.
-    fn push_at(&mut self, log: &AnswerLog, place: usize) -> Result<(), AllocError>
-        requires kept { log.now.are ≡ Kept }
-        requires inside { place < length log.now.items }
-        ensures answers { OnOk result ((answer : KeptAnswer) × (slice_get log.now.items place ≡ Some answer) × (self.new.answers ≡ self.old.answers ++ answer ∷ [])) }
+    /// Adds the answer at a place.
+    fn push_at(&mut self, kept: &KeptAnswers, place: usize) -> Result<(), AllocError>
+        requires { place < length kept.now.items }
+        ensures answers { OnOk result ((answer : KeptAnswer) × (slice_get kept.now.items place ≡ Some answer) × (self.new.answers ≡ self.old.answers ++ answer ∷ [])) }
         ensures rest { OnOk result (self.new.rest ≡ self.old.rest) }
         ensures opened { OnOk result (self.new.opened ≡ self.old.opened) }
     {
         // the toolchain finds these types, which stand in answers, only in functions that name them
         let _in_answers = (Reply::Tried(Tried::Done), Refusal::NoPage);
-        self.answers.push(answer_at(log, place))?;
+        self.answers.push(answer_at(kept, place))?;
         Ok(())
     }
 }
 
-/// The answer at a place of a log that kept it.
-fn answer_at(log: &AnswerLog, place: usize) -> Answer
-    requires kept { log.now.are ≡ Kept }
-    requires inside { place < length log.now.items }
-    ensures { slice_get log.now.items place ≡ Some result }
+/// The answer at a place.
+fn answer_at(kept: &KeptAnswers, place: usize) -> Answer
+    requires { place < length kept.now.items }
+    ensures { slice_get kept.now.items place ≡ Some result }
 {
-    match log.get(place) {
+    match kept.get(place) {
         Some(answer) => answer,
         None => unreachable!(),
     }
 }
 
-/// A section with its answers in a log.
-#[tactic(auto, using(crate::proofs::ListedLaws::log_is))]
-fn with_log(alloc: Global, section: &Section) -> Result<thp_sections::Section, AllocError>
-    ensures { IfOk result (λ logged. logged ≡ section_of section.now) }
+/// A section with its answers in less room.
+fn to_kept(alloc: Global, section: &Section) -> Result<KeptSection, AllocError>
+    ensures { IfOk result (λ kept. kept ≡ section_of section.now) }
 {
     let answers = section.answers.as_slice();
     let log = to_log(alloc, answers.len(), answers)?;
-    Ok(thp_sections::Section {
+    Ok(KeptSection {
         worker: section.worker,
-        answers: log,
+        answers: kept_by(log),
     })
 }
 

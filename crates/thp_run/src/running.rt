@@ -12,8 +12,8 @@ use std::alloc::{AllocError, Global};
 use std::io::{Read, Write};
 use std::thread::Threads;
 use thp_report::report_text;
-use thp_script_runs::run_script;
-use thp_sections::Gate;
+use thp_script_runs::{Ran, run_script};
+use thp_sections::{Gate, kept_sections};
 use thp_text::{Script, Settings};
 
 /// The report of a run of the script.
@@ -27,13 +27,9 @@ fn report_of<T: Threads + Sync, G: Gate + Sync>(
     requires { IsScriptFor settings.now script }
     ensures { IfOk result (λ text. (input : List ℕ) → script_of settings.now input ≡ Ok script → IsReport settings.now input text.items) }
 {
-    let ran = run_script(rt, alloc, settings, script, gate)?;
-    report_text(
-        alloc,
-        settings,
-        ran.nodes.as_slice(),
-        ran.sections.as_slice(),
-    )
+    let Ran { nodes, sections } = run_script(rt, alloc, settings, script, gate)?;
+    let kept = kept_sections(alloc, sections)?;
+    report_text(alloc, settings, nodes.as_slice(), kept.as_slice())
 }
 
 /// Runs the script that the reader gives, and writes the report of the run.

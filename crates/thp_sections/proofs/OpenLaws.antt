@@ -1,5 +1,5 @@
 -- On which nodes a command leaves a batch open.
-use Rattle.std.proofs.Common.{◌≡◌, ◌∙◌, ◌++◌, ◌<◌, ◌==◌, ap, ℕ, zero, suc, Bool, true, false, cond, List, [], ◌∷◌, length, refl, sym, subst, inl, inr, Option, Some, None, Ok, Err, map, set, get_or, take}
+use Rattle.std.proofs.Common.{◌≡◌, ◌∙◌, ◌++◌, ◌<◌, ◌==◌, ap, ℕ, zero, suc, Bool, true, false, List, [], ◌∷◌, length, refl, sym, subst, inl, inr, Option, Some, None, Ok, Err, map, set, get_or, take}
 use Rattle.std.specs.Prelude.{All, Result, replicate}
 use Rattle.std.proofs.lemmas.Bool.{eqb-true, eqb-false, eq-eqb}
 use Rattle.std.proofs.lemmas.List.{length-set, length-replicate, get_or-set_same, get_or-set_other}
@@ -24,7 +24,7 @@ use Rattle.thp_sections.specs.declared.steps.Step.TheVariants.{One, Take, SplitN
 use Rattle.thp_sections.specs.Does.{Open, Reaction, Does, DoesCall, Unless, answer_of, refusal_of_call}
 use Rattle.thp_sections.specs.Turns.{Told, TurnsOut, first_step, gave_back, is_scan, took, try_told}
 use Rattle.thp_sections.specs.OpenBatches.{is_open, leaves_open, marked, OpenOn}
-use Rattle.thp_sections.specs.Sections.{Made, IsMade, Turn, IsTurn, Carries, batches_after, told_by, with_batch}
+use Rattle.thp_sections.specs.Sections.{Made, IsMade, Carries, batches_after, told_by, with_batch}
 use Rattle.thp_sections.proofs.StepLaws.{after_put_back, batches_elsewhere}
 
 -- whether there is an open batch behind a step

@@ -23,8 +23,8 @@ use Rattle.thp_sections.specs.Logs.{LogState}
 use Rattle.thp_sections.specs.Does.{Open, Reaction}
 use Rattle.thp_sections.specs.Fronts.{Fronts, Goes}
 use Rattle.thp_sections.specs.Turns.{Progress, On, Ended, Comes, Told, IsBegun, TurnsOut, first_begun}
-use Rattle.thp_sections.specs.OpenBatches.{HasNoBatch, OpenOn, is_open, leaves_open, marked}
-use Rattle.thp_sections.specs.Sections.{Made, IsMade, Steps, Carries, Proceeds, told_by, Turn, IsTurn, command_of, steps_of, batches_after, put_back_on, closing_from, closing, answers_from, IsBegunOn, IsNext, Begins, Ends, PutsBack, Works, begun_of}
+use Rattle.thp_sections.specs.OpenBatches.{HasNoBatch, is_open, marked}
+use Rattle.thp_sections.specs.Sections.{Made, IsMade, Steps, Proceeds, told_by, Turn, IsTurn, command_of, steps_of, batches_after, put_back_on, closing_from, closing, answers_from, IsBegunOn, IsNext, Begins, Ends, PutsBack, Works, begun_of}
 use Rattle.thp_sections.proofs.OpenLaws.{carries_behind, known_as, known_more, known_none, known_shut, opens_by}
 use Rattle.thp_sections.proofs.StepLaws.{steps_none, steps_then, goes_grows, grows_refl, grows_trans, batches_after-append, batches_elsewhere, closed_by}
 

@@ -1,5 +1,5 @@
 -- What contracts see of an `AnswerLog`.
-use Rattle.std.specs.Prelude.{◌≡◌, ◌≤◌, ℕ, List, [], ◌∷◌, ◌++◌, length, Option, None}
+use Rattle.std.specs.Prelude.{ℕ, Bool, true, false, List, [], ◌∷◌, ◌++◌, Option, Some, None}
 use Rattle.thp_sections.specs.declared.reply.Answer.{Answer}
 use Rattle.thp_sections.specs.declared.answer_log.Answers.{Answers}
 use Rattle.thp_sections.specs.declared.answer_log.Answers.TheVariants.{Kept, Counted}
@@ -13,18 +13,26 @@ pub record LogState : Type 0 where
   pub are : Answers
   pub room : ℕ
 
--- the answers, by what the log was told
+-- the answers that were only counted, by what the log was told
 abbrev pub told_items : Told → List Answer
 told_items Nothing = []
 told_items (After' answer shape before) = told_items before ++ answer.value ∷ []
 
--- the count is that of the answers, and where they are kept these are they, with room
-pub record IsLog (are : Answers) (kept : KeptState) (count room : ℕ) (told : Told) : Type 0 where
-  pub counted : count ≡ length (told_items told)
-  pub items : are ≡ Kept → kept.items ≡ told_items told
-  pub capacity : are ≡ Kept → room ≤ kept.room
+-- answers that are kept, and answers that are only counted, as a log
+abbrev pub kept_log : KeptState → LogState
+kept_log k = record { items = k.items; are = Kept; room = k.room }
 
--- what there is of an answer: it itself where answers are kept
-abbrev pub if_kept : {A : Type 0} → Answers → Option A → Option A
-if_kept Kept answer = answer
-if_kept Counted answer = None
+abbrev pub counted_log : KeptState → LogState
+counted_log k = record { items = k.items; are = Counted; room = k.room }
+
+abbrev pub is_kept : Answers → Bool
+is_kept Kept = true
+is_kept Counted = false
+
+-- what there is of answers: they themselves where they are kept
+abbrev pub if_kept : {A : Type 0} → Answers → A → Option A
+if_kept Kept answers = Some answers
+if_kept Counted answers = None
+
+abbrev pub kept_in : LogState → Option KeptState
+kept_in l = if_kept l.are (record { items = l.items; room = l.room })

@@ -1,7 +1,7 @@
 //! The answers of a section, kept or only counted.
-ghost use Rattle.std.specs.Prelude.{◌≡◌, ◌<◌, ◌≤◌, ◌+◌, ◌++◌, ◌∷◌, [], length, slice_get, IfOk, None};
+ghost use Rattle.std.specs.Prelude.{◌≡◌, ◌<◌, ◌+◌, ◌++◌, ◌∷◌, [], length, IfNone, IfOk, IfSome, None, Some};
 ghost use Rattle.thp_sections.specs.Does.{answer_of};
-ghost use Rattle.thp_sections.specs.Logs.{if_kept};
+ghost use Rattle.thp_sections.specs.Logs.{kept_in};
 
 use crate::kept_answers::KeptAnswers;
 use crate::reply::{Answer, Reply};
@@ -26,27 +26,82 @@ enum Told {
     After(Snapshot<Answer>, Snapshot<Told>),
 }
 
-/// The answers to the commands of a section, in order. Where they are only counted, only contracts see which they are.
+// Answers that are only counted: contracts alone see which they are.
 #[derive(Drop)]
-pub struct AnswerLog {
-    // what becomes of them
-    are: Answers,
-    // all of them where they are kept, else none
-    kept: KeptAnswers,
+struct CountedAnswers {
     count: usize,
     // for how many answers there is room
     room: usize,
     told: Snapshot<Told>,
 }
 
+impl Model for CountedAnswers {
+    ghost use Rattle.std.specs.Prelude.{◌≡◌, length};
+    ghost use Rattle.thp_sections.specs.Kept.{KeptState};
+    ghost use Rattle.thp_sections.specs.Logs.{told_items};
+
+    ghost Value = { KeptState };
+
+    ghost view = { λ c. record { items = told_items c.told.value; room = c.room } };
+
+    ghost invariant = { λ c. c.count ≡ length (told_items c.told.value) };
+}
+
+impl CountedAnswers {
+    fn new(room: usize) -> CountedAnswers
+        ensures items { result.items ≡ [] }
+        ensures room { result.room ≡ room }
+    {
+        CountedAnswers {
+            count: 0,
+            room,
+            told: Snapshot::of(&Told::Nothing),
+        }
+    }
+
+    #[inline(always)]
+    fn push(&mut self, command: u32, node: u32, called: Result<(), Refusal>, reply: &Reply)
+        requires { length self.old.items < self.old.room }
+        ensures items { self.new.items ≡ self.old.items ++ record { command = command; node = node; reply = answer_of called reply.now } ∷ [] }
+        ensures count { length self.new.items ≡ length self.old.items + 1 }
+        ensures room { self.new.room ≡ self.old.room }
+    {
+        // for contracts alone: the program has nothing of it
+        let last = Snapshot::of(&answer_to(command, node, called, reply));
+        let nothing = Snapshot::of(&Told::Nothing);
+        let told = std::mem::replace(&mut self.told, nothing);
+        self.told = Snapshot::of(&Told::After(last, told));
+        self.count += 1;
+    }
+
+    fn len(&self) -> usize
+        ensures { result ≡ length self.now.items }
+    {
+        self.count
+    }
+}
+
+// What a log is: the answers themselves, or their number.
+#[derive(Drop)]
+enum Log {
+    Kept(KeptAnswers),
+    Counted(CountedAnswers),
+}
+
+/// The answers to the commands of a section, in order. Where they are only counted, only contracts see which they are.
+#[derive(Drop)]
+pub struct AnswerLog {
+    log: Log,
+}
+
 impl Model for AnswerLog {
-    ghost use Rattle.thp_sections.specs.Logs.{told_items, IsLog, LogState};
+    ghost use Rattle.thp_sections.specs.Logs.{LogState};
 
     ghost Value = { LogState };
 
-    ghost view = { λ l. record { items = told_items l.told.value; are = l.are; room = l.room } };
+    ghost use Rattle.thp_sections.specs.LogKinds.{log_in};
 
-    ghost invariant = { λ l. IsLog l.are l.kept l.count l.room l.told.value };
+    ghost view = { λ l. log_in l.log };
 }
 
 impl AnswerLog {
@@ -56,17 +111,20 @@ impl AnswerLog {
         ensures are { IfOk result (λ log. log.are ≡ are) }
         ensures room { IfOk result (λ log. log.room ≡ room) }
     {
-        let kept = match are {
-            Answers::Kept => room,
-            Answers::Counted => 0,
-        };
-        Ok(AnswerLog {
-            are,
-            kept: KeptAnswers::new(alloc, kept)?,
-            count: 0,
-            room,
-            told: Snapshot::of(&Told::Nothing),
-        })
+        match are {
+            Answers::Kept => {
+                let kept = KeptAnswers::new(alloc, room)?;
+                Ok(AnswerLog {
+                    log: Log::Kept(kept),
+                })
+            }
+            Answers::Counted => {
+                let counted = CountedAnswers::new(room);
+                Ok(AnswerLog {
+                    log: Log::Counted(counted),
+                })
+            }
+        }
     }
 
     /// Adds the answer to a command, by its number and its node, for which there is room. Where the command wasn't refused, the
@@ -79,14 +137,9 @@ impl AnswerLog {
         ensures are { self.new.are ≡ self.old.are }
         ensures room { self.new.room ≡ self.old.room }
     {
-        // for contracts alone: the program has nothing of it
-        let last = Snapshot::of(&answer_to(command, node, called, reply));
-        let nothing = Snapshot::of(&Told::Nothing);
-        let told = std::mem::replace(&mut self.told, nothing);
-        self.told = Snapshot::of(&Told::After(last, told));
-        self.count += 1;
-        if let Answers::Kept = self.are {
-            self.kept.push(command, node, called, reply);
+        match &mut self.log {
+            Log::Kept(kept) => kept.push(command, node, called, reply),
+            Log::Counted(counted) => counted.push(command, node, called, reply),
         }
     }
 
@@ -94,16 +147,31 @@ impl AnswerLog {
     pub fn len(&self) -> usize
         ensures { result ≡ length self.now.items }
     {
-        self.count
+        match &self.log {
+            Log::Kept(kept) => kept.len(),
+            Log::Counted(counted) => counted.len(),
+        }
     }
 
-    /// The answer at a place, counted from 0, where answers are kept.
-    pub fn get(&self, place: usize) -> Option<Answer>
-        ensures { result ≡ if_kept self.now.are (slice_get self.now.items place) }
+    /// The answers themselves, where they are kept.
+    pub fn kept(&self) -> Option<&KeptAnswers>
+        ensures kept { IfSome result (λ kept. kept_in self.now ≡ Some kept.now) }
+        ensures counted { IfNone result (kept_in self.now ≡ None) }
     {
-        match self.are {
-            Answers::Kept => self.kept.get(place),
-            Answers::Counted => None,
+        match &self.log {
+            Log::Kept(kept) => Some(kept),
+            Log::Counted(_) => None,
+        }
+    }
+
+    /// The answers themselves, where they are kept.
+    pub fn into_kept(self) -> Option<KeptAnswers>
+        ensures { result ≡ kept_in self }
+    {
+        let AnswerLog { log } = self;
+        match log {
+            Log::Kept(kept) => Some(kept),
+            Log::Counted(_) => None,
         }
     }
 }

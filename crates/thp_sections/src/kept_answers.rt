@@ -37,7 +37,7 @@ struct ShortAnswer {
 
 /// Answers, in order: 32 bytes each, and 80 more where the reply is a scan's or of a call that gave frames back.
 #[derive(Drop)]
-pub(crate) struct KeptAnswers {
+pub struct KeptAnswers {
     short: Vec<ShortAnswer>,
     // the long replies, in order
     long: Vec<Reply>,
@@ -57,7 +57,7 @@ impl Model for KeptAnswers {
 
 impl KeptAnswers {
     /// No answers, with room for so many.
-    pub(crate) fn new(alloc: Global, room: usize) -> Result<KeptAnswers, AllocError>
+    pub fn new(alloc: Global, room: usize) -> Result<KeptAnswers, AllocError>
         ensures items { IfOk result (λ kept. kept.items ≡ []) }
         ensures room { IfOk result (λ kept. kept.room ≡ room) }
     {
@@ -68,17 +68,13 @@ impl KeptAnswers {
         })
     }
 
-    /// Adds the answer to a command, by its number and its node, for which there is room.
+    /// Adds the answer to a command, by its number and its node, for which there is room. Where the command wasn't refused, the
+    /// answer is the reply.
     #[inline]
-    pub(crate) fn push(
-        &mut self,
-        command: u32,
-        node: u32,
-        called: Result<(), Refusal>,
-        reply: &Reply,
-    )
+    pub fn push(&mut self, command: u32, node: u32, called: Result<(), Refusal>, reply: &Reply)
         requires { length self.old.items < self.old.room }
         ensures items { self.new.items ≡ self.old.items ++ record { command = command; node = node; reply = answer_of called reply.now } ∷ [] }
+        ensures count { length self.new.items ≡ length self.old.items + 1 }
         ensures room { self.new.room ≡ self.old.room }
     {
         let reply = match called {
@@ -92,9 +88,16 @@ impl KeptAnswers {
         });
     }
 
-    /// The answer at a place.
+    /// How many answers there are.
+    pub fn len(&self) -> usize
+        ensures { result ≡ length self.now.items }
+    {
+        self.short.len()
+    }
+
+    /// The answer at a place, counted from 0.
     #[inline]
-    pub(crate) fn get(&self, place: usize) -> Option<Answer>
+    pub fn get(&self, place: usize) -> Option<Answer>
         ensures { result ≡ slice_get self.now.items place }
     {
         let short = self.short.get(place)?;

@@ -1,8 +1,13 @@
 //! A vector that contracts see as its list.
-ghost use Rattle.std.specs.Prelude.{◌≡◌, ◌++◌, ◌∷◌, [], OnOk, OnErr, length};
+ghost use Rattle.std.specs.Prelude.{◌≡◌, ◌<◌, ◌++◌, ◌∷◌, [], OnOk, OnErr, length, option_copied, slice_get, slice_index_or};
+ghost use Rattle.std.specs.Iterator.Adapters.{IterYieldsInOrder, IterYieldsInReverse};
+ghost use Rattle.std.specs.Slice.{IsItemAt};
+ghost use Rattle.std.specs.Slice.Iter.{iter_rest};
 
 use std::alloc::{AllocError, Global};
 use std::marker::Model;
+use std::ops::Index;
+use std::slice::Iter;
 
 /// A vector that contracts see as the list of its elements.
 #[derive(Debug, Drop)]
@@ -47,6 +52,46 @@ impl<T> Sequence<T> {
         ensures { result.now ≡ self.now }
     {
         self.items.as_slice()
+    }
+
+    /// How many elements there are.
+    pub fn len(&self) -> usize
+        ensures { result ≡ length self.now }
+    {
+        self.items.len()
+    }
+
+    /// The element at an index, counted from 0, if there is one.
+    pub fn get(&self, index: usize) -> Option<&T>
+        ensures value { option_copied result ≡ slice_get self.now index }
+        ensures item { IsItemAt self.now index result }
+    {
+        self.items.get(index)
+    }
+
+    /// The elements, in order.
+    pub fn iter(&self) -> Iter<'_, T>
+        ensures rest { iter_rest result ≡ self.now }
+        ensures runs { IterYieldsInOrder T }
+        ensures runs_back { IterYieldsInReverse T }
+    {
+        self.items.iter()
+    }
+}
+
+/// An element that there is, by its index, counted from 0.
+impl<T> Index<usize> for Sequence<T> {
+    type Output = T;
+
+    ghost can_index = { λ s i. i < length s };
+
+    ghost index_gives = { λ s i x. x ≡ slice_index_or s i x };
+
+    fn index(&self, index: usize) -> &T
+        requires { index < length self.now }
+        ensures { result.now ≡ slice_index_or self.now index result.now }
+    {
+        &self.items[index]
     }
 }
 

@@ -27,7 +27,7 @@ const SCAN: [Command; 1] = [Command {
 
 // The reply to a command.
 fn reply_at(answers: &AnswerLog, command: usize) -> Option<Result<Reply, Refusal>> {
-    let answer = answers.get(command)?;
+    let answer = answers.kept()?.get(command)?;
     Some(answer.reply)
 }
 

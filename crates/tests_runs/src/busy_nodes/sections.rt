@@ -172,9 +172,10 @@ fn queue_two(rt: &impl Abort, passes: &mut NodePasses<'_>)
 
 // All answers of a log.
 fn answers_in(rt: &impl Abort, alloc: Global, log: &AnswerLog) -> Vec<Answer> {
+    let kept = log.kept().expect(rt, "answers that are kept");
     let mut answers = Vec::new(alloc);
-    for place in 0..log.len() {
-        let answer = log.get(place).expect(rt, "an answer");
+    for place in 0..kept.len() {
+        let answer = kept.get(place).expect(rt, "an answer");
         answers.push(answer).expect(rt, "room");
     }
     answers

@@ -62,13 +62,16 @@ fn answered(answer: Answer) -> Said {
 // The answers of a section are these.
 pub(crate) fn are_answers(ran: &Ran, section: usize, wanted: &[Said]) -> bool {
     match ran.sections.get(section) {
-        Some(section) => {
-            section.answers.len() == wanted.len()
-                && wanted.iter().enumerate().all(|(place, want)| match section.answers.get(place) {
-                    Some(answer) => answered(answer) == *want,
-                    None => false,
-                })
-        }
+        Some(section) => match section.answers.kept() {
+            Some(answers) => {
+                answers.len() == wanted.len()
+                    && wanted.iter().enumerate().all(|(place, want)| match answers.get(place) {
+                        Some(answer) => answered(answer) == *want,
+                        None => false,
+                    })
+            }
+            None => false,
+        },
         None => false,
     }
 }

@@ -4,7 +4,7 @@ use std::alloc::Global;
 use std::process::Abort;
 use thp_model::{Outcome, PageId, Refusal, SubSet};
 use thp_node::{BackReply, Done, ScanReply, Tried};
-use thp_sections::{AnswerLog, Answers, Reply, Section};
+use thp_sections::{KeptAnswers, KeptSection, Reply};
 use thp_text::Report;
 
 // The answers to the commands of a section, all on one node.
@@ -14,8 +14,8 @@ fn section(
     worker: u32,
     node: u32,
     replies: &[Result<Reply, Refusal>],
-) -> Section {
-    let mut answers = AnswerLog::new(alloc, replies.len(), Answers::Kept).expect(rt, "room");
+) -> KeptSection {
+    let mut answers = KeptAnswers::new(alloc, replies.len()).expect(rt, "room");
     for (command, reply) in replies.iter().enumerate() {
         let command = u32::try_from(command).expect(rt, "a few commands");
         match reply {
@@ -23,7 +23,7 @@ fn section(
             Err(refusal) => answers.push(command, node, Err(*refusal), &Reply::Unit),
         }
     }
-    Section { worker, answers }
+    KeptSection { worker, answers }
 }
 
 fn done(outcome: Outcome, released: SubSet) -> Result<Reply, Refusal> {

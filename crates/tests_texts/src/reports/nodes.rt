@@ -4,7 +4,7 @@ use std::process::Abort;
 use thp_model::{PageId, Shape};
 use thp_node::Node;
 use thp_report::report_text;
-use thp_sections::Section;
+use thp_sections::KeptSection;
 use thp_text::{Report, Settings};
 
 // A node of 16 blocks of order 9 whose shrinker looks for partly mapped pages alone.
@@ -69,7 +69,7 @@ pub(crate) fn expect(
     alloc: Global,
     report: Report,
     nodes: &[Node],
-    sections: &[Section],
+    sections: &[KeptSection],
     want: &str,
 ) {
     let count = u32::try_from(nodes.len()).expect(rt, "a few nodes");

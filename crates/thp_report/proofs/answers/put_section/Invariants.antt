@@ -2,8 +2,9 @@ use Rattle.std.proofs.Common.{◌≡◌, ◌++◌, drop, map}
 use Rattle.std.specs.List.{flat_map}
 use Rattle.thp_report.specs.Answers.{answer_line, section_text}
 use Rattle.thp_report.specs.Reports.{shape_of}
+use Rattle.thp_sections.specs.Logs.{kept_log}
 use Rattle.thp_report.proofs.answers.put_section.Given as goal
 
 abbrev pub invariant-loop-place : goal.invariant-loop-place
 invariant-loop-place l =
-    l.text.items ++ flat_map (answer_line (map shape_of l.nodes) l.section.worker) (drop l.place l.section.answers.items) ≡ l.fn.text.items ++ section_text (map shape_of l.nodes) l.section
+    l.text.items ++ flat_map (answer_line (map shape_of l.nodes) l.worker) (drop l.place l.answers.items) ≡ l.fn.text.items ++ section_text (map shape_of l.nodes) (record { worker = l.worker; answers = kept_log l.answers })

@@ -3,7 +3,7 @@ use Rattle.thp_run.proofs.listed.filled.Given as goal
 
 abbrev pub invariant-loop-place : goal.invariant-loop-place
 invariant-loop-place l = record {
-  answers : l.list.answers ++ drop l.place l.log.items ≡ l.log.items;
+  answers : l.list.answers ++ drop l.place l.kept.items ≡ l.kept.items;
   rest : l.list.rest ≡ l.fn.begun.rest;
   opened : l.list.opened ≡ l.fn.begun.opened;
 }

@@ -1,4 +1,4 @@
-use Rattle.std.proofs.Common.{◌∷◌, []}
+use Rattle.std.proofs.Common.{◌∙◌, ◌∷◌, [], ap, length, length-append}
 use Rattle.std.proofs.lemmas.List.{map-append}
 use Rattle.thp_sections.specs.declared.kept_answers.ShortAnswer.{ShortAnswer}
 use Rattle.thp_sections.specs.declared.kept_answers.ShortReply.TheVariants.{Refused}
@@ -19,3 +19,6 @@ returns-clause-items c =
           let last : ShortAnswer = record { command = c.args.command; node = c.args.node; reply = Refused w.in-Err.refusal } in
           rw (w.self-inside-is, w.reply-is, w.in-Err.is) (map-append (answer_in long) answers (last ∷ []))
     ])
+
+pub returns-clause-count : goal.returns-clause-count
+returns-clause-count c = ap length (returns-clause-items c) ∙ length-append _ _

@@ -1,0 +1,51 @@
+-- Reports of the answers that a run kept.
+use Rattle.std.proofs.Common.{◌≡◌, ℕ, List, [], ◌∷◌, ◌∙◌, ap, map, refl, Ok, Err}
+use Rattle.std.specs.Prelude.{All, IfOk, Result, Vec, filter}
+use Rattle.std.specs.declared.alloc.AllocError.{AllocError}
+use Rattle.std.specs.declared.alloc.Global.{Global}
+use Rattle.std.proofs.lemmas.List.Elements.{All-head, All-tail}
+use Rattle.thp_node.specs.NodeState.{NodeState}
+use Rattle.thp_report.specs.Answers.{answers_text}
+use Rattle.thp_report.specs.Reports.{report_of, shape_in, told_of}
+use Rattle.thp_script_runs.specs.NewNodes.{histories_of, shapes_of, AreNodesFor}
+use Rattle.thp_script_runs.specs.Runs.{IsRun}
+use Rattle.thp_script_runs.specs.Sections.{SectionAnswersAre}
+use Rattle.thp_sections.specs.declared.answer_log.Answers.TheVariants.{Kept}
+use Rattle.thp_sections.specs.declared.reply.Section.{Section}
+use Rattle.thp_sections.specs.KeptSections.{has_kept}
+use Rattle.thp_sections.specs.Logs.{is_kept}
+use Rattle.thp_text.specs.declared.script.Script.{Script}
+use Rattle.thp_text.specs.declared.settings.Report.{Report}
+use Rattle.thp_text.specs.declared.settings.Report.TheVariants as report
+use Rattle.thp_text.specs.declared.settings.Settings.{Settings}
+use Rattle.thp_text.specs.Scripts.{script_of}
+use Rattle.thp_run.specs.Programs.{IsReport}
+
+-- sections of which each keeps its answers are all among those that do
+all_kept : (sections : List Section) → All (SectionAnswersAre Kept) sections → filter has_kept sections ≡ sections
+all_kept [] all = refl
+all_kept (s ∷ sections) all =
+    rw (ap is_kept (All-head (SectionAnswersAre Kept) s sections all)) (ap (λ rest. s ∷ rest) (all_kept sections (All-tail (SectionAnswersAre Kept) s sections all)))
+
+-- a report doesn't look at answers, or all of them are kept
+kept_report : (r : Report) (nodes : List NodeState) (sections : List Section) → (r ≡ report.Answers → All (SectionAnswersAre Kept) sections) →
+    report_of r (map told_of nodes) (filter has_kept sections) ≡ report_of r (map told_of nodes) sections
+kept_report report.Totals nodes sections kept = refl
+kept_report report.Journal nodes sections kept = refl
+kept_report report.Answers nodes sections kept = ap (answers_text (map shape_in (map told_of nodes))) (all_kept sections (kept refl))
+
+-- what is told of the answers that a run kept is the report of the run
+pub is_report : (s : Settings) (script : Script) (nodes : List NodeState) (sections kept : List Section) (r : Result (Vec ℕ Global) AllocError) →
+    AreNodesFor s nodes → IsRun s.nodes (shapes_of nodes) script (histories_of nodes) sections → (s.report ≡ report.Answers → All (SectionAnswersAre Kept) sections) → kept ≡ filter has_kept sections →
+    IfOk r (λ text. text.items ≡ report_of s.report (map told_of nodes) kept) →
+    IfOk r (λ text. (input : List ℕ) → script_of s input ≡ Ok script → IsReport s input text.items)
+is_report s script nodes sections kept (Err e) made run all is told = tt
+is_report s script nodes sections kept (Ok text) made run all is told = λ input spelled. record {
+  script = script;
+  spelled = spelled;
+  nodes = nodes;
+  nodes_are = made;
+  sections = sections;
+  is_run = run;
+  written = told ∙ ap (report_of s.report (map told_of nodes)) is ∙ kept_report s.report nodes sections all;
+}
