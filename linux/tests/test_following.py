@@ -215,6 +215,29 @@ class TornTest(unittest.TestCase):
         self.assertEqual(words(told(story))[-3:], ["back 1", "splitpmd 2", "unmapsub 2 0 8 queued -"])
 
 
+class EndTest(unittest.TestCase):
+    def test_a_page_that_goes_while_its_process_ends(self) -> None:
+        """A scan sees the queue without it before the end of the address space is recorded."""
+        story = By()
+        page = story.page(0)
+        story.drop(0, 0, 8, [page])
+        story.daemon(Kind.SCAN, [0, 1], [])
+        story.daemon(Kind.SCANNED, [0, 0], [])
+        story.daemon(Kind.EXIT_MMAP, [SPACE], [])
+        journalist = told(story)
+        self.assertEqual(words(journalist)[-1], "unmapsub 0 8 504 freed 0-511")
+        self.assertEqual(journalist.seen["pages told before their process's end"], 1)
+
+    def test_a_page_that_goes_while_its_process_runs_is_left_out(self) -> None:
+        story = By()
+        page = story.page(0)
+        story.drop(0, 0, 8, [page])
+        story.daemon(Kind.SCAN, [0, 1], [])
+        story.look([])
+        story.daemon(Kind.EXIT_MMAP, [SPACE], [])
+        self.assertEqual(told(story).lost_pages(), 1)
+
+
 class TracepointTest(unittest.TestCase):
     def types(self) -> Types:
         made = MadeTypes()
