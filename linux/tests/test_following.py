@@ -1,4 +1,4 @@
-"""What a recording follows beside calls: collapses, migrations, map counts, and scans that no copy of the queue shows."""
+"""What a recording follows beside calls: collapses, migrations, map counts, scans that no copy of the queue shows."""
 
 from __future__ import annotations
 
@@ -243,7 +243,8 @@ class TracepointTest(unittest.TestCase):
         made = MadeTypes()
         number = made.integer("int", 4)
         pointer = made.pointer(0)
-        made.typedef("btf_trace_made", made.pointer(made.prototype([("__data", pointer), ("mm", pointer), ("n", number)])))
+        function = made.prototype([("__data", pointer), ("mm", pointer), ("n", number)])
+        made.typedef("btf_trace_made", made.pointer(function))
         return Types(made.text())
 
     def test_arguments_are_found(self) -> None:
