@@ -288,9 +288,11 @@ class Journalist:
                     page.own[i] += 1
 
     def _exit(self, record: Record) -> None:
-        asked = self._pending.pop((record.task, Kind.ENTER), None)
-        if asked and record.values[4] == 0:
+        call, done = (record.task, Kind.ENTER), record.values[4] == 0
+        if call in self._pending and done:
             self._end_scans_before(record.queue)
+        asked = self._pending.pop(call, None)
+        if asked and done:
             self._apply(asked, record.queue)
         self._compare(record)
         self._agree(record.queue)
