@@ -52,7 +52,7 @@ def words() -> argparse.Namespace:
     parser.add_argument("--groups", type=int, default=1, metavar="N", help="control groups, each with the workload")
     parser.add_argument("--underused", default="off", help="off, a threshold, or as-is: leave the machine's setting")
     parser.add_argument("--every", type=float, default=0.02, help="seconds between two reclaims; 0: none")
-    parser.add_argument("--collapse", type=int, metavar="MS", help="khugepaged's pause, which an own workload keeps long")
+    parser.add_argument("--collapse", type=int, metavar="MS", help="khugepaged's pause; an own workload has it long")
     parser.add_argument("--compact", action="store_true", help="compact all memory with each reclaim: pages migrate")
     parser.add_argument("--straighten", action="store_true", help="tell away E (order of putting back) and B (zeros)")
     parser.add_argument("--out", metavar="FILE", help="write the journal there")

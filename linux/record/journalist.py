@@ -68,6 +68,7 @@ class Journalist:
         self._faults: Dict[int, Record] = {}
         self._pending: Dict[Tuple[int, Kind], Record] = {}  # calls and collapses that run, by task
         self._moves: Dict[int, List[Record]] = defaultdict(list)
+        self._ends: Dict[int, List[Record]] = defaultdict(list)  # of address spaces, the next one first
         self._remapped: Set[int] = set()  # address spaces in which mremap moved an area
         self._scans: Dict[int, Tuple[Record, List[Optional[Page]]]] = {}
         self._joining: Dict[int, Page] = {}
@@ -133,6 +134,9 @@ class Journalist:
     def tell(self, records: List[Record]) -> None:
         """Takes all records of a run."""
         lines_with_ends(records)
+        for record in records:
+            if record.kind is Kind.EXIT_MMAP:
+                self._ends[record.values[0]].append(record)
         steps: Dict[Kind, Callable[[Record], None]] = {
             Kind.ENTER: self._enter, Kind.EXIT: self._exit, Kind.FAULT: self._fault, Kind.ALLOC: self._alloc,
             Kind.FREE: self._free, Kind.FORK: self._fork, Kind.EXIT_MMAP: self._exit_mmap, Kind.SCAN: self._scan,
@@ -284,9 +288,11 @@ class Journalist:
                     page.own[i] += 1
 
     def _exit(self, record: Record) -> None:
-        asked = self._pending.pop((record.task, Kind.ENTER), None)
-        if asked and record.values[4] == 0:
+        call, done = (record.task, Kind.ENTER), record.values[4] == 0
+        if call in self._pending and done:
             self._end_scans_before(record.queue)
+        asked = self._pending.pop(call, None)
+        if asked and done:
             self._apply(asked, record.queue)
         self._compare(record)
         self._agree(record.queue)
@@ -312,6 +318,7 @@ class Journalist:
     def _exit_mmap(self, record: Record) -> None:
         space = record.values[0]
         record.space = space
+        self._ends[space].remove(record)
         for page, mapping in sorted(self._spaces.pop(space, {}).items(), key=lambda each: each[1].base):
             self._unmap(record, page, mapping, page.every, record.queue)
         self._agree(record.queue)
@@ -462,6 +469,11 @@ class Journalist:
                 page.freed = True
                 self._apply(self._pending.pop(reaching[0]), queue)
                 self.seen["calls told before their end"] += 1
+            elif not running and not page.freed_frames and self._is_ending(page):
+                page.freed = True
+                for space, mapping in list(page.maps.items()):
+                    self._unmap(self._ends[space][0], page, mapping, page.every, queue)
+                self.seen["pages told before their process's end"] += 1
             elif not running:
                 self._lose(page, f"left the queue unseen: {self._why_gone(page)}")
                 self._leaves(page)
@@ -480,10 +492,15 @@ class Journalist:
             self.seen["queues compared"] += 1
             self.seen["queues that differ"] += mine != kernels
 
+    def _is_ending(self, page: Page) -> bool:
+        """Whether all address spaces that map a page are ending: nothing else of them comes any more."""
+        ends = [self._ends[space][0] if self._ends[space] else None for space in page.maps]
+        return bool(ends) and all(end and end.begun < self._now for end in ends)
+
     def _why_gone(self, page: Page) -> str:
         if self._is_missing:
             return "a scan that isn't followed, perhaps"
-        return "split by a migration (M)" if page.freed_frames else "its process ends, or a collapse (K) that isn't told"
+        return "split by a migration (M)" if page.freed_frames else "a collapse (K) that isn't told, perhaps"
 
     def _reaches(self, asked: Record, page: Page) -> bool:
         """Whether a call takes mappings of a page away."""

@@ -55,6 +55,7 @@ class Record:
     queue: Optional[List[int]]
     done: bool = False  # told already
     end: Optional[Record] = None  # of a scan: its end; of an allocation: the collapse that it was for
+    begun: int = 0  # of an address space's end: when the last of its tasks' other records was made
     later: Optional[List[int]] = None  # of a scan's end without a copy: the next copy, if no scan began before it
 
     def shown(self) -> Optional[List[int]]:
@@ -103,15 +104,21 @@ def whole(queue: Optional[List[int]]) -> Optional[List[int]]:
 
 
 def lines_with_ends(records: List[Record]) -> None:
-    """Has each scan and each allocation for a collapse know its end, and a scan's end without a copy the next one."""
+    """Has each scan and each allocation for a collapse know its end, a scan's end without a copy the next one, and an
+    address space's end from when on nothing else was recorded of it."""
     open_scans: Dict[int, Record] = {}
     allocated: Dict[int, Record] = {}
+    last: Dict[int, int] = {}
     torn: List[Record] = []
     for record in records:
         if torn and record.queue is not None and record.time > torn[-1].time:
             for end in torn:
                 end.later = record.queue
             torn = []
+        if record.kind is Kind.EXIT_MMAP:
+            record.begun = last.pop(record.values[0], 0)
+        elif record.kind is not Kind.FREE:
+            last[record.space] = record.time
         if record.kind is Kind.SCAN:
             open_scans[record.task], torn = record, []
         elif record.kind is Kind.SCANNED and record.task in open_scans:

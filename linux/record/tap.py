@@ -290,7 +290,8 @@ class Tap:
         self._task_key(code).load(1, 6, 0).store(10, -72, 1)
         self._keep(code, self._fresh, -40, -72)
         code.map(1, self._faulting).move(2, 10).add(2, -40).call(Helper.MAP_LOOKUP).jump("placeless", "==", 0, 0)
-        code.load(1, 0, 0).jump("placeless", "==", 1, 0).load(2, 6, 8).move(3, 2).add(3, BASE_BITS).shift_right_register(1, 3)
+        code.load(1, 0, 0).jump("placeless", "==", 1, 0).load(2, 6, 8)
+        code.move(3, 2).add(3, BASE_BITS).shift_right_register(1, 3)
         code.shift_left(1, 4).add_register(1, 2).store(10, -56, 1)
         return self._keep(code, self._homes, -64, -72).label("placeless")
 

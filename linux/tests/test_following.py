@@ -1,4 +1,4 @@
-"""What a recording follows beside calls: collapses, migrations, map counts, and scans that no copy of the queue shows."""
+"""What a recording follows beside calls: collapses, migrations, map counts, scans that no copy of the queue shows."""
 
 from __future__ import annotations
 
@@ -9,7 +9,7 @@ from ..common.btf import Missing, Types
 from ..record.journalist import Journalist, Settings
 from ..record.records import Kind, Record
 from .made_types import MadeTypes
-from .test_record import BASE, DONTNEED, HUGE, MADVISE, SPACE, Story, folio_of, frames_of, verdict
+from .test_record import BASE, DONTNEED, HUGE, MADVISE, MUNMAP, SPACE, Story, folio_of, frames_of, verdict
 
 DAEMON = 90  # khugepaged, or a task that migrates: of no group that is recorded
 
@@ -215,12 +215,74 @@ class TornTest(unittest.TestCase):
         self.assertEqual(words(told(story))[-3:], ["back 1", "splitpmd 2", "unmapsub 2 0 8 queued -"])
 
 
+class LongScanTest(unittest.TestCase):
+    """A scan that has put back what it took, and whose end is recorded much later."""
+
+    def begun(self) -> By:
+        """Pages 0 and 1 are partly mapped, and taken."""
+        story = By()
+        pages = [story.page(0), story.page(1)]
+        story.drop(0, 0, 8, pages[:1])
+        story.drop(1, 0, 8, pages)
+        story.page(2)
+        story.daemon(Kind.SCAN, [2, 2], pages)
+        return story
+
+    def test_the_call_that_shows_it_queues_a_page_itself(self) -> None:
+        story = self.begun()
+        queue = [folio_of(1), folio_of(0), folio_of(2)]
+        story.drop(2, 0, 8, queue)
+        story.daemon(Kind.SCANNED, [0, 0], queue)
+        journalist = told(story)
+        self.assertEqual(journalist.lost_pages(), 0)
+        self.assertEqual(words(journalist)[-3:], ["back 1", "splitpmd 2", "unmapsub 2 0 8 queued -"])
+
+    def test_the_frames_of_a_page_put_back_are_another_page_by_its_end(self) -> None:
+        story, a, b, c = self.begun(), folio_of(0), folio_of(1), folio_of(2)
+        story.drop(2, 0, 8, [b, a, c])
+        call = [MUNMAP, HUGE * 11, HUGE, 0]
+        story.add(Kind.ENTER, call)
+        story.add(Kind.FREE, [b, 9])
+        story.add(Kind.EXIT, [*call, 0], [a, c])
+        story.add(Kind.FAULT, [HUGE * 15, 6])
+        story.add(Kind.ALLOC, [b, 9])
+        story.drop(5, 0, 8, [a, c, b])
+        story.daemon(Kind.SCANNED, [0, 0], [a, c, b])
+        story.look([a, c, b])
+        journalist = told(story)
+        self.assertEqual((journalist.seen["queues compared"] > 3, journalist.lost_pages()), (True, 0))
+
+
+class EndTest(unittest.TestCase):
+    def test_a_page_that_goes_while_its_process_ends(self) -> None:
+        """A scan sees the queue without it before the end of the address space is recorded."""
+        story = By()
+        page = story.page(0)
+        story.drop(0, 0, 8, [page])
+        story.daemon(Kind.SCAN, [0, 1], [])
+        story.daemon(Kind.SCANNED, [0, 0], [])
+        story.daemon(Kind.EXIT_MMAP, [SPACE], [])
+        journalist = told(story)
+        self.assertEqual(words(journalist)[-1], "unmapsub 0 8 504 freed 0-511")
+        self.assertEqual(journalist.seen["pages told before their process's end"], 1)
+
+    def test_a_page_that_goes_while_its_process_runs_is_left_out(self) -> None:
+        story = By()
+        page = story.page(0)
+        story.drop(0, 0, 8, [page])
+        story.daemon(Kind.SCAN, [0, 1], [])
+        story.look([])
+        story.daemon(Kind.EXIT_MMAP, [SPACE], [])
+        self.assertEqual(told(story).lost_pages(), 1)
+
+
 class TracepointTest(unittest.TestCase):
     def types(self) -> Types:
         made = MadeTypes()
         number = made.integer("int", 4)
         pointer = made.pointer(0)
-        made.typedef("btf_trace_made", made.pointer(made.prototype([("__data", pointer), ("mm", pointer), ("n", number)])))
+        function = made.prototype([("__data", pointer), ("mm", pointer), ("n", number)])
+        made.typedef("btf_trace_made", made.pointer(function))
         return Types(made.text())
 
     def test_arguments_are_found(self) -> None:
