@@ -74,7 +74,7 @@ pub trait Steps {
     }
 }
 
-/// A step, tried again where the node is busy, `MAX_TRIES` times in all, with a pause between two tries.
+/// A step, tried again at once where the node is busy, `MAX_TRIES` times in all.
 pub(crate) fn try_step<S: Steps>(
     steps: &mut S,
     caller: u32,
@@ -88,22 +88,14 @@ pub(crate) fn try_step<S: Steps>(
     ensures goes { Goes caller (S.fronts steps.old) (S.fronts steps.new) }
     ensures done { StepDone caller node step (S.fronts steps.old) (S.fronts steps.new) (answer_of result reply.new) }
 {
-    for tries in 0..MAX_TRIES - 1 {
+    for _ in 0..MAX_TRIES - 1 {
         let called = steps.step_into(caller, node, step, reply);
         if !is_busy(called) {
             return called;
         }
-        pause(tries);
-    }
-    steps.step_into(caller, node, step, reply)
-}
-
-/// A pause that doubles from one to the next, 1 spin at first, and 64 from the seventh on.
-#[cold]
-fn pause(tries: u32) {
-    for _ in 0..1u32 << tries.min(6) {
         spin_loop();
     }
+    steps.step_into(caller, node, step, reply)
 }
 
 /// Whether the node was busy.

@@ -1,7 +1,7 @@
 use Rattle.std.proofs.Common.{◌≡◌}
 use Rattle.thp_sections.proofs.steps.try_step.Given as goal
 
-abbrev pub invariant-loop-tries : goal.invariant-loop-tries
-invariant-loop-tries g l =
+abbrev pub invariant-loop : goal.invariant-loop
+invariant-loop g l =
     let fronts = g.S.Steps.fronts in
     fronts l.steps ≡ fronts l.fn.steps
