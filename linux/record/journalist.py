@@ -592,7 +592,7 @@ class Journalist:
             stay = [page for page in found if page and page in batch]
             self._queued_again(start, stay, found)
             self._batch(record, batch, folios, stay, queue)
-            back += stay
+            back += [page for page in stay if not page.lost]
         self._tell_later([page for page in found if page], back)
         self._agree(own)
 

@@ -253,6 +253,25 @@ class LongScanTest(unittest.TestCase):
         self.assertEqual((journalist.seen["queues compared"] > 3, journalist.lost_pages()), (True, 0))
 
 
+class QueuedAgainTest(unittest.TestCase):
+    def test_a_page_let_go_and_queued_before_the_scan_has_ended(self) -> None:
+        """Page 0 is pinned and put back, page 1 found in use; page 2 joins, then a call queues page 1 again."""
+        story, pages = By(), [folio_of(0), folio_of(1), folio_of(2)]
+        story.page(0)
+        story.page(1)
+        story.drop(0, 0, 8, pages[:2])
+        story.daemon(Kind.SCAN, [2, 2], pages[:2])
+        story.look([])
+        story.page(2)
+        queue = [pages[0], pages[2], pages[1]]
+        story.drop(1, 0, 8, queue)
+        story.daemon(Kind.SCANNED, [0, 0], queue)
+        story.look(queue)
+        journalist, why = told(story, 100), "found in use by a scan, and queued again while it ran (U)"
+        self.assertEqual(journalist.seen[f"pages left out: {why}"], 1)
+        self.assertEqual(words(journalist)[-2:], ["back 0", "alloc 1"])
+
+
 class EndTest(unittest.TestCase):
     def test_a_page_that_goes_while_its_process_ends(self) -> None:
         """A scan sees the queue without it before the end of the address space is recorded."""
