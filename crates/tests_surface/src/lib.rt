@@ -23,4 +23,6 @@ mod program;
 #[cfg(test)]
 mod sections;
 #[cfg(test)]
+mod sequences;
+#[cfg(test)]
 mod sets;

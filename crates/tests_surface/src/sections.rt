@@ -9,8 +9,8 @@ use std::alloc::{AllocError, Global};
 use std::process::Abort;
 use thp_model::{PageId, Refusal};
 use thp_run::{
-    Answer, Command, NoGate, Reply, Report, Section, Settings, Steps, Worked, report_text, work,
-    work_rest,
+    Answer, Command, NoGate, Reply, Report, Rest, ScanReply, Section, Settings, Steps, Worked,
+    report_text, work, work_rest,
 };
 
 // What a section of caller 1 is answered, by whoever makes its steps.
@@ -58,6 +58,17 @@ fn section(alloc: Global) -> Result<Section, AllocError> {
     Ok(Section { worker: 1, answers })
 }
 
+// What became of a section of these answers, which is done or has a rest.
+fn worked(alloc: Global, rest: Option<Rest>) -> Result<Worked, AllocError> {
+    let Section { worker: _, answers } = section(alloc)?;
+    let opened = vec![in alloc; false]?;
+    Ok(Worked {
+        answers,
+        rest,
+        opened,
+    })
+}
+
 // Their report.
 fn report_of(rt: &impl Abort, alloc: Global) -> Result<Vec<u8>, AllocError> {
     let settings = Settings::new(1, 4, 1, Report::Answers).expect(rt, "settings");
@@ -71,4 +82,39 @@ fn answers_in_vectors(rt: HostRuntime) {
     let report = report_of(&rt, rt.alloc());
     let want = b"1 1 page 7\n1 2 refused no-page\n".as_slice();
     assert!(rt; matches!(&report, Ok(text) if text.as_slice() == want));
+}
+
+#[test]
+fn sections_compare(rt: HostRuntime) {
+    let alloc = rt.alloc();
+    let one = section(alloc).expect(&rt, "room");
+    let other = section(alloc).expect(&rt, "room");
+    let none = Section {
+        worker: 1,
+        answers: Vec::new(alloc),
+    };
+    assert!(rt; one == other);
+    assert!(rt; one != none);
+}
+
+#[test]
+fn what_became_of_sections_compares(rt: HostRuntime) {
+    let alloc = rt.alloc();
+    let rest = Rest {
+        command: 2,
+        steps: 0,
+        so_far: ScanReply {
+            taken: 0,
+            split: 0,
+            pinned: 0,
+            back: 0,
+            dropped: 0,
+            used: 0,
+        },
+    };
+    let done = worked(alloc, None).expect(&rt, "room");
+    let again = worked(alloc, None).expect(&rt, "room");
+    let stopped = worked(alloc, Some(rest)).expect(&rt, "room");
+    assert!(rt; done == again);
+    assert!(rt; done != stopped);
 }
