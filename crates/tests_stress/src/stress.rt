@@ -94,8 +94,8 @@ fn run_plan<R: Threads + Clock + Abort + Sync>(rt: &R, alloc: Global, plan: &Pla
     changes_of(nodes)
 }
 
-// Where workers take turns, of some 100,000 events.
-const LEAST_CHANGES: usize = 5_000;
+// Where workers take turns, of some 100,000 events; a worker that met its nodes busy and was postponed changes once.
+const LEAST_CHANGES: usize = 1_000;
 
 #[test]
 fn eight_workers(rt: HostRuntime) {
