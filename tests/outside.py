@@ -286,11 +286,13 @@ def limits() -> Iterator[Row]:
 
 
 def little_memory() -> Iterator[Row]:
-    """Memory that doesn't suffice is told."""
+    """Memory that doesn't suffice is told, and a check doesn't need more for more events."""
     script = b"setup\n" + b"count 0\n" * 2_000_000
     yield Row("memory", "two million commands", Call((), script, memory=FEW_BYTES), NO_MEMORY)
     journal = b"thp-journal 1\nnode 0 blocks 1\n0 alloc 0\n" + b"0 pin 0\n" * 2_000_000 + b"end\n"
-    yield Row("memory", "two million events", Call(words("--check"), journal, memory=FEW_BYTES), NO_MEMORY)
+    # the 65,536th pin is refused
+    illegal = Ended(1, b"illegal line 65539\n")
+    yield Row("memory", "two million events", Call(words("--check"), journal, memory=FEW_BYTES), illegal)
 
 
 PARTS: tuple[Callable[[], Iterator[Row]], ...] = (
