@@ -72,6 +72,8 @@ outside:
 	@python3 tests/surface.py
 	@python3 tests/installed.py
 	@python3 tests/examples.py $(GIVEN)
+	@$(if $(GIVEN),python3 tests/rows.py $(GIVEN))
+	@$(if $(GIVEN),python3 tests/spoilt.py $(GIVEN))
 	@$(if $(GIVEN),python3 tests/outside.py $(GIVEN))
 	@$(if $(GIVEN),python3 tests/outside.py --self-test $(GIVEN))
 	@$(if $(GIVEN),python3 tests/large.py $(GIVEN))

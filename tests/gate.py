@@ -25,8 +25,11 @@ built program where it is."""
 BUILT = ("crates/thpsplit/out/thpsplit", "crates/thpsplit/out/thpsplit.by-rattle")
 """Where `rt ci` leaves the program, as LLVM builds it and as Rattle's own compiler does."""
 
-BY_EACH = ("tests/examples.py", "tests/outside.py", "tests/large.py")
+BY_EACH = ("tests/examples.py", "tests/rows.py", "tests/outside.py", "tests/large.py")
 """What looks at a program."""
+
+BY_ONE = ("tests/spoilt.py",)
+"""What looks at a program and takes longer: at one of them."""
 
 SPOILT = "crates/tests_spoilt/out/tests_spoilt_tests"
 """Where `rt ci` leaves the tests of memory that is refused."""
@@ -88,6 +91,8 @@ def main() -> None:
         for script in BY_EACH:
             add(tally, f"{Path(script).name} {Path(program).name}", [sys.executable, script, program])
     for program in programs[:1]:
+        for script in BY_ONE:
+            add(tally, Path(script).name, [sys.executable, script, program])
         add(tally, "outside.py --self-test", [sys.executable, "tests/outside.py", "--self-test", program])
         rows = [f"{path}:{REFUSED}" for path in made_since(began, (SPOILT,))]
         add(tally, "memory.py", [sys.executable, "tests/memory.py", program, *rows])

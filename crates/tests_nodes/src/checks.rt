@@ -4,4 +4,6 @@ mod histories;
 mod legal;
 mod misfits;
 mod random;
+mod reading;
+mod reasons;
 mod underused;

@@ -7,8 +7,6 @@ mod busy_nodes;
 #[cfg(test)]
 mod program;
 #[cfg(test)]
-mod rows;
-#[cfg(test)]
 mod scripts;
 #[cfg(test)]
 mod turns;

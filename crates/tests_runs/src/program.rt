@@ -3,6 +3,7 @@
 
 mod checks;
 mod faults;
+mod gated_reports;
 mod programs;
 mod running;
 mod whole_runs;

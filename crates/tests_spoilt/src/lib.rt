@@ -1,16 +1,12 @@
-//! Hostile texts and failing devices: every front of the rows' scripts and journals, and each of their bytes set to others,
-//! inputs at their limit, devices that fail at each of their calls or move a few bytes a call, and want of memory. Tests
-//! alone, in one crate since the prover spends most on the libraries: they stand above all that they call.
+//! Failing devices, inputs at their limit, histories beyond any, devices that move a few bytes a call, and want of memory. Tests
+//! alone, in one crate since the prover spends most on the libraries: they stand above all that they call. Spoilt texts are
+//! given to the built program (`tests/spoilt.py`).
 #![tactic(auto)]
 
-#[cfg(test)]
-mod answers;
 #[cfg(test)]
 mod devices;
 #[cfg(test)]
 mod failures;
-#[cfg(test)]
-mod journals;
 #[cfg(test)]
 mod large;
 #[cfg(test)]
@@ -22,10 +18,4 @@ mod passages;
 #[cfg(test)]
 mod programs;
 #[cfg(test)]
-mod rows;
-#[cfg(test)]
-mod scripts;
-#[cfg(test)]
 mod short;
-#[cfg(test)]
-mod spoiling;

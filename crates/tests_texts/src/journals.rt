@@ -3,3 +3,4 @@
 mod histories;
 mod kinds;
 mod rows;
+mod streams;

@@ -64,13 +64,16 @@ module _ (h : History) where
         yes true c k = refl
         yes false c k = k
 
-  -- the first page lies in the first block
-  pub first_block : (ps bs : List ℕ) (p b : ℕ) → LieIn ps bs → block_of h p ≡ Some b → slice_get ps 0 ≡ Some p → slice_get bs 0 ≡ Some b
-  first_block [] bs p b e at i = absurd (cc)
-  first_block (x ∷ ps) [] p b e at i = absurd (cc)
-  first_block (x ∷ ps) (y ∷ bs) p b e at i =
-      let w = same_cons y (block_of h x) (map (block_of h) ps) (map (λ n. Some n) bs) e in
-      sym w.0 ∙ ap (block_of h) (same_some x p i) ∙ at
+  -- the page that lies in the first block is the first, and where there is no block there is no page
+  pub first_lies : (ps bs : List ℕ) (b : ℕ) → LieIn ps bs → slice_get bs 0 ≡ Some b → (q : ℕ) × (slice_get ps 0 ≡ Some q) × (block_of h q ≡ Some b)
+  first_lies ps [] b e i = absurd (cc)
+  first_lies [] (y ∷ bs) b e i = absurd (cc)
+  first_lies (x ∷ ps) (y ∷ bs) b e i = let w = same_cons y (block_of h x) (map (block_of h) ps) (map (λ n. Some n) bs) e in (x, refl, w.0 ∙ i)
+
+  pub none_first : (ps bs : List ℕ) → LieIn ps bs → slice_get bs 0 ≡ None → slice_get ps 0 ≡ None
+  none_first [] bs e i = refl
+  none_first (x ∷ ps) [] e i = absurd (cc)
+  none_first (x ∷ ps) (y ∷ bs) e i = absurd (cc)
 
   pub first_page : (ps bs : List ℕ) (p b : ℕ) → LieIn ps bs → LiesAlone h p b → slice_get bs 0 ≡ Some b → slice_get ps 0 ≡ Some p
   first_page ps [] p b e alone i = absurd (cc)

@@ -1,8 +1,10 @@
 pub mod FlightLists
 pub mod PageEvents
 pub mod FlightBlocks
+pub mod Reasons
 pub mod Steps
 pub mod TakeSteps
+pub mod Reading
 pub mod Beginning
 pub mod Deciding
 pub mod FreeMarks

@@ -4,8 +4,6 @@ use Rattle.thp_model.specs.declared.events.Event.{Event}
 use Rattle.thp_model.specs.declared.events.Outcome.{Outcome}
 use Rattle.thp_model.specs.declared.events.Outcome.TheVariants as outcome
 use Rattle.thp_model.specs.declared.events.What.{What}
-use Rattle.thp_model.specs.declared.events.What.TheVariants as what
-use Rattle.thp_model.specs.Limits.{max_order}
 use Rattle.thp_model.specs.declared.shape.Shape.{Shape}
 use Rattle.thp_model.specs.History.{History, by}
 use Rattle.thp_model.specs.Counts.{is_live, is_closed}
@@ -16,7 +14,7 @@ use Rattle.thp_model.specs.Pages.{Tallies}
 use Rattle.thp_model.specs.Places.{flight, has_page, without}
 use Rattle.thp_model.specs.Refusals.{refusal}
 use Rattle.thp_model.proofs.Bools.{by_bool}
-use Rattle.thp_model.proofs.Narrowing.{Whole, map_sub-whole, unmap_sub-whole, write-whole, zero_fill-whole}
+use Rattle.thp_model.proofs.Narrowing.{Whole}
 use Rattle.thp_model.proofs.Flights.{flight_push}
 use Rattle.thp_model.proofs.OnePlace.{without_none, times_hasnt}
 use Rattle.thp_model.proofs.PageOutcomes.{lives_by, outcome_is, released_is}
@@ -110,18 +108,6 @@ loss_flight s h c b x l closed old new done left r d homed was lost =
       go outcome.Queued = refl
       go outcome.Stays = refl
 
--- no page has a range of numbers above 65,535
-whole_small : (first count : ℕ) → Whole first count → (first ≤ 65535) × (count ≤ 65535)
+-- the numbers of a range that some page has are small
+pub whole_small : (first count : ℕ) → Whole first count → (first ≤ 65535) × (count ≤ 65535)
 whole_small first count w = (grind (arith, w.0), grind (arith, w.1))
-
-pub large_map_sub : (s : Shape) (h : History) (c p first count : ℕ) → s.order ≤ max_order → ((first ≤ 65535) × (count ≤ 65535) → ⊥) → Fits s h (by c (what.MapSub p first count)) → ⊥
-large_map_sub s h c p first count low large f = large (whole_small first count (map_sub-whole s h p first count low (gain_allowed s h c p (gain.MapSub first count) f)))
-
-pub large_unmap_sub : (s : Shape) (h : History) (c p first count : ℕ) (o : Outcome) (set : List Bool) → s.order ≤ max_order → ((first ≤ 65535) × (count ≤ 65535) → ⊥) → Fits s h (by c (what.UnmapSub o p first count set)) → ⊥
-large_unmap_sub s h c p first count o set low large f = large (whole_small first count (unmap_sub-whole s h p first count low (loss_allowed s h c p (loss.UnmapSub first count) o set f)))
-
-pub large_write : (s : Shape) (h : History) (c p first count : ℕ) → s.order ≤ max_order → ((first ≤ 65535) × (count ≤ 65535) → ⊥) → Fits s h (by c (what.Write p first count)) → ⊥
-large_write s h c p first count low large f = large (whole_small first count (write-whole s h p first count low (gain_allowed s h c p (gain.Write first count) f)))
-
-pub large_zero : (s : Shape) (h : History) (c p first count : ℕ) → s.order ≤ max_order → ((first ≤ 65535) × (count ≤ 65535) → ⊥) → Fits s h (by c (what.Zero p first count)) → ⊥
-large_zero s h c p first count low large f = large (whole_small first count (zero_fill-whole s h p first count low (gain_allowed s h c p (gain.Zero first count) f)))

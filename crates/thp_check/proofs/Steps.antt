@@ -1,21 +1,21 @@
 -- What a replay means after each step: that of the history with the event, where the event fits; and else that it doesn't.
-use Rattle.std.proofs.Common.{◌≡◌, ◌≢◌, ℕ, ◌+◌, ◌<◌, Bool, true, false, not, ◌&&◌, ◌||◌, List, [], ◌∷◌, ◌++◌, Option, Some, None, length, map, refl, ap, sym, ◌∙◌, subst, arith, nat_eq, eqb-true}
+use Rattle.std.proofs.Common.{◌≡◌, ◌≢◌, ℕ, ◌+◌, ◌<◌, Bool, true, false, not, ◌&&◌, ◌||◌, List, [], ◌∷◌, ◌++◌, Option, Some, None, length, map, refl, ap, sym, ◌∙◌, subst, arith, nat_eq, eqb-true, if◌then◌else◌}
 use Rattle.std.specs.Prelude.{IsSome}
 use Rattle.thp_model.specs.declared.events.Event.{Event}
 use Rattle.thp_model.specs.declared.events.Outcome.{Outcome}
 use Rattle.thp_model.specs.declared.events.What.TheVariants as what
 use Rattle.thp_model.specs.declared.refusal.Refusal.{Refusal}
+use Rattle.thp_model.specs.declared.refusal.Refusal.TheVariants as reason
 use Rattle.thp_model.specs.declared.shape.Shape.{Shape}
 use Rattle.thp_model.specs.History.{History, by, some_event}
 use Rattle.thp_model.specs.Counts.{is_alloc, is_live, frees, closes, is_closed, allocations}
 use Rattle.thp_model.specs.Frames.{block_in_use}
-use Rattle.thp_model.specs.Legal.{Fits, FitsAlloc, IsLegal}
+use Rattle.thp_model.specs.Legal.{Fits, IsLegal}
 use Rattle.thp_model.specs.Pages.{PageState, Tallies, page_refusal}
 use Rattle.thp_model.specs.Places.{flight, has_page}
 use Rattle.thp_model.specs.Refusals.{refusal}
-use Rattle.thp_model.specs.Refusals as call
 use Rattle.thp_model.specs.Underused.{shrinks_underused}
-use Rattle.thp_model.proofs.Allowed.{allowed_alloc as closed_alloc, allowed_close as closed_close}
+use Rattle.thp_model.proofs.Allowed.{allowed_alloc as open_alloc, allowed_close as open_close}
 use Rattle.thp_model.proofs.Bools.{by_bool}
 use Rattle.thp_model.proofs.Flights.{flight_push}
 use Rattle.thp_model.proofs.OnePlace.{flies_live}
@@ -38,16 +38,15 @@ use Rattle.thp_model.specs.declared.page_call.Loss.TheVariants as loss
 use Rattle.thp_model.specs.declared.page_call.PageCall.TheVariants as either
 use Rattle.thp_check.specs.declared.node_state.NodeState.{NodeState}
 use Rattle.thp_check.specs.Flights.{FlightsState, blocks_in, flight_left}
-use Rattle.thp_check.specs.Meanings.{Keeps, Means}
+use Rattle.thp_check.specs.declared.misfit.Misfit.TheVariants as misfit
+use Rattle.thp_check.specs.Meanings.{Keeps, Means, IsMisfit}
 use Rattle.thp_model.specs.PageCalls.{gain_call, loss_call, gain_what, loss_what, Gains}
 use Rattle.thp_check.proofs.FlightBlocks.{LieIn, unmoved, departed, gain_home, loss_flying_home}
-use Rattle.thp_check.proofs.PageEvents.{gain_allowed, loss_allowed, gain_flight, loss_told, loss_flight}
+use Rattle.thp_check.proofs.PageEvents.{gain_flight, loss_told, loss_flight}
+use Rattle.thp_check.proofs.Reasons.{gain_misfit, loss_misfit, loss_other, closed_again, range_refusal}
 
 no_both : (z : Bool) → z ≡ false → z ≡ true → ⊥
 no_both z e f = cc
-
-some_none : (r : Refusal) (o : Option Refusal) → o ≡ Some r → o ≡ None → ⊥
-some_none r o e f = cc
 
 -- the numbers of a replay are the same after an event that neither allocates a page nor closes the node
 pub goes_on : (s : Shape) (h : History) (e : Event) (old new : NodeState) → Means s h old → IsNode s (h ++ e ∷ []) new.places.table new.places.queue →
@@ -82,14 +81,23 @@ plain_loss loss.Unpin p o r = (refl, refl)
 
 -- an event about a page that lies nowhere
 pub gain_absent : (s : Shape) (h : History) (c p : ℕ) (g : Gain) (old : NodeState) → Means s h old → ((b : ℕ) → HoldsPage (slot_at old.places.table b) p → ⊥) →
-    Fits s h (by c (gain_what g p)) → ⊥
-gain_absent s h c p g old m none f =
-    some_none _ _ (refusal_gone s h p (either.Gain g) (not_live s h old.places.table old.places.queue p m.kept.node none)) (gain_allowed s h c p g f)
+    IsMisfit s h (by c (gain_what g p)) (misfit.Refused reason.NoPage)
+gain_absent s h c p g old m none =
+    gain_misfit s h c p g reason.NoPage (refusal_gone s h p (either.Gain g) (not_live s h old.places.table old.places.queue p m.kept.node none))
 
 pub loss_absent : (s : Shape) (h : History) (c p : ℕ) (l : Loss) (o : Outcome) (r : List Bool) (old : NodeState) → Means s h old → ((b : ℕ) → HoldsPage (slot_at old.places.table b) p → ⊥) →
-    Fits s h (by c (loss_what l p o r)) → ⊥
-loss_absent s h c p l o r old m none f =
-    some_none _ _ (refusal_gone s h p (either.Loss l) (not_live s h old.places.table old.places.queue p m.kept.node none)) (loss_allowed s h c p l o r f)
+    IsMisfit s h (by c (loss_what l p o r)) (misfit.Refused reason.NoPage)
+loss_absent s h c p l o r old m none =
+    loss_misfit s h c p l o r reason.NoPage (refusal_gone s h p (either.Loss l) (not_live s h old.places.table old.places.queue p m.kept.node none))
+
+-- why a call of a page with a range that no page has is refused
+pub range_absent : (s : Shape) (h : History) (p : ℕ) (old : NodeState) → Means s h old → ((b : ℕ) → HoldsPage (slot_at old.places.table b) p → ⊥) → misfit.Refused reason.NoPage ≡ misfit.Refused (range_refusal h p)
+range_absent s h p old m none =
+    sym (ap (λ l. misfit.Refused (if l then reason.BadRange else reason.NoPage)) (not_live s h old.places.table old.places.queue p m.kept.node none))
+
+pub range_there : (s : Shape) (h : History) (p b : ℕ) (old : NodeState) → Means s h old → HoldsPage (slot_at old.places.table b) p → misfit.Refused reason.BadRange ≡ misfit.Refused (range_refusal h p)
+range_there s h p b old m held =
+    sym (ap (λ l. misfit.Refused (if l then reason.BadRange else reason.NoPage)) (found s h old.places.table old.places.queue p b m.kept.node held).live)
 
 module _ (s : Shape) (h : History) (c p b : ℕ) (old : NodeState) (m : Means s h old) (held : HoldsPage (slot_at old.places.table b) p) where
   there : Found s h old.places.table p b
@@ -109,11 +117,12 @@ module _ (s : Shape) (h : History) (c p b : ℕ) (old : NodeState) (m : Means s 
   loss_refusal l = refusal_is s h p there.slot.page (either.Loss l) tallied there.live
 
   -- a page that refuses what the event says
-  pub gain_refused : (g : Gain) (r : Refusal) → AtSlot old.places.table b (λ x. (q : ℕ) → Some r ≡ page_refusal x.page (gain_call g q)) → Fits s h (by c (gain_what g p)) → ⊥
-  gain_refused g r told f = some_none r _ (gain_refusal g ∙ sym (told there.slot there.at p)) (gain_allowed s h c p g f)
+  pub gain_refused : (g : Gain) (r : Refusal) → AtSlot old.places.table b (λ x. (q : ℕ) → Some r ≡ page_refusal x.page (gain_call g q)) → IsMisfit s h (by c (gain_what g p)) (misfit.Refused r)
+  gain_refused g r told = gain_misfit s h c p g r (gain_refusal g ∙ sym (told there.slot there.at p))
 
-  pub loss_refused : (l : Loss) (o : Outcome) (set : List Bool) (r : Refusal) → AtSlot old.places.table b (λ x. (q : ℕ) → Some r ≡ page_refusal x.page (loss_call l q)) → Fits s h (by c (loss_what l p o set)) → ⊥
-  loss_refused l o set r told f = some_none r _ (loss_refusal l ∙ sym (told there.slot there.at p)) (loss_allowed s h c p l o set f)
+  pub loss_refused : (l : Loss) (o : Outcome) (set : List Bool) (r : Refusal) → AtSlot old.places.table b (λ x. (q : ℕ) → Some r ≡ page_refusal x.page (loss_call l q)) →
+      IsMisfit s h (by c (loss_what l p o set)) (misfit.Refused r)
+  loss_refused l o set r told = loss_misfit s h c p l o set r (loss_refusal l ∙ sym (told there.slot there.at p))
 
   -- a page that gained
   pub gain_goes : (g : Gain) (new : NodeState) → AtSlot old.places.table b (λ x. (q : ℕ) → None ≡ page_refusal x.page (gain_call g q)) →
@@ -159,6 +168,16 @@ module _ (s : Shape) (h : History) (c p b : ℕ) (old : NodeState) (m : Means s 
       let w = loss_told s h c b x l old.closed old.places new done left o set homed there.is m.kept.closed_is (did x there.at) (subst P (sym there.id_is) f) in
       (sym w.0, sym w.1)
 
+  -- an event that tells otherwise would fit with what came of the page
+  pub loss_differs : (l : Loss) (o : Outcome) (set : List Bool) (new : PlacesState) (done : Done) (left : Option ℕ) → ((x : Slot) → slot_at old.places.table b ≡ Some x → (q : ℕ) → None ≡ page_refusal x.page (loss_call l q)) →
+      AtSlot old.places.table b (λ x. Lost l old.closed x old.places new b done left) → ((done.outcome ≡ o) × (done.released ≡ set) → ⊥) → IsMisfit s h (by c (loss_what l p o set)) (misfit.Outcome done.outcome done.released)
+  loss_differs l o set new done left refuses did other =
+      let x : Slot = there.slot in
+      let allowed : refusal s h (loss_call l x.id) ≡ None = ap (λ q. refusal s h (loss_call l q)) there.id_is ∙ loss_refusal l ∙ sym (refuses x there.at p) in
+      let fits : LossFits s h c x.id l done = loss_fits s h c b x l old.closed old.places new done left homed there.is m.kept.closed_is allowed (did x there.at) in
+      let P : ℕ → Type 0 = λ q. Fits s h (by c (loss_what l q done.outcome done.released)) in
+      (λ f. other (loss_tells l o set new done left did f), loss_other s h c p l o set done.outcome done.released (subst P there.id_is fits.fits) other)
+
 -- a page with the next number doesn't live
 new_dead : (s : Shape) (h : History) (p : ℕ) → IsLegal s h → p ≡ allocations h → is_live h p ≡ false
 new_dead s h p legal number =
@@ -195,18 +214,31 @@ alloc_goes s h c p b queued old new m unclosed number inside empty switch did sh
           (λ n. absurd (no_both (is_live h r) (ap (is_live h) (eqb-true r p n) ∙ new_dead s h p m.kept.node.legal (number ∙ m.kept.next_is)) (flies_live s h d r m.kept.node.legal y).0))
           (λ n. n)
 
-pub alloc_closed : (s : Shape) (h : History) (p b : ℕ) (old : NodeState) → Means s h old → old.closed ≡ true → FitsAlloc s h p b → ⊥
-alloc_closed s h p b old m shut f = no_both (is_closed h) (closed_alloc s h f.allowed).0 (sym m.kept.closed_is ∙ shut)
+pub alloc_closed : (s : Shape) (h : History) (c p b : ℕ) (old : NodeState) → Means s h old → old.closed ≡ true → IsMisfit s h (by c (what.Alloc p b)) (misfit.Refused reason.Closed)
+alloc_closed s h c p b old m shut =
+    let closed : is_closed h ≡ true = sym m.kept.closed_is ∙ shut in (λ f. no_both (is_closed h) (open_alloc s h f.allowed).0 closed, (closed, refl))
 
-pub alloc_other : (s : Shape) (h : History) (p b : ℕ) (old : NodeState) → Means s h old → p ≢ old.next → FitsAlloc s h p b → ⊥
-alloc_other s h p b old m other f = other (f.number ∙ sym m.kept.next_is)
+pub alloc_other : (s : Shape) (h : History) (c p b : ℕ) (old : NodeState) → Means s h old → old.closed ≡ false → p ≢ old.next → IsMisfit s h (by c (what.Alloc p b)) (misfit.Number old.next)
+alloc_other s h c p b old m unclosed other = (
+  λ f. other (f.number ∙ sym m.kept.next_is),
+  (sym m.kept.closed_is ∙ unclosed, (ap (λ (n : ℕ). Some n) m.kept.next_is, λ e. other (sym (same_number old.next p e)))),
+) where
+  same_number : (a b : ℕ) → Some a ≡ Some b → a ≡ b
+  same_number a b e = cc
 
-pub alloc_taken : (s : Shape) (h : History) (p b : ℕ) (old : NodeState) → Means s h old → (b < length old.places.table.slots → IsSome (slot_at old.places.table b)) → FitsAlloc s h p b → ⊥
-alloc_taken s h p b old m taken f = go (slot_at old.places.table b) refl (taken (omega (arith, f.inside, m.kept.node.size))) where
-  go : (o : Option Slot) → slot_at old.places.table b ≡ o → IsSome o → ⊥
+-- a block with a page is in use
+filled_use : (s : Shape) (h : History) (b : ℕ) (old : NodeState) → Means s h old → (b < length old.places.table.slots → IsSome (slot_at old.places.table b)) → b < s.blocks → block_in_use h b ≡ true
+filled_use s h b old m taken inside = go (slot_at old.places.table b) refl (taken (omega (arith, inside, m.kept.node.size))) where
+  go : (o : Option Slot) → slot_at old.places.table b ≡ o → IsSome o → block_in_use h b ≡ true
   go None e y = absurd (cc)
-  go (Some x) e y =
-      no_both (block_in_use h b) f.free (block_taken s h x.id b (legal_homed s h m.kept.node.legal) (slot_is s h old.places.table old.places.queue b x m.kept.node e).home)
+  go (Some x) e y = block_taken s h x.id b (legal_homed s h m.kept.node.legal) (slot_is s h old.places.table old.places.queue b x m.kept.node e).home
+
+pub alloc_taken : (s : Shape) (h : History) (c p b : ℕ) (old : NodeState) → Means s h old → old.closed ≡ false → p ≡ old.next → (b < length old.places.table.slots → IsSome (slot_at old.places.table b)) →
+    IsMisfit s h (by c (what.Alloc p b)) misfit.Block
+alloc_taken s h c p b old m unclosed number taken = (
+  λ f. no_both (block_in_use h b) f.free (filled_use s h b old m taken f.inside),
+  (sym m.kept.closed_is ∙ unclosed, number ∙ m.kept.next_is, filled_use s h b old m taken),
+)
 
 -- a close
 pub close_goes : (s : Shape) (h : History) (c : ℕ) (old new : NodeState) → Means s h old → old.closed ≡ false → new.shape ≡ old.shape → new.places ≡ old.places → new.flights ≡ old.flights → new.next ≡ old.next →
@@ -230,5 +262,6 @@ close_goes s h c old new m unclosed shape pages fs next closed =
       last true = refl
       last false = refl
 
-pub close_closed : (s : Shape) (h : History) (old : NodeState) → Means s h old → old.closed ≡ true → refusal s h call.close ≡ None → ⊥
-close_closed s h old m shut f = no_both (is_closed h) (closed_close s h f) (sym m.kept.closed_is ∙ shut)
+pub close_closed : (s : Shape) (h : History) (c : ℕ) (old : NodeState) → Means s h old → old.closed ≡ true → IsMisfit s h (by c what.Close) (misfit.Refused reason.Closed)
+close_closed s h c old m shut =
+    let closed : is_closed h ≡ true = sym m.kept.closed_is ∙ shut in (λ f. no_both (is_closed h) (open_close s h f) closed, closed_again s h closed)

@@ -1,5 +1,5 @@
 -- What a replay means after a take, a try, a put-back and a drop.
-use Rattle.std.proofs.Common.{◌≡◌, ◌≢◌, ℕ, ◌<◌, Bool, true, false, cond, not, nat_eq, ◌||◌, List, [], ◌∷◌, ◌++◌, Option, Some, length, map, Contains, refl, ap, ap₂, sym, ◌∙◌, subst, arith, inl, inr}
+use Rattle.std.proofs.Common.{◌≡◌, ◌≢◌, ℕ, Bool, true, false, cond, not, nat_eq, ◌||◌, List, [], ◌∷◌, ◌++◌, Option, Some, None, length, map, Contains, refl, ap, ap₂, sym, ◌∙◌, subst, arith, inl, inr}
 use Rattle.std.specs.Prelude.{slice_get}
 use Rattle.thp_model.specs.declared.events.Event.{Event}
 use Rattle.thp_model.specs.declared.events.Outcome.{Outcome}
@@ -8,13 +8,12 @@ use Rattle.thp_model.specs.declared.events.What.{What}
 use Rattle.thp_model.specs.declared.events.What.TheVariants as what
 use Rattle.thp_model.specs.declared.shape.Shape.{Shape}
 use Rattle.thp_model.specs.History.{History, by}
-use Rattle.thp_model.specs.Counts.{is_live, is_closed, pins}
+use Rattle.thp_model.specs.Counts.{is_live, pins}
 use Rattle.thp_model.specs.Legal.{Fits, FitsTaken, FitsSplit, IsLegal, is_dropped}
 use Rattle.thp_model.specs.Pages.{PageState, PageSplit, gives_frames, is_worth}
 use Rattle.thp_model.specs.Places.{queue, flight, has_page, no_pages, is_taking}
-use Rattle.thp_model.specs.Underused.{is_partly_mapped, is_worth_split, shrinks_underused}
+use Rattle.thp_model.specs.Underused.{is_worth_split, shrinks_underused}
 use Rattle.thp_model.proofs.Flights.{flight_push}
-use Rattle.thp_model.proofs.OnePlace.{has_times}
 use Rattle.thp_model.proofs.PageOutcomes.{released_alive}
 use Rattle.thp_model.proofs.Pushes.{live_stays}
 use Rattle.thp_model.proofs.Standing.{first_has}
@@ -27,7 +26,7 @@ use Rattle.thp_live_pages.specs.PlacesState.{AtSlot, PlacesState, Edits, IsElsew
 use Rattle.thp_live_pages.specs.Flying.{IsFlyingAt}
 use Rattle.thp_live_pages.specs.Holding.{IsSlot}
 use Rattle.thp_live_pages.specs.Homes.{block_of, standing_of}
-use Rattle.thp_live_pages.proofs.Admitting.{Found, found, not_live, flies_not_there, flies_nowhere}
+use Rattle.thp_live_pages.proofs.Admitting.{Found, found, at_home, flies_not_there, flies_nowhere}
 use Rattle.thp_live_pages.proofs.Homing.{Homed, legal_homed, block_push}
 use Rattle.thp_live_pages.proofs.Keeping.{blocks_same, blocks_pushed}
 use Rattle.thp_live_pages.proofs.ListEvents.{first_is, taken_fits, taken_node, in_flight, flying_live, flying_whole, split_fits, split_node, pinned_fits, pinned_node, used_fits, used_node, back_fits, back_node, dropped_node}
@@ -38,8 +37,9 @@ use Rattle.thp_model.specs.declared.page_call.Done.{Done}
 use Rattle.thp_model.specs.declared.page_call.Loss.{Loss}
 use Rattle.thp_check.specs.declared.node_state.NodeState.{NodeState}
 use Rattle.thp_check.specs.Flights.{blocks_in, flight_left}
-use Rattle.thp_check.specs.Meanings.{Keeps, Means, is_taker}
-use Rattle.thp_check.proofs.FlightBlocks.{LiesAlone, LieIn, block_there, page_there, first_block, first_page, none_there, unmoved, departed}
+use Rattle.thp_check.specs.declared.misfit.Misfit.TheVariants as misfit
+use Rattle.thp_check.specs.Meanings.{Keeps, Means, IsMisfit, is_taker}
+use Rattle.thp_check.proofs.FlightBlocks.{LiesAlone, LieIn, block_there, page_there, first_lies, first_page, none_first, none_there, unmoved, departed}
 use Rattle.thp_check.proofs.Steps.{goes_on}
 
 no_both : (z : Bool) → z ≡ false → z ≡ true → ⊥
@@ -87,31 +87,37 @@ oldest_apart s h c p b old new m held took d i =
     let flies : standing_of s h p ≡ Batch d = standing_flying s h p d homed.grown.sound (ap (λ r. has_page r (flight h d)) (sym same) ∙ w.1) in
     cc
 
--- the oldest page lies somewhere
-pub take_absent : (s : Shape) (h : History) (c p : ℕ) (old : NodeState) → Means s h old → ((b : ℕ) → HoldsPage (slot_at old.places.table b) p → ⊥) → FitsTaken s h c p → ⊥
-take_absent s h c p old m none f =
-    no_both (is_live h p) (not_live s h old.places.table old.places.queue p m.kept.node none)
-    ((legal_homed s h m.kept.node.legal).grown.sound.live p (omega (arith, has_times p (queue s h) (first_has p (queue s h) f.oldest))))
-
-pub take_busy : (s : Shape) (h : History) (c p : ℕ) (old : NodeState) → Means s h old → (no_pages (blocks_in old.flights c) || is_taker old.taker c) ≡ false → FitsTaken s h c p → ⊥
-take_busy s h c p old m may f = no_both _ (sym (may_is s h c old m) ∙ may) f.may_take
-
 pub same_slot : (x y : Slot) → Some x ≡ Some y → x ≡ y
 same_slot x y e = cc
 
 pub same_some : (a b : ℕ) → Some a ≡ Some b → a ≡ b
 same_some a b e = cc
 
-pub take_other : (s : Shape) (h : History) (c p first : ℕ) (old : NodeState) (new : PlacesState) → Means s h old → TakesFirst old.places new c first → first ≢ p → FitsTaken s h c p → ⊥
-take_other s h c p first old new m took other f =
-    other (same_some first p (sym (first_is s h c old.places new first (legal_homed s h m.kept.node.legal) m.kept.node took) ∙ f.oldest))
+-- another page than the oldest, and a take where there is none
+pub take_other : (s : Shape) (h : History) (c p first : ℕ) (old : NodeState) (new : PlacesState) → Means s h old → TakesFirst old.places new c first → first ≢ p →
+    IsMisfit s h (by c (what.Taken p)) (misfit.Oldest (Some first))
+take_other s h c p first old new m took other =
+    let oldest = first_is s h c old.places new first (legal_homed s h m.kept.node.legal) m.kept.node took in
+    (λ f. other (same_some first p (sym oldest ∙ f.oldest)), (sym oldest, λ e. other (same_some first p e)))
 
-pub take_none : (s : Shape) (h : History) (c p : ℕ) (old : NodeState) → Means s h old → length old.places.queue ≡ 0 → FitsTaken s h c p → ⊥
-take_none s h c p old m none f = go (queue s h) old.places.queue m.kept.node.queue_is none f.oldest where
-  go : (ps bs : List ℕ) → map (block_of h) ps ≡ map (λ b. Some b) bs → length bs ≡ 0 → slice_get ps 0 ≡ Some p → ⊥
-  go [] bs e n g = cc
-  go (x ∷ ps) [] e n g = cc
-  go (x ∷ ps) (b ∷ bs) e n g = omega (arith, n)
+pub take_none : (s : Shape) (h : History) (c p : ℕ) (old : NodeState) → Means s h old → slice_get old.places.queue 0 ≡ None → IsMisfit s h (by c (what.Taken p)) (misfit.Oldest None)
+take_none s h c p old m none =
+    let empty : slice_get (queue s h) 0 ≡ None = none_first h (queue s h) old.places.queue m.kept.node.queue_is none in
+    (λ f. let there = f.oldest in absurd (cc), (sym empty, λ e. absurd (cc)))
+
+-- a take by a caller who may not take
+pub take_busy : (s : Shape) (h : History) (c p : ℕ) (old : NodeState) (new : PlacesState) → Means s h old → TakesFirst old.places new c p → (no_pages (blocks_in old.flights c) || is_taker old.taker c) ≡ false →
+    IsMisfit s h (by c (what.Taken p)) misfit.HasBatch
+take_busy s h c p old new m took may =
+    let busy = sym (may_is s h c old m) ∙ may in
+    (λ f. no_both _ busy f.may_take, (first_is s h c old.places new p (legal_homed s h m.kept.node.legal) m.kept.node took, busy))
+
+-- the block of the oldest page is the first of the queue
+pub oldest_held : (old new : PlacesState) (c p b : ℕ) → TakesFirst old new c p → slice_get old.queue 0 ≡ Some b → HoldsPage (slot_at old.table b) p
+oldest_held old new c p b took first =
+    let P : Option Slot → Type 0 = λ o. HoldsPage o p in
+    let same : took.block ≡ b = same_some took.block b (sym took.first ∙ first) in
+    subst P (sym (ap (slot_at old.table) (sym same) ∙ took.at)) (sym took.id_is)
 
 -- a page that isn't in the caller's batch isn't in its flight
 pub elsewhere : (s : Shape) (h : History) (c p : ℕ) (old : NodeState) → Means s h old → IsElsewhere old.places.table c p → has_page p (flight h c) ≡ false
@@ -126,18 +132,51 @@ elsewhere s h c p old m e =
           flies_not_there s h t q c p w.0 m.kept.node there (λ y. w.4 (ap (λ (x : Slot). x.standing) (same_slot w.1 there.slot (sym w.2 ∙ there.at)) ∙ y))
     ]
 
-pub split_absent : (s : Shape) (h k : History) (c p : ℕ) (set : List Bool) (old : NodeState) → Means s h old → IsElsewhere old.places.table c p → FitsSplit s h k c p set → ⊥
-split_absent s h k c p set old m e f = no_both _ (elsewhere s h c p old m e) f.in_flight
+pub split_absent : (s : Shape) (h : History) (c p : ℕ) (set : List Bool) (old : NodeState) → Means s h old → IsElsewhere old.places.table c p → IsMisfit s h (by c (what.Split p set)) misfit.NotInFlight
+split_absent s h c p set old m e = let out = elsewhere s h c p old m e in (λ f. no_both _ out f.in_flight, out)
 
-pub pinned_absent : (s : Shape) (h : History) (c p : ℕ) (old : NodeState) → Means s h old → IsElsewhere old.places.table c p → has_page p (flight h c) ≡ true × (0 < pins h p) × (is_worth_split s h p ≡ true) → ⊥
-pinned_absent s h c p old m e f = no_both _ (elsewhere s h c p old m e) f.0
+pub pinned_absent : (s : Shape) (h : History) (c p : ℕ) (old : NodeState) → Means s h old → IsElsewhere old.places.table c p → IsMisfit s h (by c (what.Pinned p)) misfit.NotInFlight
+pinned_absent s h c p old m e = let out = elsewhere s h c p old m e in (λ f. no_both _ out f.0, out)
 
-pub used_absent : (s : Shape) (h : History) (c p : ℕ) (old : NodeState) → Means s h old → IsElsewhere old.places.table c p → has_page p (flight h c) ≡ true × (is_worth_split s h p ≡ false) → ⊥
-used_absent s h c p old m e f = no_both _ (elsewhere s h c p old m e) f.0
+pub used_absent : (s : Shape) (h : History) (c p : ℕ) (old : NodeState) → Means s h old → IsElsewhere old.places.table c p → IsMisfit s h (by c (what.Used p)) misfit.NotInFlight
+used_absent s h c p old m e = let out = elsewhere s h c p old m e in (λ f. no_both _ out f.0, out)
 
--- the first page of a flight is in the caller's batch
-pub first_absent : (s : Shape) (h : History) (c p : ℕ) (old : NodeState) → Means s h old → IsElsewhere old.places.table c p → slice_get (flight h c) 0 ≡ Some p → ⊥
-first_absent s h c p old m e f = no_both _ (elsewhere s h c p old m e) (first_has p (flight h c) f)
+-- the page of the first block of a flight is its first, and stands in the caller's batch
+pub first_flies : (s : Shape) (h : History) (c b : ℕ) (old : NodeState) → Means s h old → slice_get (blocks_in old.flights c) 0 ≡ Some b →
+    (q : ℕ) × (slice_get (flight h c) 0 ≡ Some q) × IsFlyingAt old.places.table c q b
+first_flies s h c b old m first =
+    let w = first_lies h (flight h c) (blocks_in old.flights c) b (m.kept.flying c) first in
+    let there : Found s h old.places.table w.0 b = at_home s h old.places.table old.places.queue w.0 b m.kept.node w.2 in
+    let flies : has_page there.slot.id (flight h c) ≡ true = ap (λ r. has_page r (flight h c)) there.id_is ∙ first_has w.0 (flight h c) w.1 in (
+      w.0,
+      w.1,
+      record {
+        slot = there.slot;
+        at = there.at;
+        id_is = there.id_is;
+        stands = there.is.stands ∙ standing_flying s h there.slot.id c (legal_homed s h m.kept.node.legal).grown.sound flies;
+      },
+    )
+
+-- and it has the number that was read
+pub first_number : (s : Shape) (h : History) (c b p : ℕ) (old : NodeState) → Means s h old → slice_get (blocks_in old.flights c) 0 ≡ Some b → AtSlot old.places.table b (λ x. p ≡ x.id) →
+    (Some p ≡ slice_get (flight h c) 0) × IsFlyingAt old.places.table c p b
+first_number s h c b p old m first read =
+    let w = first_flies s h c b old m first in
+    let same : w.0 ≡ p = sym w.2.id_is ∙ sym (read w.2.slot w.2.at) in
+    let P : ℕ → Type 0 = λ q. IsFlyingAt old.places.table c q b in
+    (sym (w.1 ∙ ap (λ (n : ℕ). Some n) same), subst P same w.2)
+
+-- a flight without a block is empty
+pub none_flies : (s : Shape) (h : History) (c : ℕ) (old : NodeState) → Means s h old → slice_get (blocks_in old.flights c) 0 ≡ None → None ≡ slice_get (flight h c) 0
+none_flies s h c old m none = sym (none_first h (flight h c) (blocks_in old.flights c) (m.kept.flying c) none)
+
+-- another page than the first of the flight
+pub back_other : (s : Shape) (h : History) (c p : ℕ) (o : Option ℕ) → o ≡ slice_get (flight h c) 0 → o ≢ Some p → IsMisfit s h (by c (what.Back p)) (misfit.First o)
+back_other s h c p o is other = (λ f. other (is ∙ f.0), (is, other))
+
+pub dropped_other : (s : Shape) (h : History) (c p : ℕ) (o : Option ℕ) → o ≡ slice_get (flight h c) 0 → o ≢ Some p → IsMisfit s h (by c (what.Dropped p)) (misfit.First o)
+dropped_other s h c p o is other = (λ f. other (is ∙ f.0), (is, other))
 
 module _ (s : Shape) (h : History) (c p b : ℕ) (old : NodeState) (m : Means s h old) (at : IsFlyingAt old.places.table c p b) where
   homed : Homed s h
@@ -157,8 +196,11 @@ module _ (s : Shape) (h : History) (c p b : ℕ) (old : NodeState) (m : Means s 
   first_is_first : slice_get (blocks_in old.flights c) 0 ≡ Some b → slice_get (flight h c) 0 ≡ Some at.slot.id
   first_is_first first = first_page h (flight h c) (blocks_in old.flights c) at.slot.id b (m.kept.flying c) (alone s h at.slot.id b m.kept.node.legal home) first
 
-  pub first_there : slice_get (flight h c) 0 ≡ Some p → slice_get (blocks_in old.flights c) 0 ≡ Some b
-  first_there first = first_block h (flight h c) (blocks_in old.flights c) p b (m.kept.flying c) (ap (block_of h) (sym at.id_is) ∙ home) first
+  first_is_this : slice_get (blocks_in old.flights c) 0 ≡ Some b → slice_get (flight h c) 0 ≡ Some p
+  first_is_this first = first_is_first first ∙ ap (λ (n : ℕ). Some n) at.id_is
+
+  flies : has_page p (flight h c) ≡ true
+  flies = ap (λ r. has_page r (flight h c)) (sym at.id_is) ∙ in_flight s h c b at.slot old.places old.places homed m.kept.node at.at at.stands
 
   pinned_as : pins h p ≡ at.slot.page.pins
   pinned_as = ap (pins h) (sym at.id_is) ∙ pins_is s h at.slot.id at.slot.page slot.tallies
@@ -212,11 +254,19 @@ module _ (s : Shape) (h : History) (c p b : ℕ) (old : NodeState) (m : Means s 
       (told.set_is
       ∙ released_alive s h (h ++ e ∷ []) at.slot.id at.slot.page page slot.tallies (tallies_split s h c at.slot.id set at.slot.page page slot.tallies (splits page how)) live (live_stays h e at.slot.id refl refl ∙ live))
 
-  pub split_pinned : (set : List Bool) → at.slot.page.pins ≢ 0 → Fits s h (by c (what.Split p set)) → ⊥
-  split_pinned set some f = some (sym pinned_as ∙ f.unpinned)
+  -- an event that tells other frames would fit with these
+  pub split_differs : (set : List Bool) (page : PageState) (given : List Bool) → PageSplit (shrinks_underused old.shape) at.slot.page page → is_worth old.shape.underused at.slot.page ≡ true → at.slot.page.pins ≡ 0 →
+      given ≡ gives_frames at.slot.page page → given ≢ set → IsMisfit s h (by c (what.Split p set)) (misfit.Released given)
+  split_differs set page given how worth none is other =
+      let fits : Fits s h (by c (what.Split at.slot.id given)) = (split_fits s h c b at.slot old.places old.places homed m.kept.node at.at at.stands page given (splits page how) (worth_at true worth) none is).1 in
+      let P : ℕ → Type 0 = λ q. Fits s h (by c (what.Split q given)) in
+      (λ f. other (is ∙ split_tells set page how f), (subst P at.id_is fits, λ e. other (cc)))
 
-  pub split_idle : (set : List Bool) → is_worth old.shape.underused at.slot.page ≡ false → Fits s h (by c (what.Split p set)) → ⊥
-  split_idle set idle f = no_both _ (worthless idle) f.worth
+  pub split_pinned : (set : List Bool) → is_worth old.shape.underused at.slot.page ≡ true → at.slot.page.pins ≢ 0 → IsMisfit s h (by c (what.Split p set)) misfit.HasPins
+  split_pinned set worth some = (λ f. some (sym pinned_as ∙ f.unpinned), ((flies, worthy worth), λ e. some (sym pinned_as ∙ e)))
+
+  pub split_idle : (set : List Bool) → is_worth old.shape.underused at.slot.page ≡ false → IsMisfit s h (by c (what.Split p set)) misfit.InUse
+  split_idle set idle = (λ f. no_both _ (worthless idle) f.worth, (flies, worthless idle))
 
   pub pinned_goes : is_worth old.shape.underused at.slot.page ≡ true → at.slot.page.pins ≢ 0 → Fits s h (by c (what.Pinned p)) × Keeps s (h ++ by c (what.Pinned p) ∷ []) old
   pinned_goes worth some =
@@ -226,11 +276,11 @@ module _ (s : Shape) (h : History) (c p b : ℕ) (old : NodeState) (m : Means s 
       subst P at.id_is
       (fits, goes_on s h e old old m (pinned_node s h c at.slot.id old.places.table old.places.queue m.kept.node fits) (λ d. unmoved h (h ++ e ∷ []) d (blocks_in old.flights d) (flight_push h d c e.what) (λ r y. block_push h e r) (m.kept.flying d)) refl refl refl refl refl refl)
 
-  pub pinned_not : at.slot.page.pins ≡ 0 → has_page p (flight h c) ≡ true × (0 < pins h p) × (is_worth_split s h p ≡ true) → ⊥
-  pinned_not none f = omega (arith, f.1, pinned_as, none)
+  pub pinned_not : at.slot.page.pins ≡ 0 → IsMisfit s h (by c (what.Pinned p)) misfit.NoPins
+  pinned_not none = (λ f. omega (arith, f.1, pinned_as, none), (flies, pinned_as ∙ none))
 
-  pub pinned_idle : is_worth old.shape.underused at.slot.page ≡ false → has_page p (flight h c) ≡ true × (0 < pins h p) × (is_worth_split s h p ≡ true) → ⊥
-  pinned_idle idle f = no_both _ (worthless idle) f.2
+  pub pinned_idle : is_worth old.shape.underused at.slot.page ≡ false → at.slot.page.pins ≢ 0 → IsMisfit s h (by c (what.Pinned p)) misfit.InUse
+  pinned_idle idle some = (λ f. no_both _ (worthless idle) f.2, ((flies, worthless idle), λ e. some (sym pinned_as ∙ e)))
 
   pub used_goes : (new : NodeState) → is_worth old.shape.underused at.slot.page ≡ false → Edits old.places new.places b (Some (record at.slot { standing = Nowhere })) old.places.queue 0 →
       ((d : ℕ) → blocks_in new.flights d ≡ flight_left (Some c) b d (blocks_in old.flights d)) → length new.flights.callers ≡ length old.flights.callers → new.shape ≡ old.shape → new.next ≡ old.next → new.closed ≡ old.closed →
@@ -242,8 +292,8 @@ module _ (s : Shape) (h : History) (c p b : ℕ) (old : NodeState) (m : Means s 
       subst P at.id_is
       (fits, goes_on s h e old new m (used_node s h c b at.slot old.places new.places homed m.kept.node at.at at.stands fits did) (left (what.Used at.slot.id) new fs (λ d. flight_push h d c (what.Used at.slot.id)) (λ r. block_push h e r)) size refl refl shape next closed)
 
-  pub used_not : is_worth old.shape.underused at.slot.page ≡ true → has_page p (flight h c) ≡ true × (is_worth_split s h p ≡ false) → ⊥
-  used_not worth f = no_both (is_worth_split s h p) f.1 (worthy worth)
+  pub used_not : is_worth old.shape.underused at.slot.page ≡ true → IsMisfit s h (by c (what.Used p)) misfit.Worth
+  used_not worth = (λ f. no_both (is_worth_split s h p) f.1 (worthy worth), (flies, worthy worth))
 
   -- it goes nowhere where the node is closed or the page isn't partly mapped
   dropped_as : (old.closed || not at.slot.page.partly) ≡ is_dropped s h at.slot.id
@@ -260,9 +310,10 @@ module _ (s : Shape) (h : History) (c p b : ℕ) (old : NodeState) (m : Means s 
       subst P at.id_is
       (fits, goes_on s h e old new m (back_node s h c b at.slot old.places new.places homed m.kept.node at.at at.stands fits did) (left (what.Back at.slot.id) new fs (λ d. flight_push h d c (what.Back at.slot.id)) (λ r. block_push h e r)) size refl refl shape next closed)
 
-  pub back_dropped : (old.closed || not at.slot.page.partly) ≡ true → (slice_get (flight h c) 0 ≡ Some p) × (is_closed h ≡ false) × (is_partly_mapped s h p ≡ true) → ⊥
-  back_dropped out f =
-      no_both (is_dropped s h p) (ap₂ (λ a z. a || not z) f.1 f.2) (ap (is_dropped s h) (sym at.id_is) ∙ sym dropped_as ∙ out)
+  pub back_dropped : (old.closed || not at.slot.page.partly) ≡ true → slice_get (blocks_in old.flights c) 0 ≡ Some b → IsMisfit s h (by c (what.Back p)) misfit.Drops
+  back_dropped out first =
+      let drops : is_dropped s h p ≡ true = ap (is_dropped s h) (sym at.id_is) ∙ sym dropped_as ∙ out in
+      (λ f. no_both (is_dropped s h p) (ap₂ (λ a z. a || not z) f.1 f.2) drops, (first_is_this first, drops))
 
   pub dropped_goes : (new : NodeState) → (old.closed || not at.slot.page.partly) ≡ true → slice_get (blocks_in old.flights c) 0 ≡ Some b →
       Edits old.places new.places b (Some (record at.slot { standing = Nowhere })) old.places.queue 0 → ((d : ℕ) → blocks_in new.flights d ≡ flight_left (Some c) b d (blocks_in old.flights d)) → length new.flights.callers ≡ length old.flights.callers → new.shape ≡ old.shape → new.next ≡ old.next → new.closed ≡ old.closed →
@@ -274,8 +325,10 @@ module _ (s : Shape) (h : History) (c p b : ℕ) (old : NodeState) (m : Means s 
       subst P at.id_is
       (fits, goes_on s h e old new m (dropped_node s h c b at.slot old.places new.places homed m.kept.node at.at at.stands fits did) (left (what.Dropped at.slot.id) new fs (λ d. flight_push h d c (what.Dropped at.slot.id)) (λ r. block_push h e r)) size refl refl shape next closed)
 
-  pub dropped_not : (old.closed || not at.slot.page.partly) ≡ false → (slice_get (flight h c) 0 ≡ Some p) × (is_dropped s h p ≡ true) → ⊥
-  dropped_not stays f = no_both (is_dropped s h p) (ap (is_dropped s h) (sym at.id_is) ∙ sym dropped_as ∙ stays) f.1
+  pub dropped_not : (old.closed || not at.slot.page.partly) ≡ false → slice_get (blocks_in old.flights c) 0 ≡ Some b → IsMisfit s h (by c (what.Dropped p)) misfit.GoesBack
+  dropped_not stays first =
+      let back : is_dropped s h p ≡ false = ap (is_dropped s h) (sym at.id_is) ∙ sym dropped_as ∙ stays in
+      (λ f. no_both (is_dropped s h p) back f.1, (first_is_this first, back))
 
 -- the caller whose batch a page leaves by a loss is the one in whose batch it stands
 leaver_is : (o : Outcome) (w : Standing) (d : ℕ) → left_by o w ≡ Some d → w ≡ Batch d

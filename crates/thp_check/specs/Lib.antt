@@ -1,4 +1,5 @@
 pub mod Flights
+pub mod Reasons
 pub mod Meanings
 pub mod Replays
 pub mod Freeing

@@ -1,5 +1,6 @@
 -- What the state of a replay means: it is that of the history replayed so far. No public clause cites this module.
-use Rattle.std.specs.Prelude.{◌≡◌, ◌≢◌, ◌≤◌, ℕ, Bool, false, nat_eq, [], ◌∷◌, ◌++◌, length, map, slice_get, Option, Some, None, MatchBool}
+use Rattle.std.specs.Prelude.{◌≡◌, ◌≤◌, ℕ, Bool, false, nat_eq, [], ◌∷◌, ◌++◌, length, map, slice_get, Option, Some, None, Result}
+use Rattle.std.specs.Result.{MatchResult}
 use Rattle.thp_model.specs.declared.events.Event.{Event}
 use Rattle.thp_model.specs.declared.events.What.{What}
 use Rattle.thp_model.specs.declared.shape.Shape.{Shape}
@@ -11,6 +12,8 @@ use Rattle.thp_model.specs.Legal.{Fits}
 use Rattle.thp_live_pages.specs.Holding.{IsNode}
 use Rattle.thp_live_pages.specs.Homes.{block_of}
 use Rattle.thp_check.specs.Flights.{blocks_in}
+use Rattle.thp_check.specs.Reasons.{Explains}
+use Rattle.thp_check.specs.declared.misfit.Misfit.{Misfit}
 use Rattle.thp_check.specs.declared.node_state.NodeState.{NodeState}
 
 -- the pages, the queue, the flights and the numbers of a replay are those of the history, which is legal; a flight's blocks
@@ -34,14 +37,19 @@ pub record Means (s : Shape) (h : History) (r : NodeState) : Type 0 where
   pub kept : Keeps s h r
   pub taking : (c : ℕ) → is_taking h c ≡ is_taker r.taker c
 
--- whether what c does fits each history that the replay may mean; where it does, the replay goes on with it
-abbrev pub Follows : NodeState → NodeState → ℕ → What → Bool → Type 0
-Follows old new c w fits =
-    (s : Shape) (h : History) → Means s h old → MatchBool fits (Fits s h (by c w) × Keeps s (h ++ by c w ∷ []) new) (Fits s h (by c w) → ⊥)
+-- the event doesn't fit the history, for this reason
+abbrev pub IsMisfit : Shape → History → Event → Misfit → Type 0
+IsMisfit s h e m = (Fits s h e → ⊥) × Explains s h e m
+
+-- whether what c does fits each history that the replay may mean, and why not where it doesn't; where it does, the replay goes on
+-- with it
+abbrev pub Follows : NodeState → NodeState → ℕ → What → Result Unit Misfit → Type 0
+Follows old new c w answer =
+    (s : Shape) (h : History) → Means s h old → MatchResult answer (λ fits. Fits s h (by c w) × Keeps s (h ++ by c w ∷ []) new) (IsMisfit s h (by c w))
 
 -- the same of a whole event
-abbrev pub Admits : NodeState → NodeState → Event → Bool → Type 0
-Admits old new e fits = (s : Shape) (h : History) → Means s h old → MatchBool fits (Fits s h e × Means s (h ++ e ∷ []) new) (Fits s h e → ⊥)
+abbrev pub Admits : NodeState → NodeState → Event → Result Unit Misfit → Type 0
+Admits old new e answer = (s : Shape) (h : History) → Means s h old → MatchResult answer (λ fits. Fits s h e × Means s (h ++ e ∷ []) new) (IsMisfit s h e)
 
 -- the replay means some history
 pub record IsKnown (r : NodeState) : Type 0 where
@@ -49,6 +57,6 @@ pub record IsKnown (r : NodeState) : Type 0 where
   pub history : History
   pub means : Means shape history r
 
--- page p is first in the flight of caller c at no history that the replay may mean
-abbrev pub IsNeverFirst : NodeState → ℕ → ℕ → Type 0
-IsNeverFirst r c p = (s : Shape) (h : History) → Means s h r → slice_get (flight h c) 0 ≢ Some p
+-- at each history that the replay may mean, this page is first in the flight of caller c, or none is
+abbrev pub IsFirstOf : NodeState → ℕ → Option ℕ → Type 0
+IsFirstOf r c o = (s : Shape) (h : History) → Means s h r → o ≡ slice_get (flight h c) 0

@@ -27,7 +27,7 @@ pub fn check(alloc: Global, shape: Shape, events: &[Event]) -> Result<(), CheckF
         Err(_) => return Err(CheckFault::OutOfMemory),
     };
     for (place, event) in events.iter().enumerate() {
-        if !state.admit(event) {
+        if let Err(_) = state.admit(event) {
             return Err(CheckFault::Illegal(place));
         }
     }

@@ -1,5 +1,5 @@
 //! The pages that callers took from the queue and that are still in their batches, by block.
-ghost use Rattle.std.specs.Prelude.{◌≡◌, ◌<◌, ◌%◌, ℕ, [], ◌∷◌, ◌++◌, cond, nat_eq, length, slice_get, IfOk, Some, IsTrue, ◌↔◌, Contains};
+ghost use Rattle.std.specs.Prelude.{◌≡◌, ◌<◌, ◌%◌, ℕ, [], ◌∷◌, ◌++◌, cond, nat_eq, length, slice_get, IfOk, Some, Contains};
 ghost use Rattle.std.specs.Option.{ForSome};
 ghost use Rattle.thp_check.specs.Flights.{blocks_in, flight_left};
 
@@ -61,16 +61,6 @@ impl Flights {
             block = self.links.next(block);
         }
         None
-    }
-
-    // Whether the page of a block is the first of a caller's flight.
-    pub(crate) fn is_first(&self, caller: u32, block: u32) -> bool
-        ensures { IsTrue result ↔ (slice_get (blocks_in self.now caller) 0 ≡ Some block) }
-    {
-        match self.first_of(caller) {
-            Some(first) => first == block,
-            None => false,
-        }
     }
 
     // Puts the page of a block, which is in no flight, at the end of a caller's.

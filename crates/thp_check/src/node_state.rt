@@ -1,19 +1,23 @@
 //! What a node holds after the events of a history so far.
-ghost use Rattle.std.specs.Prelude.{◌≡◌, ◌<◌, ◌≤◌, ◌+◌, ◌^◌, ℕ, [], ◌||◌, not, slice_get, Some, IfNone, IfOk, IfSome, IsSome, IsTrue, ◌↔◌};
+ghost use Rattle.std.specs.Prelude.{◌≡◌, ◌<◌, ◌≤◌, ◌+◌, ◌^◌, ℕ, [], ◌||◌, not, slice_get, Some, ◌≢◌, IfErr, IfNone, IfOk, IfSome, IsSome, if◌then◌else◌, IsTrue, ◌↔◌};
+ghost use Rattle.thp_model.specs.Counts.{is_live};
+ghost use Rattle.thp_model.specs.History.{History};
 ghost use Rattle.thp_model.specs.Limits.{max_order, min_order};
 ghost use Rattle.thp_model.specs.Pages.{is_worth};
 ghost use Rattle.thp_model.specs.Places.{no_pages, takes_by};
 ghost use Rattle.thp_page.specs.Slots.{slot_at};
 ghost use Rattle.thp_live_pages.specs.Flying.{IsFlyingAt};
 ghost use Rattle.thp_model.specs.PageCalls.{gain_what, loss_what};
+ghost use Rattle.thp_model.specs.declared.shape.Shape.{Shape};
 ghost use Rattle.thp_live_pages.specs.PlacesState.{AtSlot};
 ghost use Rattle.thp_check.specs.Flights.{blocks_in};
 ghost use Rattle.thp_check.specs.Meanings.{is_taker};
 
 use crate::flights::Flights;
+use crate::misfit::Misfit;
 use std::alloc::{AllocError, Global};
 use thp_live_pages::Places;
-use thp_model::{Done, Event, Gain, Loss, Outcome, PageId, Shape, SubSet, What};
+use thp_model::{Done, Event, Gain, Loss, Outcome, PageId, Refusal, Shape, SubSet, What};
 
 // The state after the events so far. Once an event didn't fit it may be any.
 #[derive(Drop)]
@@ -22,14 +26,14 @@ pub(crate) struct NodeState {
     pub(crate) places: Places,
     flights: Flights,
     // how many pages were allocated: the next page's number
-    next: u64,
-    closed: bool,
+    pub(crate) next: u64,
+    pub(crate) closed: bool,
     // the caller of the last event, if that was a take
     taker: Option<u32>,
 }
 
 impl NodeState {
-    ghost use Rattle.thp_check.specs.Meanings.{Means, IsKnown, IsNeverFirst, Follows, Admits};
+    ghost use Rattle.thp_check.specs.Meanings.{Means, IsKnown, IsFirstOf, Follows, Admits};
 
     // The state before any event.
     pub(crate) fn new(alloc: Global, shape: Shape) -> Result<NodeState, AllocError>
@@ -49,19 +53,19 @@ impl NodeState {
         })
     }
 
-    // Whether an event fits, and the state after it where it does.
-    pub(crate) fn admit(&mut self, event: &Event) -> bool
+    // The state after an event, where it fits, and else why it doesn't.
+    pub(crate) fn admit(&mut self, event: &Event) -> Result<(), Misfit>
         requires known { IsKnown self.old }
         requires small { self.old.next + 1 < 2 ^ 64 }
         ensures { Admits self.old self.new event.now result }
     {
-        let fits = self.apply(event.caller, &event.what);
+        let answer = self.apply(event.caller, &event.what);
         self.taker = taker_of(event);
-        fits
+        answer
     }
 
     // `admit`, but for the note whether the event is a take.
-    fn apply(&mut self, caller: u32, what: &What) -> bool
+    fn apply(&mut self, caller: u32, what: &What) -> Result<(), Misfit>
         requires known { IsKnown self.old }
         requires small { self.old.next + 1 < 2 ^ 64 }
         ensures { Follows self.old self.new caller what.now result }
@@ -76,7 +80,7 @@ impl NodeState {
             } => self.lose(page, Loss::UnmapWhole, outcome, released),
             What::MapSub { page, first, count } => match short(first, count) {
                 Some((first, count)) => self.gain(page, Gain::MapSub { first, count }),
-                None => false,
+                None => Err(self.bad_range(page)),
             },
             What::UnmapSub {
                 outcome,
@@ -88,7 +92,7 @@ impl NodeState {
                 Some((first, count)) => {
                     self.lose(page, Loss::UnmapSub { first, count }, outcome, released)
                 }
-                None => false,
+                None => Err(self.bad_range(page)),
             },
             What::SplitPmd { page } => self.gain(page, Gain::SplitPmd),
             What::Pin { page } => self.gain(page, Gain::Pin),
@@ -99,15 +103,15 @@ impl NodeState {
             } => self.lose(page, Loss::Unpin, outcome, released),
             What::Write { page, first, count } => match short(first, count) {
                 Some((first, count)) => self.gain(page, Gain::Write { first, count }),
-                None => false,
+                None => Err(self.bad_range(page)),
             },
             What::Zero { page, first, count } => match short(first, count) {
                 Some((first, count)) => self.gain(page, Gain::Zero { first, count }),
-                None => false,
+                None => Err(self.bad_range(page)),
             },
             What::Taken { page } => self.take(caller, page),
             What::Split { page, released } => self.split(caller, page, released),
-            What::Pinned { page } => self.is_pinned(caller, page),
+            What::Pinned { page } => self.find_pinned(caller, page),
             What::Used { page } => self.leave_used(caller, page),
             What::Back { page } => self.put_back(caller, page),
             What::Dropped { page } => self.drop_page(caller, page),
@@ -115,77 +119,99 @@ impl NodeState {
         }
     }
 
+    // Why a call of a page with a range of numbers that are too large for any page is refused.
+    fn bad_range(&self, page: PageId) -> Misfit
+        ensures { (s : Shape) (h : History) → Means s h self.now → result ≡ Misfit.Refused (if is_live h page then Refusal.BadRange else Refusal.NoPage) }
+    {
+        match self.places.find(page) {
+            Some(_) => Misfit::Refused(Refusal::BadRange),
+            None => Misfit::Refused(Refusal::NoPage),
+        }
+    }
+
     // A new page.
-    fn alloc(&mut self, page: PageId, block: u32) -> bool
+    fn alloc(&mut self, page: PageId, block: u32) -> Result<(), Misfit>
         requires known { IsKnown self.old }
         requires small { self.old.next + 1 < 2 ^ 64 }
         ensures { (c : ℕ) → Follows self.old self.new c (What.Alloc page block) result }
     {
-        if self.closed || page.0 != self.next {
-            return false;
+        if self.closed {
+            return Err(Misfit::Refused(Refusal::Closed));
+        }
+        if page.0 != self.next {
+            return Err(Misfit::Number(PageId(self.next)));
         }
         if !self.places.is_free(block) {
-            return false;
+            return Err(Misfit::Block);
         }
         let queued = self.shape.shrinks_underused();
         self.places.place(block, page, queued);
         self.next += 1;
-        true
+        Ok(())
     }
 
     // A page that gets mappings, a pin, data or zeros.
-    fn gain(&mut self, page: PageId, gain: Gain) -> bool
+    fn gain(&mut self, page: PageId, gain: Gain) -> Result<(), Misfit>
         ensures { (c : ℕ) → Follows self.old self.new c (gain_what gain page) result }
     {
         let block = match self.places.find(page) {
             Some(block) => block,
-            None => return false,
+            None => return Err(Misfit::Refused(Refusal::NoPage)),
         };
         match self.places.gain(block, gain) {
-            Ok(()) => true,
-            Err(_) => false,
+            Ok(()) => Ok(()),
+            Err(refusal) => Err(Misfit::Refused(refusal)),
         }
     }
 
     // A page that loses mappings or a pin, with the outcome and the frames that the event tells.
-    fn lose(&mut self, page: PageId, loss: Loss, outcome: Outcome, released: SubSet) -> bool
+    fn lose(
+        &mut self,
+        page: PageId,
+        loss: Loss,
+        outcome: Outcome,
+        released: SubSet,
+    ) -> Result<(), Misfit>
         requires { IsKnown self.old }
         ensures { (c : ℕ) → Follows self.old self.new c (loss_what loss page outcome released) result }
     {
         let block = match self.places.find(page) {
             Some(block) => block,
-            None => return false,
+            None => return Err(Misfit::Refused(Refusal::NoPage)),
         };
         let mut done = Done::none();
         let left = match self.places.lose(block, loss, self.closed, &mut done) {
             Ok(left) => left,
-            Err(_) => return false,
+            Err(refusal) => return Err(Misfit::Refused(refusal)),
         };
         self.flights.leave(left, block);
-        is_told(&done, outcome, released)
+        if !is_told(&done, outcome, released) {
+            return Err(Misfit::Outcome {
+                outcome: done.outcome,
+                released: done.released,
+            });
+        }
+        Ok(())
     }
 
     // A take of the oldest page.
-    fn take(&mut self, caller: u32, page: PageId) -> bool
+    fn take(&mut self, caller: u32, page: PageId) -> Result<(), Misfit>
         requires { IsKnown self.old }
         ensures { Follows self.old self.new caller (What.Taken page) result }
     {
-        if !self.may_take(caller) {
-            return false;
-        }
-        let block = match self.places.find(page) {
+        let block = match self.places.queue().front() {
             Some(block) => block,
-            None => return false,
+            None => return Err(Misfit::Oldest(None)),
         };
-        if self.places.queue().len() == 0 {
-            return false;
-        }
         let first = self.places.take_first(caller);
         if first != page {
-            return false;
+            return Err(Misfit::Oldest(Some(first)));
+        }
+        if !self.may_take(caller) {
+            return Err(Misfit::HasBatch);
         }
         self.flights.join(caller, block);
-        true
+        Ok(())
     }
 
     // Whether a caller has no page in flight, or goes on taking.
@@ -202,54 +228,60 @@ impl NodeState {
     }
 
     // A try that splits a page of the caller's flight, with the frames that the event tells.
-    fn split(&mut self, caller: u32, page: PageId, released: SubSet) -> bool
+    fn split(&mut self, caller: u32, page: PageId, released: SubSet) -> Result<(), Misfit>
         requires { IsKnown self.old }
         ensures { Follows self.old self.new caller (What.Split page released) result }
     {
         let block = match self.places.find_in_batch(page, caller) {
             Some(block) => block,
-            None => return false,
+            None => return Err(Misfit::NotInFlight),
         };
         if !self.is_worth(block) {
-            return false;
+            return Err(Misfit::InUse);
         }
         if self.places.pins(block) != 0 {
-            return false;
+            return Err(Misfit::HasPins);
         }
         let given = self.places.split(block, self.shape.shrinks_underused());
         self.flights.leave(Some(caller), block);
-        given == released
+        if given != released {
+            return Err(Misfit::Released(given));
+        }
+        Ok(())
     }
 
     // A try that finds a page of the caller's flight pinned.
-    fn is_pinned(&self, caller: u32, page: PageId) -> bool
+    fn find_pinned(&self, caller: u32, page: PageId) -> Result<(), Misfit>
         ensures { Follows self.now self.now caller (What.Pinned page) result }
     {
         let block = match self.places.find_in_batch(page, caller) {
             Some(block) => block,
-            None => return false,
+            None => return Err(Misfit::NotInFlight),
         };
-        if !self.is_worth(block) {
-            return false;
+        if self.places.pins(block) == 0 {
+            return Err(Misfit::NoPins);
         }
-        self.places.pins(block) != 0
+        if !self.is_worth(block) {
+            return Err(Misfit::InUse);
+        }
+        Ok(())
     }
 
     // A try that finds a page of the caller's flight in use, which leaves the flight and goes nowhere.
-    fn leave_used(&mut self, caller: u32, page: PageId) -> bool
+    fn leave_used(&mut self, caller: u32, page: PageId) -> Result<(), Misfit>
         requires { IsKnown self.old }
         ensures { Follows self.old self.new caller (What.Used page) result }
     {
         let block = match self.places.find_in_batch(page, caller) {
             Some(block) => block,
-            None => return false,
+            None => return Err(Misfit::NotInFlight),
         };
         if self.is_worth(block) {
-            return false;
+            return Err(Misfit::Worth);
         }
         self.places.drop_out(block);
         self.flights.leave(Some(caller), block);
-        true
+        Ok(())
     }
 
     // Whether the page of a block is worth a split.
@@ -261,37 +293,37 @@ impl NodeState {
     }
 
     // A put-back of the first page of the caller's flight.
-    fn put_back(&mut self, caller: u32, page: PageId) -> bool
+    fn put_back(&mut self, caller: u32, page: PageId) -> Result<(), Misfit>
         requires { IsKnown self.old }
         ensures { Follows self.old self.new caller (What.Back page) result }
     {
         let block = match self.find_first(caller, page) {
-            Some(block) => block,
-            None => return false,
+            Ok(block) => block,
+            Err(first) => return Err(Misfit::First(first)),
         };
         if self.is_dropped(block) {
-            return false;
+            return Err(Misfit::Drops);
         }
         self.places.enqueue(block);
         self.flights.leave(Some(caller), block);
-        true
+        Ok(())
     }
 
     // The first page of the caller's flight, which goes nowhere.
-    fn drop_page(&mut self, caller: u32, page: PageId) -> bool
+    fn drop_page(&mut self, caller: u32, page: PageId) -> Result<(), Misfit>
         requires { IsKnown self.old }
         ensures { Follows self.old self.new caller (What.Dropped page) result }
     {
         let block = match self.find_first(caller, page) {
-            Some(block) => block,
-            None => return false,
+            Ok(block) => block,
+            Err(first) => return Err(Misfit::First(first)),
         };
         if !self.is_dropped(block) {
-            return false;
+            return Err(Misfit::GoesBack);
         }
         self.places.drop_out(block);
         self.flights.leave(Some(caller), block);
-        true
+        Ok(())
     }
 
     // Whether the page of a block, where it leaves a batch, is dropped rather than put back.
@@ -302,29 +334,34 @@ impl NodeState {
         self.closed || !self.places.is_partly(block)
     }
 
-    // The block of a page that is the first of a caller's flight.
-    fn find_first(&self, caller: u32, page: PageId) -> Option<u32>
-        ensures there { IfSome result (IsFlyingAt self.now.places.table caller page) }
-        ensures first { IfSome result (λ b. slice_get (blocks_in self.now.flights caller) 0 ≡ Some b) }
-        ensures none { IfNone result (IsNeverFirst self.now caller page) }
+    // The block of a page that is the first of a caller's flight, and else the page that is, if there is one.
+    fn find_first(&self, caller: u32, page: PageId) -> Result<u32, Option<PageId>>
+        requires { IsKnown self.now }
+        ensures there { IfOk result (IsFlyingAt self.now.places.table caller page) }
+        ensures first { IfOk result (λ b. slice_get (blocks_in self.now.flights caller) 0 ≡ Some b) }
+        ensures is_first { IfErr result (IsFirstOf self.now caller) }
+        ensures other { IfErr result (λ o. o ≢ Some page) }
     {
-        let block = self.places.find_in_batch(page, caller)?;
-        if self.flights.is_first(caller, block) {
-            Some(block)
-        } else {
-            None
+        let block = match self.flights.first_of(caller) {
+            Some(block) => block,
+            None => return Err(None),
+        };
+        let first = self.places.number(block);
+        if first != page {
+            return Err(Some(first));
         }
+        Ok(block)
     }
 
     // The close of the node.
-    fn close(&mut self) -> bool
+    fn close(&mut self) -> Result<(), Misfit>
         ensures { (c : ℕ) → Follows self.old self.new c What.Close result }
     {
         if self.closed {
-            return false;
+            return Err(Misfit::Refused(Refusal::Closed));
         }
         self.closed = true;
-        true
+        Ok(())
     }
 }
 

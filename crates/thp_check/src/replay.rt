@@ -1,25 +1,24 @@
 //! A replay of a history, event by event.
-ghost use Rattle.std.specs.Prelude.{◌≡◌, ◌≤◌, ◌<◌, ◌+◌, ◌*◌, ◌^◌, ℕ, [], ◌∷◌, ◌++◌, length, true, IfOk, IfErr, IfSome};
+ghost use Rattle.std.specs.Prelude.{◌≡◌, ◌≤◌, ◌<◌, ◌+◌, ◌*◌, ◌^◌, ℕ, [], ◌∷◌, ◌++◌, length, slice_get, IfOk, IfErr, IfSome};
 ghost use Rattle.thp_model.specs.BlockLaws.{least_free};
-ghost use Rattle.thp_model.specs.Counts.{frees};
+ghost use Rattle.thp_model.specs.Counts.{allocations, is_closed};
 ghost use Rattle.thp_model.specs.History.{History};
 ghost use Rattle.thp_model.specs.Legal.{Fits, IsLegal};
 ghost use Rattle.thp_model.specs.Limits.{max_order, min_order};
+ghost use Rattle.thp_model.specs.Places.{queue};
 ghost use Rattle.thp_model.specs.Words.{in_words};
 ghost use Rattle.thp_model.specs.declared.shape.Shape.{Shape};
 ghost use Rattle.thp_check.specs.Freeing.{free_after, taken_block, IsFreed};
 ghost use Rattle.thp_check.specs.Meanings.{Means};
+ghost use Rattle.thp_check.specs.Reasons.{Explains};
 ghost use Rattle.thp_check.specs.Replays.{with_event};
 
+use crate::misfit::Misfit;
 use crate::node_state::NodeState;
 use std::alloc::{AllocError, Global};
 use std::marker::Model;
-use thp_least_blocks::{FreeBlocks, Past};
-use thp_model::{Event, Outcome, PageId, Shape, What};
-
-/// That an event doesn't fit the events before it.
-#[derive(Clone, Copy, Debug, PartialEq, Eq)]
-pub struct Misfit;
+use thp_least_blocks::{FreeBlocks, Past, freed_page};
+use thp_model::{Event, PageId, Shape, What};
 
 /// What a node holds after the events of its history so far, which is legal: its pages, its queue, and its flights. What lives
 /// is kept, and not what was.
@@ -64,13 +63,15 @@ impl Replay {
         })
     }
 
-    /// The replay with one more event, where that fits the events so far. A replay that met an event which doesn't fit is gone.
+    /// The replay with one more event, where that fits the events so far, and else why it doesn't. A replay that met an event which
+    /// doesn't fit is gone.
     pub fn admit(self, event: &Event) -> Result<Replay, Misfit>
         requires room { length self.history + 1 < 2 ^ 64 }
         ensures admitted { IfOk result (λ r. r ≡ with_event self event.now) }
         ensures fits { IfOk result (λ r. Fits self.shape self.history event.now) }
         ensures legal { IfOk result (λ r. IsLegal r.shape r.history) }
         ensures misfit { IfErr result (λ m. Fits self.shape self.history event.now → ⊥) }
+        ensures why { IfErr result (λ m. Explains self.shape self.history event.now m) }
     {
         let Replay {
             mut state,
@@ -78,12 +79,43 @@ impl Replay {
             mut past,
         } = self;
         let freed = freed_block(&state, &event.what);
-        if !state.admit(event) {
-            return Err(Misfit);
+        if let Err(misfit) = state.admit(event) {
+            return Err(misfit);
         }
         mark(&mut free, taken_block(&event.what), freed);
         past.push(event);
         Ok(Replay { state, free, past })
+    }
+
+    /// How many pages were allocated; the next page has this number.
+    pub fn allocations(&self) -> u64
+        ensures { result ≡ allocations self.now.history }
+    {
+        self.state.next
+    }
+
+    /// Whether the node is closed.
+    pub fn is_closed(&self) -> bool
+        ensures { result ≡ is_closed self.now.history }
+    {
+        self.state.closed
+    }
+
+    /// How many pages are in the deferred split queue.
+    pub fn queue_len(&self) -> u32
+        ensures { result ≡ length (queue self.now.shape self.now.history) }
+    {
+        self.state.places.queue().len()
+    }
+
+    /// The oldest page in the queue, or `None` where the queue is empty.
+    pub fn oldest(&self) -> Option<PageId>
+        ensures { result ≡ slice_get (queue self.now.shape self.now.history) 0 }
+    {
+        match self.state.places.queue().front() {
+            Some(block) => Some(self.state.places.number(block)),
+            None => None,
+        }
     }
 
     /// The least block where no live page lies; 0 where one lies in each.
@@ -94,22 +126,6 @@ impl Replay {
             Some(block) => block,
             None => 0,
         }
-    }
-}
-
-// The page that an event frees.
-fn freed_page(what: &What) -> Option<PageId>
-    ensures frees { IfSome result (λ p. frees p what.now ≡ true) }
-    ensures no_other { (p : ℕ) → frees p what.now ≡ true → result ≡ Some p }
-{
-    match *what {
-        What::UnmapWhole { outcome, page, .. }
-        | What::UnmapSub { outcome, page, .. }
-        | What::Unpin { outcome, page, .. } => match outcome {
-            Outcome::Freed => Some(page),
-            _ => None,
-        },
-        _ => None,
     }
 }
 

@@ -11,7 +11,7 @@ use Rattle.thp_model.specs.History.{History}
 use Rattle.thp_model.specs.Legal.{Fits, IsLegal, IsFirstMisfit}
 use Rattle.thp_model.proofs.LegalSteps.{legal_none}
 use Rattle.thp_model.proofs.ListPlaces.{get_push, get-append_left, get_middle, get_below}
-use Rattle.thp_check.specs.declared.replay.Misfit.{Misfit}
+use Rattle.thp_check.specs.declared.misfit.Misfit.{Misfit}
 use Rattle.thp_check.specs.Replays.{Replayed}
 use Rattle.thp_check.specs.Replays.{with_event as replayed}
 use Rattle.thp_journal_reader.specs.declared.journals.NodeJournal.{NodeJournal}

@@ -2,7 +2,7 @@
 use Rattle.std.specs.Prelude.{◌≡◌, ◌<◌, ◌≤◌, ◌+◌, ℕ, ⊤, All, List, [], ◌∷◌, ◌++◌, length, Option, Some, None, Result, Ok, Err}
 use Rattle.std.specs.List.{fold}
 use Rattle.thp_model.specs.Legal.{IsLegal}
-use Rattle.thp_check.specs.declared.replay.Misfit.{Misfit}
+use Rattle.thp_check.specs.declared.misfit.Misfit.{Misfit}
 use Rattle.thp_check.specs.Replays.{Replayed}
 use Rattle.thp_journal_reader.specs.declared.checked_nodes.CheckedNodes.{CheckedNodes}
 use Rattle.thp_journal_reader.specs.declared.checked_nodes.Verdict.{Verdict}

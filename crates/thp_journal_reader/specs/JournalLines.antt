@@ -2,6 +2,8 @@
 use Rattle.std.specs.Prelude.{◌==◌, ◌^◌, ◌-◌, ◌+◌, not, nat_lt, nat_le, ℕ, Bool, true, false, List, [], ◌∷◌, Option, Some, None, Result, Ok, Err, codes, if◌then◌else◌}
 use Rattle.std.specs.List.{list_all, list_any}
 use Rattle.std.specs.Str.{bytes_eq}
+use Rattle.thp_model.specs.declared.events.Event.{Event}
+use Rattle.thp_model.specs.BlockLaws.{event_with}
 use Rattle.thp_model.specs.Limits.{max_blocks, max_order, min_order}
 use Rattle.thp_text.specs.declared.fault.TextKind.{TextKind}
 use Rattle.thp_text.specs.declared.fault.TextKind.TheVariants.{BadByte, BadWord, BadNumber, BadOrder}
@@ -116,6 +118,15 @@ line_of v text =
     if not (list_all is_printable text) then Err BadByte
     else if list_any is_empty (words_of text) then Err BadWord
     else by_words v (words_of text)
+
+-- the event that a line says, with this block where it is an allocation; a line of another kind can't stand in its place
+abbrev pub event_said : ℕ → Line → Result Event TextKind
+event_said block (Happened event) = Ok (event_with block event)
+event_said block _ = Err BadOrder
+
+-- the event that a line's bytes spell in a version; no line tells the block of a new page
+unfoldable pub event_told : Version → ℕ → Text → Result Event TextKind
+event_told v block text = line_of v text >>= event_said block
 
 -- before the first line has told the version, lines are read as those of version 1
 abbrev pub version_at : Place → Version

@@ -120,7 +120,7 @@ fn verdict_on(line: u32, admitted: Result<Replay, Misfit>) -> Verdict
             replay,
             next_line: line + 1,
         },
-        Err(Misfit) => Verdict::Illegal { line },
+        Err(_) => Verdict::Illegal { line },
     }
 }
 

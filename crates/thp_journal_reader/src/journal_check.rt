@@ -1,5 +1,5 @@
 //! The check of journals whose text comes in parts.
-ghost use Rattle.std.specs.Prelude.{◌≡◌, ◌++◌, Ok, [], IfOk, IfErr};
+ghost use Rattle.std.specs.Prelude.{◌≡◌, ◌≢◌, ◌++◌, Ok, [], IfOk, IfErr};
 ghost use Rattle.thp_journal_reader.specs.declared.journals.Journals.{Journals};
 ghost use Rattle.thp_journal_reader.specs.Answers.{TellsIllegal};
 ghost use Rattle.thp_journal_reader.specs.Journals.{journals_of};
@@ -55,10 +55,11 @@ impl JournalCheck {
     }
 
     /// The line of the first illegal event that the whole text tells, in the order of the text, or none where each node's
-    /// events are legal; or the first fault of the text, wherever it stands.
+    /// events are legal; or the first fault of the text, wherever it stands. It takes no memory.
     pub fn finish(self) -> Result<Option<u32>, ReadFault>
         ensures line { IfOk result (λ line. (journals : Journals) × (told_with self [] ≡ Ok journals) × TellsIllegal journals.nodes line) }
         ensures fault { IfErr result (TellsFault (told_with self [])) }
+        ensures no_memory { IfErr result (λ fault. fault ≢ OutOfMemory) }
     {
         match self.text.fault() {
             Some((line, kind)) => Err(ReadFault::Text { line, kind }),

@@ -4,6 +4,7 @@
 mod checked_nodes;
 mod checking;
 mod event_line;
+mod event_reader;
 mod event_word;
 mod journal_check;
 mod journal_reader;
@@ -18,6 +19,7 @@ mod text_reader;
 mod version;
 
 pub use checking::{check_journals, check_text};
+pub use event_reader::read_event;
 pub use event_word::{EventWord, LossWord, PageWord, RangeWord};
 pub use journal_check::JournalCheck;
 pub use journal_reader::{JournalReader, read_journal};

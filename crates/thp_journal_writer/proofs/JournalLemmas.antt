@@ -30,7 +30,7 @@ unfolding lines_of_node
 node_whole t v n j = append_assoc t (ended (node_line v n j.0)) (event_lines j.1)
 
 -- the lines of one more node
-lines_from-more : (v : Version) (n : ℕ) (js : List Journal) (j : Journal) → lines_from v n (js ++ j ∷ []) ≡ lines_from v n js ++ lines_of_node v (n + length js) j
+pub lines_from-more : (v : Version) (n : ℕ) (js : List Journal) (j : Journal) → lines_from v n (js ++ j ∷ []) ≡ lines_from v n js ++ lines_of_node v (n + length js) j
 lines_from-more v n [] j = append-nil (lines_of_node v n j) ∙ ap (λ k. lines_of_node v k j) (omega arith)
 lines_from-more v n (x ∷ xs) j =
     ap (λ ls. lines_of_node v n x ++ ls) (lines_from-more v (n + 1) xs j)

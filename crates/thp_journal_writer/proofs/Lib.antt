@@ -1,3 +1,4 @@
 pub mod RunLemmas
 pub mod LineLemmas
 pub mod JournalLemmas
+pub mod StreamLaws

@@ -1,4 +1,5 @@
 pub mod SetTexts
 pub mod EventLines
 pub mod Journals
+pub mod Streams
 pub mod Histories

@@ -11,7 +11,7 @@ use std::alloc::AllocError;
 use thp_model::{Event, Outcome, PageId, SubSet, What};
 
 /// Writes the line of an event, with its line feed.
-pub(crate) fn put_event(text: &mut Vec<u8>, event: &Event) -> Result<(), AllocError>
+pub(crate) fn put_event_line(text: &mut Vec<u8>, event: &Event) -> Result<(), AllocError>
     ensures { OnOk result (text.new.items ≡ text.old.items ++ ended (event_line event.now)) }
 {
     put_number(text, u64::from(event.caller), b' ')?;

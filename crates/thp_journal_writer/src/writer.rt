@@ -5,7 +5,7 @@ ghost use Rattle.std.specs.Fmt.{decimal};
 ghost use Rattle.thp_journal_writer.specs.Histories.{journal_of};
 ghost use Rattle.thp_journal_writer.specs.Journals.{journal_text as text_of, version_of, version_line, node_line, lines_of_node, underused_word, tells_underused, has_order_9, ended};
 
-use crate::events::put_event;
+use crate::events::put_event_line;
 use crate::node_history::NodeHistory;
 use crate::numbers::{put, put_number};
 use crate::version::Version;
@@ -23,9 +23,9 @@ pub fn journal_text(alloc: Global, nodes: &[NodeHistory<'_>]) -> Result<Vec<u8>,
     let mut text = Vec::new(alloc);
     put_version(&mut text, version)?;
     for (n, node) in nodes.iter().enumerate() {
-        put_node(&mut text, version, n, node)?;
+        put_history(&mut text, version, n, node)?;
     }
-    put(&mut text, b"end\n")?;
+    put_end(&mut text)?;
     Ok(text)
 }
 
@@ -58,16 +58,23 @@ fn have_order_9(nodes: &[NodeHistory<'_>]) -> bool
         .all(|node| node.shape.order == Shape::MAX_ORDER)
 }
 
-// the first line
-fn put_version(text: &mut Vec<u8>, version: Version) -> Result<(), AllocError>
+/// Writes the first line of a journal, which tells the version.
+pub fn put_version(text: &mut Vec<u8>, version: Version) -> Result<(), AllocError>
     ensures { OnOk result (text.new.items ≡ text.old.items ++ ended (version_line version)) }
 {
     put(text, b"thp-journal ")?;
     put_number(text, version.number(), b'\n')
 }
 
+/// Writes the last line of a journal.
+pub fn put_end(text: &mut Vec<u8>) -> Result<(), AllocError>
+    ensures { OnOk result (text.new.items ≡ text.old.items ++ ended (codes "end")) }
+{
+    put(text, b"end\n")
+}
+
 // the lines of node n
-fn put_node(
+fn put_history(
     text: &mut Vec<u8>,
     version: Version,
     n: usize,
@@ -75,15 +82,15 @@ fn put_node(
 ) -> Result<(), AllocError>
     ensures { OnOk result (text.new.items ≡ text.old.items ++ flat_map ended (lines_of_node version n (journal_of node.now))) }
 {
-    put_shape(text, version, n, &node.shape)?;
+    put_node_line(text, version, n, &node.shape)?;
     for event in node.events {
-        put_event(text, event)?;
+        put_event_line(text, event)?;
     }
     Ok(())
 }
 
-// the line of node n
-fn put_shape(
+/// Writes the line of node n.
+pub(crate) fn put_node_line(
     text: &mut Vec<u8>,
     version: Version,
     n: usize,

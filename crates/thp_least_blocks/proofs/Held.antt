@@ -1,6 +1,6 @@
 -- How often blocks are held, by the history.
 use Rattle.std.proofs.Common.{◌≡◌, ℕ, ◌+◌, ◌<◌, Bool, true, false, cond, not, ◌&&◌, ◌||◌, List, [], ◌∷◌, ◌++◌, refl, ap, sym, ◌∙◌, arith, inl, inr, nat_eq, eq-eqb, ne_eqb, Option, Some, None}
-use Rattle.std.specs.Prelude.{count_by}
+use Rattle.std.specs.Prelude.{count_by, IfSome}
 use Rattle.std.specs.List.{fold, list_any}
 use Rattle.std.proofs.lemmas.List.Sums.{fold_push}
 use Rattle.std.proofs.lemmas.Bool.Decides.{eqb_tells}
@@ -71,6 +71,14 @@ frees_none q w e = frees_is q w ∙ ap (is_it q) e
 -- an event that frees p
 pub frees_one : (q p : ℕ) (w : What) → freed_page w ≡ Some p → frees q w ≡ nat_eq q p
 frees_one q p w e = frees_is q w ∙ ap (is_it q) e
+
+-- where the answer is the page of which the event tells that it is freed, that is the page that it frees
+pub page_told : (w : What) (o : Option ℕ) → IfSome o (λ p. frees p w ≡ true) → ((p : ℕ) → frees p w ≡ true → o ≡ Some p) → o ≡ freed_page w
+page_told w o there other = go o (freed_page w) there refl (λ p e. other p (frees_one p p w e ∙ eq-eqb p p refl)) where
+  go : (o f : Option ℕ) → IfSome o (λ p. frees p w ≡ true) → freed_page w ≡ f → ((p : ℕ) → freed_page w ≡ Some p → o ≡ Some p) → o ≡ f
+  go None None y e g = refl
+  go (Some q) None y e g = let no : frees q w ≡ false = frees_none q w e in absurd (cc)
+  go o (Some p) y e g = g p e
 
 -- pages after one more event
 unfreed_push : (h : History) (e : Event) (q : ℕ) → is_unfreed (h ++ e ∷ []) q ≡ not (some_event (frees q) h || frees q e.what)

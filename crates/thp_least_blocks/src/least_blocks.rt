@@ -4,13 +4,14 @@ ghost use Rattle.thp_least_blocks.specs.Freeing.{freed_page, IsInside};
 ghost use Rattle.thp_least_blocks.specs.State.{with_event};
 ghost use Rattle.thp_model.specs.BlockLaws.{event_with, least_free};
 
+use crate::freeing::freed_page;
 use crate::holders::Holders;
 use crate::page_blocks::PageBlocks;
 use crate::pages::Known;
 use crate::past::Past;
 use std::alloc::{AllocError, Global};
 use std::marker::Model;
-use thp_model::{Event, Outcome, PageId, Shape, What};
+use thp_model::{Event, PageId, Shape, What};
 
 /// Goes along with a node's events and chooses the blocks of their allocations: each page gets the least block that no live
 /// page holds, or block 0 where each is held.
@@ -138,20 +139,5 @@ impl LeastBlocks {
         }
         self.past.push(event);
         Ok(())
-    }
-}
-
-// The page that an event frees.
-fn freed_page(what: &What) -> Option<PageId>
-    ensures { result ≡ freed_page what.now }
-{
-    match *what {
-        What::UnmapWhole { outcome, page, .. }
-        | What::UnmapSub { outcome, page, .. }
-        | What::Unpin { outcome, page, .. } => match outcome {
-            Outcome::Freed => Some(page),
-            _ => None,
-        },
-        _ => None,
     }
 }

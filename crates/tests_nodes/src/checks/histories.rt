@@ -3,7 +3,7 @@ ghost use Rattle.std.specs.Prelude.{◌≡◌, ◌≤◌};
 
 use std::alloc::Global;
 use std::process::Abort;
-use thp_check::{CheckFault, check};
+use thp_check::{CheckFault, Misfit, Replay, check};
 use thp_model::{Event, Outcome, PageId, Shape, SubSet, What, check as slow_check};
 
 pub(crate) const ZERO: PageId = PageId(0);
@@ -139,6 +139,34 @@ pub(crate) fn large() -> Shape
     }
 }
 
+// The place of the first event that doesn't fit on a node of this shape, and why it doesn't, where there is one.
+pub(crate) fn first_misfit(
+    rt: &impl Abort,
+    alloc: Global,
+    shape: Shape,
+    events: &[Event],
+) -> Option<(usize, Misfit)>
+    requires least { 2 ≤ shape.order }
+    requires most { shape.order ≤ 9 }
+{
+    let mut replay = Replay::new(alloc, shape).expect(rt, "memory");
+    for (place, event) in events.iter().enumerate() {
+        match replay.admit(event) {
+            Ok(next) => replay = next,
+            Err(misfit) => return Some((place, misfit)),
+        }
+    }
+    None
+}
+
+// The place of the first event that a replay doesn't admit, where there is one.
+fn admitted(rt: &impl Abort, alloc: Global, shape: Shape, events: &[Event]) -> Option<usize>
+    requires least { 2 ≤ shape.order }
+    requires most { shape.order ≤ 9 }
+{
+    first_misfit(rt, alloc, shape, events).map(|(place, _)| place)
+}
+
 // The history is legal on a node of this shape.
 pub(crate) fn expect_legal(rt: &impl Abort, alloc: Global, shape: Shape, events: &[Event])
     requires least { 2 ≤ shape.order }
@@ -146,6 +174,7 @@ pub(crate) fn expect_legal(rt: &impl Abort, alloc: Global, shape: Shape, events:
 {
     assert!(rt; check(alloc, shape, events) == Ok(()));
     assert!(rt; slow_check(alloc, shape, events) == Ok(()));
+    assert!(rt; admitted(rt, alloc, shape, events) == None);
 }
 
 // The last of the events doesn't fit on a node of this shape, and all before it do.
@@ -168,6 +197,7 @@ pub(crate) fn expect_misfit(
         slow_check(alloc, shape, events) == Err(CheckFault::Illegal(last)),
         "{name}"
     );
+    assert!(rt; admitted(rt, alloc, shape, events) == Some(last), "{name}");
     assert!(rt;
         check(alloc, shape, &events[..last]) == Ok(()),
         "before {name}"

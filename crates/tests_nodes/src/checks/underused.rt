@@ -11,7 +11,7 @@ use thp_model::{Event, Outcome, PageId, Shape, SubSet, What};
 
 const TWO: PageId = PageId(2);
 
-fn small(blocks: u32) -> Shape
+pub(crate) fn small(blocks: u32) -> Shape
     ensures { result.order ≡ 2 }
 {
     Shape {

@@ -13,7 +13,7 @@ fn checked(alloc: Global, journal: &[u8]) -> Result<(bool, Vec<u8>), RunFault> {
 }
 
 /// Whether a journal is told to be legal or not, by this text.
-fn tells(alloc: Global, journal: &[u8], legal: bool, text: &[u8]) -> bool {
+pub(crate) fn tells(alloc: Global, journal: &[u8], legal: bool, text: &[u8]) -> bool {
     match checked(alloc, journal) {
         Ok((told, written)) => told == legal && written.as_slice() == text,
         Err(_) => false,

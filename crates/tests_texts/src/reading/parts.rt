@@ -2,7 +2,7 @@
 ghost use Rattle.std.specs.Prelude.{◌<◌};
 
 use std::alloc::Global;
-use thp_journal_reader::{JournalReader, check_journals};
+use thp_journal_reader::{JournalCheck, JournalReader, check_journals};
 use thp_text::{ReadFault, TextKind};
 
 /// The first illegal line of a text that comes in parts of so many bytes.
@@ -17,6 +17,17 @@ fn by_parts(alloc: Global, text: &[u8], size: usize) -> Result<Option<u32>, Read
     Ok(check_journals(alloc, &journals)?)
 }
 
+/// The same by a check that keeps no event.
+fn checked_by_parts(alloc: Global, text: &[u8], size: usize) -> Result<Option<u32>, ReadFault>
+    requires { 0 < size }
+{
+    let mut check = JournalCheck::new(alloc);
+    for part in text.chunks(size) {
+        check = check.read_part(part)?;
+    }
+    check.finish()
+}
+
 #[test]
 fn parts_of_each_length(rt: HostRuntime) {
     let text =
@@ -24,6 +35,8 @@ fn parts_of_each_length(rt: HostRuntime) {
     for size in 1..100 {
         let told = by_parts(rt.alloc(), text.as_slice(), size).expect(&rt, "journals");
         assert!(rt; told == Some(7), "{size}");
+        let checked = checked_by_parts(rt.alloc(), text.as_slice(), size).expect(&rt, "journals");
+        assert!(rt; checked == Some(7), "{size}");
     }
 }
 
@@ -31,13 +44,19 @@ fn parts_of_each_length(rt: HostRuntime) {
 fn first_fault_of_parts(rt: HostRuntime) {
     let text = b"thp-journal 1\nnode 0 blocks 4\n0 fly 0\n0 close 1\n";
     for size in 1..52 {
-        let is_first = matches!(
-            by_parts(rt.alloc(), text.as_slice(), size),
-            Err(ReadFault::Text {
-                line: 3,
-                kind: TextKind::BadWord
-            })
-        );
-        assert!(rt; is_first, "{size}");
+        let told = by_parts(rt.alloc(), text.as_slice(), size);
+        assert!(rt; is_bad_word_on_line_3(&told), "{size}");
+        let checked = checked_by_parts(rt.alloc(), text.as_slice(), size);
+        assert!(rt; is_bad_word_on_line_3(&checked), "{size}");
     }
+}
+
+fn is_bad_word_on_line_3(told: &Result<Option<u32>, ReadFault>) -> bool {
+    matches!(
+        told,
+        Err(ReadFault::Text {
+            line: 3,
+            kind: TextKind::BadWord
+        })
+    )
 }

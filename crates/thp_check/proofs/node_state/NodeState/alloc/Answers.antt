@@ -1,17 +1,16 @@
 use Rattle.std.proofs.Common.{refl, sym, ◌∙◌}
 use Rattle.thp_check.proofs.Steps.{alloc_new, alloc_goes, alloc_closed, alloc_other, alloc_taken}
 use Rattle.thp_check.proofs.node_state.NodeState.alloc.Goals as goal
-use Rattle.thp_check.proofs.node_state.NodeState.alloc.Goals.{then-self-via-then-self, then-self-via-else-self+then-page-self}
 
 pub returns-then-self : goal.returns-then-self
-returns-then-self c = λ n s h m f.
-    elim c.then-self.branch [
-      | then-self-via-then-self w ↦ alloc_closed s h c.args.page c.args.block c.args.self.now m w.if-self.true f
-      | then-self-via-else-self+then-page-self w ↦ alloc_other s h c.args.page c.args.block c.args.self.now m (λ e. w.if-page-self.true (c.page.view_is ∙ e)) f
-    ]
+returns-then-self c = λ n s h m. alloc_closed s h n c.args.page c.args.block c.args.self.now m c.if-self.true
+
+pub returns-then-page-self : goal.returns-then-page-self
+returns-then-page-self c = λ n s h m. alloc_other s h n c.args.page c.args.block c.args.self.now m c.if-self.false (λ e. c.if-page-self.true (c.page.view_is ∙ e))
 
 pub returns-then-not-is_free : goal.returns-then-not-is_free
-returns-then-not-is_free c = λ n s h m f. alloc_taken s h c.args.page c.args.block c.args.self.now m c.if-not-is_free.ensures.taken f
+returns-then-not-is_free c = λ n s h m.
+    alloc_taken s h n c.args.page c.args.block c.args.self.now m c.if-self.false (sym c.page.view_is ∙ c.if-page-self.false) c.if-not-is_free.ensures.taken
 
 pub place-requires-clause-new : goal.place-requires-clause-new
 place-requires-clause-new c =

@@ -1,16 +1,28 @@
-use Rattle.std.proofs.Common.{ℕ, Option, sym, subst}
-use Rattle.std.specs.Prelude.{IfNone}
-use Rattle.thp_check.specs.Meanings.{IsNeverFirst}
-use Rattle.thp_check.proofs.TakeSteps.{first_absent, first_there}
+use Rattle.std.proofs.Common.{ℕ, refl, sym, ◌∙◌, subst}
+use Rattle.thp_live_pages.specs.Flying.{IsFlyingAt}
+use Rattle.thp_check.proofs.Deciding.{unequal, equal}
+use Rattle.thp_check.proofs.TakeSteps.{first_flies, first_number, none_flies, same_some}
 use Rattle.thp_check.proofs.node_state.NodeState.find_first.Goals as goal
 
-pub returns-in_err-block-clause-none : goal.returns-in_err-block-clause-none
-returns-in_err-block-clause-none c =
-    let P : Option ℕ → Type 0 = λ o. IfNone o (IsNeverFirst c.args.self.now c.args.caller c.args.page) in
-    subst P (sym c.from_residual.ensures) (λ s h m f. first_absent s h c.args.caller c.args.page c.args.self.now m c.in_err-block.ensures.none f)
+pub returns-in-None-clause-is_first : goal.returns-in-None-clause-is_first
+returns-in-None-clause-is_first c = λ s h m. none_flies s h c.args.caller c.args.self.now m (sym c.first_of.ensures ∙ c.in-None.is)
 
-pub returns-else-is_first-clause-none : goal.returns-else-is_first-clause-none
-returns-else-is_first-clause-none c = λ s h m f.
-    let yes = c.is_first.ensures.1 (first_there s h c.args.caller c.args.page c.in_ok-block.block c.args.self.now m c.in_ok-block.ensures.there f) in
-    let no = c.if-is_first.false in
-    cc
+pub number-first-requires : goal.number-first-requires
+number-first-requires c =
+    let k = c.requires in
+    let w = first_flies k.shape k.history c.args.caller c.in-Some.block c.args.self.now k.means (sym c.first_of.ensures ∙ c.in-Some.is) in
+    rw w.2.at refl
+
+pub returns-then-ne-clause-is_first : goal.returns-then-ne-clause-is_first
+returns-then-ne-clause-is_first c = λ s h m.
+    (first_number s h c.args.caller c.in-Some.block c.number-first.result c.args.self.now m (sym c.first_of.ensures ∙ c.in-Some.is) c.number-first.ensures).0
+
+pub returns-then-ne-clause-other : goal.returns-then-ne-clause-other
+returns-then-ne-clause-other c = λ e. unequal c.number-first.result c.args.page (sym c.ne.ensures ∙ c.if-ne.true) (same_some c.number-first.result c.args.page e)
+
+pub returns-clause-there : goal.returns-clause-there
+returns-clause-there c =
+    let k = c.requires in
+    let P : ℕ → Type 0 = λ q. IsFlyingAt c.args.self.now.places.table c.args.caller q c.in-Some.block in
+    subst P (equal c.number-first.result c.args.page (sym c.ne.ensures ∙ c.if-ne.false))
+    (first_number k.shape k.history c.args.caller c.in-Some.block c.number-first.result c.args.self.now k.means (sym c.first_of.ensures ∙ c.in-Some.is) c.number-first.ensures).1

@@ -4,12 +4,12 @@ use Rattle.thp_check.proofs.TakeSteps.{used_absent, used_not, used_goes, is_ther
 use Rattle.thp_check.proofs.node_state.NodeState.leave_used.Goals as goal
 
 pub returns-in-None : goal.returns-in-None
-returns-in-None c = λ s h m f. used_absent s h c.args.caller c.args.page c.args.self.now m c.in-None.ensures.none f
+returns-in-None c = λ s h m. used_absent s h c.args.caller c.args.page c.args.self.now m c.in-None.ensures.none
 
 pub returns-then-is_worth : goal.returns-then-is_worth
-returns-then-is_worth c = λ s h m f.
+returns-then-is_worth c = λ s h m.
     let at = c.in-Some.ensures.there in
-    used_not s h c.args.caller c.args.page c.in-Some.block c.args.self.now m at (sym (c.is_worth.ensures at.slot at.at) ∙ c.if-is_worth.true) f
+    used_not s h c.args.caller c.args.page c.in-Some.block c.args.self.now m at (sym (c.is_worth.ensures at.slot at.at) ∙ c.if-is_worth.true)
 
 pub leave-requires : goal.leave-requires
 leave-requires c = λ d e.

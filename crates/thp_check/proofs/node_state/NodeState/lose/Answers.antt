@@ -1,24 +1,28 @@
-use Rattle.std.proofs.Common.{◌≡◌, refl}
-use Rattle.thp_check.proofs.Deciding.{tested}
-use Rattle.thp_check.proofs.Steps.{loss_goes, loss_refused, loss_absent, loss_tells}
+use Rattle.std.proofs.Common.{refl}
+use Rattle.thp_check.proofs.Deciding.{no_both}
+use Rattle.thp_check.proofs.Steps.{loss_goes, loss_refused, loss_absent, loss_differs}
 use Rattle.thp_check.proofs.TakeSteps.{lost_there}
 use Rattle.thp_check.proofs.node_state.NodeState.lose.Goals as goal
 
 pub returns-in-None : goal.returns-in-None
-returns-in-None c = λ n s h m f. loss_absent s h n c.args.page c.args.loss c.args.outcome c.args.released c.args.self.now m c.in-None.ensures f
+returns-in-None c = λ n s h m. loss_absent s h n c.args.page c.args.loss c.args.outcome c.args.released c.args.self.now m c.in-None.ensures
 
 pub returns-in-Err : goal.returns-in-Err
-returns-in-Err c = λ n s h m f.
-    loss_refused s h n c.args.page c.in-Some.block c.args.self.now m c.in-Some.ensures c.args.loss c.args.outcome c.args.released _ (λ x e q. c.in-Err.ensures.refusal x e q) f
+returns-in-Err c = λ n s h m.
+    loss_refused s h n c.args.page c.in-Some.block c.args.self.now m c.in-Some.ensures c.args.loss c.args.outcome c.args.released _ (λ x e q. c.in-Err.ensures.refusal x e q)
 
 pub leave-requires : goal.leave-requires
 leave-requires c =
     let k = c.requires in
     lost_there k.shape k.history c.args.page c.in-Some.block c.args.self.now k.means c.in-Some.ensures c.args.loss c.lose.new.self c.lose.new.done c.in-Ok.left c.in-Ok.ensures.lost
 
+pub returns-then-not-is_told : goal.returns-then-not-is_told
+returns-then-not-is_told c = λ n s h m.
+    loss_differs s h n c.args.page c.in-Some.block c.args.self.now m c.in-Some.ensures c.args.loss c.args.outcome c.args.released c.lose.new.self c.lose.new.done c.in-Ok.left
+    (λ x e q. c.in-Ok.ensures.refusal x e q) c.in-Ok.ensures.lost (λ w. no_both c.is_told.result c.if-not-is_told.true (c.is_told.ensures.1 w))
+
 pub returns : goal.returns
 returns c = λ n s h m.
-    tested c.is_told.result ((c.lose.new.done.outcome ≡ c.args.outcome) × (c.lose.new.done.released ≡ c.args.released)) _ _ c.is_told.ensures.0 c.is_told.ensures.1
-    (λ w. loss_goes s h n c.args.page c.in-Some.block c.args.self.now m c.in-Some.ensures c.args.loss c.args.outcome c.args.released _ c.lose.new.done c.in-Ok.left
-    (λ x e q. c.in-Ok.ensures.refusal x e q) c.in-Ok.ensures.lost c.leave.ensures.left c.leave.ensures.size refl refl refl w.0 w.1)
-    (λ f. loss_tells s h n c.args.page c.in-Some.block c.args.self.now m c.in-Some.ensures c.args.loss c.args.outcome c.args.released c.lose.new.self c.lose.new.done c.in-Ok.left c.in-Ok.ensures.lost f)
+    let w = c.is_told.ensures.0 c.if-not-is_told.false in
+    loss_goes s h n c.args.page c.in-Some.block c.args.self.now m c.in-Some.ensures c.args.loss c.args.outcome c.args.released _ c.lose.new.done c.in-Ok.left
+    (λ x e q. c.in-Ok.ensures.refusal x e q) c.in-Ok.ensures.lost c.leave.ensures.left c.leave.ensures.size refl refl refl w.0 w.1

@@ -1,0 +1,23 @@
+use Rattle.std.proofs.Common.{sym, ◌∙◌}
+use Rattle.thp_check.proofs.TakeSteps.{pinned_absent, pinned_idle, pinned_goes, pinned_not}
+use Rattle.thp_check.proofs.node_state.NodeState.find_pinned.Goals as goal
+
+pub returns-in-None : goal.returns-in-None
+returns-in-None c = λ s h m. pinned_absent s h c.args.caller c.args.page c.args.self.now m c.in-None.ensures.none
+
+pub returns-then-pins-eq0 : goal.returns-then-pins-eq0
+returns-then-pins-eq0 c = λ s h m.
+    let at = c.in-Some.ensures.there in
+    pinned_not s h c.args.caller c.args.page c.in-Some.block c.args.self.now m at (sym (c.pins.ensures at.slot at.at) ∙ c.if-pins-eq0.true)
+
+pub returns-then-not-is_worth : goal.returns-then-not-is_worth
+returns-then-not-is_worth c = λ s h m.
+    let at = c.in-Some.ensures.there in
+    pinned_idle s h c.args.caller c.args.page c.in-Some.block c.args.self.now m at (sym (c.is_worth.ensures at.slot at.at) ∙ c.if-not-is_worth.true)
+    (λ e. c.if-pins-eq0.false (c.pins.ensures at.slot at.at ∙ e))
+
+pub returns : goal.returns
+returns c = λ s h m.
+    let at = c.in-Some.ensures.there in
+    pinned_goes s h c.args.caller c.args.page c.in-Some.block c.args.self.now m at (sym (c.is_worth.ensures at.slot at.at) ∙ c.if-not-is_worth.false)
+    (λ e. c.if-pins-eq0.false (c.pins.ensures at.slot at.at ∙ e))

@@ -1,0 +1,30 @@
+use Rattle.std.proofs.Common.{◌≡◌, List, ℕ, ap, sym, ◌∙◌, subst}
+use Rattle.std.specs.Prelude.{slice_get, IsSome}
+use Rattle.thp_model.specs.Places.{queue}
+use Rattle.thp_page.specs.Slots.{slot_at}
+use Rattle.thp_live_pages.specs.PlacesState.{AtSlot}
+use Rattle.thp_check.specs.declared.node_state.NodeState.{NodeState}
+use Rattle.thp_check.specs.Replays.{Replayed}
+use Rattle.thp_check.proofs.Reading.{oldest_there, oldest_number, none_queued}
+use Rattle.thp_check.proofs.replay.Replay.oldest.Goals as goal
+
+pub number-requires : goal.number-requires
+number-requires c =
+    let i = c.self.inside in
+    let P : NodeState → Type 0 = λ r. IsSome (slot_at r.places.table c.in-Some.block) in
+    let first = sym (ap (λ (q : List ℕ). slice_get q 0) (c.queue.ensures.value ∙ ap (λ (r : NodeState). r.places.queue) c.deref.ensures)) ∙ sym c.front.ensures ∙ c.in-Some.is in
+    subst P (sym c.deref-in-Some.ensures) (oldest_there i.state.value.shape i.past c.in-Some.block i.state.value c.self.invariant.0 first)
+
+pub returns-in-Some : goal.returns-in-Some
+returns-in-Some c =
+    let i = c.self.inside in
+    let P : NodeState → Type 0 = λ r. AtSlot r.places.table c.in-Some.block (λ x. c.number.result ≡ x.id) in
+    let first = sym (ap (λ (q : List ℕ). slice_get q 0) (c.queue.ensures.value ∙ ap (λ (r : NodeState). r.places.queue) c.deref.ensures)) ∙ sym c.front.ensures ∙ c.in-Some.is in
+    oldest_number i.state.value.shape i.past c.in-Some.block c.number.result i.state.value c.self.invariant.0 first (subst P c.deref-in-Some.ensures c.number.ensures)
+    ∙ ap (λ (r : Replayed). slice_get (queue r.shape r.history) 0) c.self.view_is
+
+pub returns-in-None : goal.returns-in-None
+returns-in-None c =
+    let i = c.self.inside in
+    let none = sym (ap (λ (q : List ℕ). slice_get q 0) (c.queue.ensures.value ∙ ap (λ (r : NodeState). r.places.queue) c.deref.ensures)) ∙ sym c.front.ensures ∙ c.in-None.is in
+    none_queued i.state.value.shape i.past i.state.value c.self.invariant.0 none ∙ ap (λ (r : Replayed). slice_get (queue r.shape r.history) 0) c.self.view_is

@@ -1,0 +1,82 @@
+-- Why an event doesn't fit a history: of the reasons that it can have, the first that holds, in the order of `Fits`.
+use Rattle.std.specs.Prelude.{◌≡◌, ◌≢◌, ℕ, ◌<◌, Bool, true, false, ◌||◌, List, Option, Some, None, slice_get}
+use Rattle.thp_model.specs.declared.events.Event.{Event}
+use Rattle.thp_model.specs.declared.events.Outcome.{Outcome}
+use Rattle.thp_model.specs.declared.events.What.{What}
+use Rattle.thp_model.specs.declared.events.What.TheVariants.{Alloc, MapWhole, UnmapWhole, MapSub, UnmapSub, SplitPmd, Pin, Unpin, Write, Zero, Taken, Split, Pinned, Used, Back, Dropped, Close}
+use Rattle.thp_model.specs.declared.refusal.Refusal.{Refusal}
+use Rattle.thp_model.specs.declared.refusal.Refusal.TheVariants as reason
+use Rattle.thp_model.specs.declared.shape.Shape.{Shape}
+use Rattle.thp_model.specs.Counts.{allocations, is_closed, pins}
+use Rattle.thp_model.specs.Frames.{block_in_use}
+use Rattle.thp_model.specs.History.{History, by}
+use Rattle.thp_model.specs.Legal.{Fits, is_dropped}
+use Rattle.thp_model.specs.Places.{flight, has_page, is_taking, no_pages, queue}
+use Rattle.thp_model.specs.Refusals.{refusal}
+use Rattle.thp_model.specs.Refusals as call
+use Rattle.thp_model.specs.Underused.{is_worth_split}
+use Rattle.thp_check.specs.declared.misfit.Misfit.{Misfit}
+use Rattle.thp_check.specs.declared.misfit.Misfit.TheVariants as misfit
+
+-- the refusal at h of the call that an event tells; why an allocation, a take, a try or a return doesn't fit is told in other
+-- words
+abbrev pub refusal_of : Shape → History → What → Option Refusal
+refusal_of s h (MapWhole p) = refusal s h (call.map_whole p)
+refusal_of s h (UnmapWhole o p set) = refusal s h (call.unmap_whole p)
+refusal_of s h (MapSub p first count) = refusal s h (call.map_sub p first count)
+refusal_of s h (UnmapSub o p first count set) = refusal s h (call.unmap_sub p first count)
+refusal_of s h (SplitPmd p) = refusal s h (call.split_pmd p)
+refusal_of s h (Pin p) = refusal s h (call.pin p)
+refusal_of s h (Unpin o p set) = refusal s h (call.unpin p)
+refusal_of s h (Write p first count) = refusal s h (call.write p first count)
+refusal_of s h (Zero p first count) = refusal s h (call.zero_fill p first count)
+refusal_of s h Close = refusal s h call.close
+refusal_of s h w = None
+
+-- the same unmap or unpin with this outcome and these frames
+abbrev pub with_outcome : Outcome → List Bool → What → What
+with_outcome o set (UnmapWhole told p given) = UnmapWhole o p set
+with_outcome o set (UnmapSub told p first count given) = UnmapSub o p first count set
+with_outcome o set (Unpin told p given) = Unpin o p set
+with_outcome o set w = w
+
+-- the same split with these frames
+abbrev pub with_frames : List Bool → What → What
+with_frames set (Split p given) = Split p set
+with_frames set w = w
+
+-- page p is in the flight of caller c, and is worth a split or isn't
+abbrev pub IsTried : Shape → History → ℕ → ℕ → Bool → Type 0
+IsTried s h c p worth = (has_page p (flight h c) ≡ true) × (is_worth_split s h p ≡ worth)
+
+-- the page that is wanted is this one, or none, and the event tells of page p
+abbrev pub IsAnother : Option ℕ → Option ℕ → ℕ → Type 0
+IsAnother wanted this p = (this ≡ wanted) × (this ≢ Some p)
+
+-- why what c does doesn't fit the history h
+abbrev pub ExplainsBy : Shape → History → ℕ → What → Misfit → Type 0
+ExplainsBy s h c (Alloc p b) (misfit.Refused r) = (is_closed h ≡ true) × (r ≡ reason.Closed)
+ExplainsBy s h c w (misfit.Refused r) = refusal_of s h w ≡ Some r
+ExplainsBy s h c (Alloc p b) (misfit.Number n) = (is_closed h ≡ false) × IsAnother (Some (allocations h)) (Some n) p
+ExplainsBy s h c (Alloc p b) misfit.Block = (is_closed h ≡ false) × (p ≡ allocations h) × (b < s.blocks → block_in_use h b ≡ true)
+ExplainsBy s h c w (misfit.Outcome o set) = Fits s h (by c (with_outcome o set w)) × (with_outcome o set w ≢ w)
+ExplainsBy s h c (Taken p) (misfit.Oldest o) = IsAnother (slice_get (queue s h) 0) o p
+ExplainsBy s h c (Taken p) misfit.HasBatch = (slice_get (queue s h) 0 ≡ Some p) × ((no_pages (flight h c) || is_taking h c) ≡ false)
+ExplainsBy s h c (Split p set) misfit.NotInFlight = has_page p (flight h c) ≡ false
+ExplainsBy s h c (Pinned p) misfit.NotInFlight = has_page p (flight h c) ≡ false
+ExplainsBy s h c (Used p) misfit.NotInFlight = has_page p (flight h c) ≡ false
+ExplainsBy s h c (Split p set) misfit.InUse = IsTried s h c p false
+ExplainsBy s h c (Split p set) misfit.HasPins = IsTried s h c p true × (pins h p ≢ 0)
+ExplainsBy s h c w (misfit.Released set) = Fits s h (by c (with_frames set w)) × (with_frames set w ≢ w)
+ExplainsBy s h c (Pinned p) misfit.NoPins = (has_page p (flight h c) ≡ true) × (pins h p ≡ 0)
+ExplainsBy s h c (Pinned p) misfit.InUse = IsTried s h c p false × (pins h p ≢ 0)
+ExplainsBy s h c (Used p) misfit.Worth = IsTried s h c p true
+ExplainsBy s h c (Back p) (misfit.First o) = IsAnother (slice_get (flight h c) 0) o p
+ExplainsBy s h c (Back p) misfit.Drops = (slice_get (flight h c) 0 ≡ Some p) × (is_dropped s h p ≡ true)
+ExplainsBy s h c (Dropped p) (misfit.First o) = IsAnother (slice_get (flight h c) 0) o p
+ExplainsBy s h c (Dropped p) misfit.GoesBack = (slice_get (flight h c) 0 ≡ Some p) × (is_dropped s h p ≡ false)
+ExplainsBy s h c w m = ⊥
+
+-- why the event doesn't fit the history
+abbrev pub Explains : Shape → History → Event → Misfit → Type 0
+Explains s h e m = ExplainsBy s h e.caller e.what m

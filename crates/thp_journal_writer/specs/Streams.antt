@@ -1,0 +1,63 @@
+-- Journals written line by line (this project's journal format).
+use Rattle.std.specs.Prelude.{◌≡◌, ◌==◌, ⊤, nat_le, ℕ, Bool, List, [], ◌∷◌, ◌++◌, length, is_some, codes, if◌then◌else◌}
+use Rattle.std.specs.List.{flat_map}
+use Rattle.thp_model.specs.declared.events.Event.{Event}
+use Rattle.thp_model.specs.declared.events.What.{What}
+use Rattle.thp_model.specs.declared.events.What.TheVariants.{Write, Zero, Used}
+use Rattle.thp_model.specs.declared.shape.Shape.{Shape}
+use Rattle.thp_model.specs.History.{History}
+use Rattle.thp_journal_writer.specs.declared.put_fault.PutFault.{PutFault}
+use Rattle.thp_journal_writer.specs.declared.put_fault.PutFault.TheVariants.{OutOfMemory, VersionTooLow}
+use Rattle.thp_journal_writer.specs.declared.version.Version.{Version}
+use Rattle.thp_journal_writer.specs.declared.version.Version.TheVariants.{Plain, Orders, Underused}
+use Rattle.thp_journal_writer.specs.EventLines.{event_line}
+use Rattle.thp_journal_writer.specs.Journals.{Journal, ended, journal_text, lines_from, node_line, version_line, version_number, version_of}
+
+-- the least version that tells a node of this shape
+abbrev pub shape_version : Shape → Version
+shape_version s =
+    if is_some s.underused then Underused
+    else if s.order == 9 then Plain
+    else Orders
+
+-- the least version that has a word for what happened
+abbrev pub what_version : What → Version
+what_version (Write page first count) = Underused
+what_version (Zero page first count) = Underused
+what_version (Used page) = Underused
+what_version _ = Plain
+
+-- a version tells what it and each earlier one can
+abbrev pub tells : Version → Version → Bool
+tells v least = nat_le (version_number least) (version_number v)
+
+-- of a fault that names the least version
+abbrev pub IfTooLow : PutFault → (Version → Type 0) → Type 0
+IfTooLow (VersionTooLow least) P = P least
+IfTooLow OutOfMemory P = ⊤
+
+-- the text of the nodes' journals in a version, before its end
+abbrev pub text_begun : Version → List Journal → List ℕ
+text_begun v journals = flat_map ended (version_line v ∷ lines_from v 0 journals)
+
+-- the whole text
+abbrev pub text_in : Version → List Journal → List ℕ
+text_in v journals = text_begun v journals ++ ended (codes "end")
+
+-- before any node comes the line of the version
+abbrev pub VersionComesFirst : Type 0
+VersionComesFirst = (v : Version) → text_begun v [] ≡ ended (version_line v)
+
+-- one more node is one more line
+abbrev pub NodeFollows : Type 0
+NodeFollows = (v : Version) (journals : List Journal) (shape : Shape) →
+    text_begun v (journals ++ (shape, []) ∷ []) ≡ text_begun v journals ++ ended (node_line v (length journals) shape)
+
+-- one more event of the last node is one more line
+abbrev pub EventFollows : Type 0
+EventFollows = (v : Version) (journals : List Journal) (shape : Shape) (history : History) (e : Event) →
+    text_begun v (journals ++ (shape, history ++ e ∷ []) ∷ []) ≡ text_begun v (journals ++ (shape, history) ∷ []) ++ ended (event_line e)
+
+-- in the least version that can tell the journals, it is their text
+abbrev pub LeastVersionIsJournalText : Type 0
+LeastVersionIsJournalText = (journals : List Journal) → text_in (version_of journals) journals ≡ journal_text journals

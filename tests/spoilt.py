@@ -1,0 +1,157 @@
+"""Texts spoilt at one place: each front of the rows' scripts and journals, and each of their bytes set to others.
+
+    tests/spoilt.py PROGRAM
+
+What is wanted of each text (its first fault; else the totals, or the verdict) is made by texts.py and script.py, which
+share no code with the program. How many texts there are, and how many of them have a fault, is known beforehand.
+"""
+
+from __future__ import annotations
+
+import os
+import subprocess
+import sys
+from functools import partial
+from multiprocessing.pool import Pool
+from pathlib import Path
+from typing import Callable, Iterable, Iterator, Optional
+
+from faulty_texts import ILLEGAL
+from process import SECONDS, Ended
+from rows import ROWS, Row, lines
+from script import Run, Shape, first_illegal
+from tally import Tally
+from texts import Fault, journal_fault, script_fault
+
+VALUES = (0, 0xFF, ord("\n"), ord(" "))
+"""The values that bytes are set to: two that stand in no text, and the two that part lines and words."""
+
+Work = tuple[tuple[str, ...], bytes, Ended]
+"""Words of the command line, a text, and how the run is to end."""
+
+
+def options(row: Row) -> dict[str, str]:
+    """The options of a row, by name."""
+    words = row.words.split()
+    return {name.lstrip("-"): value for name, value in zip(words[::2], words[1::2])}
+
+
+def shapes(row: Row) -> list[Shape]:
+    """The nodes of a row."""
+    given = options(row)
+    nodes = int(given.get("nodes", 1))
+    orders = given.get("orders", ",".join(["9"] * nodes)).split(",")
+    switches = given.get("underused", ",".join(["off"] * nodes)).split(",")
+    blocks = int(given.get("blocks", 16))
+    return [(blocks, int(order), None if it == "off" else int(it)) for order, it in zip(orders, switches)]
+
+
+def told(fault: Fault) -> Ended:
+    """The end of a run whose text has this first fault."""
+    return Ended(2, b"", fault.told())
+
+
+def of_script(row: Row, text: bytes) -> Work:
+    """A script by a row's options, and its first fault or its totals."""
+    fault = script_fault(text, len(shapes(row)), int(options(row).get("workers", 1)))
+    if fault is not None:
+        return (tuple(row.words.split()), text, told(fault))
+    run = Run(shapes(row))
+    run.text(text.decode())
+    return (tuple(row.words.split()), text, Ended(0, "".join(f"{line}\n" for line in run.totals()).encode()))
+
+
+def of_journal(text: bytes) -> Work:
+    """A journal, and its first fault or its verdict."""
+    fault = journal_fault(text)
+    if fault is not None:
+        return (("--check",), text, told(fault))
+    line = first_illegal(text.decode().split("\n")[:-1])
+    wanted = Ended(0, b"legal\n") if line is None else Ended(1, f"illegal line {line}\n".encode())
+    return (("--check",), text, wanted)
+
+
+def journals() -> Iterator[bytes]:
+    """The journals of the rows, and some that are illegal."""
+    for row in ROWS:
+        run = Run(shapes(row))
+        run.text(lines(row.script).decode())
+        yield "".join(f"{line}\n" for line in run.journal()).encode()
+    yield from (text + b"end\n" for text, _ in ILLEGAL[::8])
+
+
+def fronts(text: bytes) -> Iterator[bytes]:
+    """Each front of a text that isn't the whole."""
+    return (text[:count] for count in range(len(text)))
+
+
+def set_bytes(text: bytes) -> Iterator[bytes]:
+    """A text with each of its bytes in turn set to each of the values."""
+    return (text[:place] + bytes([value]) + text[place + 1 :] for place in range(len(text)) for value in VALUES)
+
+
+def ended(program: Path, words: tuple[str, ...], text: bytes) -> Ended:
+    """A run of the program on a text that fits into a pipe, as do its outputs."""
+    reader, writer = os.pipe()
+    os.write(writer, text)
+    os.close(writer)
+    # (what a process of this script has open, all of it, is its own)
+    child = subprocess.Popen(
+        [program, *words], stdin=reader, stdout=subprocess.PIPE, stderr=subprocess.PIPE, close_fds=False
+    )
+    os.close(reader)
+    try:
+        told = child.communicate(timeout=SECONDS)
+    except subprocess.TimeoutExpired:
+        child.kill()
+        return Ended(-9, *child.communicate())
+    return Ended(child.returncode, *told)
+
+
+def wrong(program: Path, work: Work) -> Optional[str]:
+    """What is otherwise than wanted, or None."""
+    words, text, wanted = work
+    differs = ended(program, words, text).differs_from(wanted)
+    return None if differs is None else f"{' '.join(words)} on {text!r}: {differs}"
+
+
+def first_wrong(pool: Pool, program: Path, works: Iterable[Work], number: int, faulty: int) -> Optional[str]:
+    """What is wrong with the first run that isn't as wanted, or with how many there are; or None."""
+    tried = list(works)
+    counts = (len(tried), sum(1 for _, _, wanted in tried if wanted.status == 2))
+    if counts != (number, faulty):
+        return f"{counts[0]} texts, {counts[1]} of them with a fault, in place of {number} and {faulty}"
+    return next((it for it in pool.imap(partial(wrong, program), tried, chunksize=200) if it), None)
+
+
+def scripts(spoil: Callable[[bytes], Iterator[bytes]]) -> Iterator[Work]:
+    """The scripts of the rows, spoilt."""
+    return (of_script(row, text) for row in ROWS for text in spoil(lines(row.script)))
+
+
+def checks(spoil: Callable[[bytes], Iterator[bytes]]) -> Iterator[Work]:
+    """The journals, spoilt."""
+    return (of_journal(text) for journal in journals() for text in spoil(journal))
+
+
+def main() -> None:
+    """Tests the program of the command line."""
+    program = Path(sys.argv[-1])
+    if len(sys.argv) != 2 or not os.access(program, os.X_OK) or program.is_dir():
+        sys.exit(f"{program} is no program\n\n{__doc__}")
+    program = program.resolve()
+    tally = Tally()
+    with Pool() as pool:
+        for name, works, number, faulty in (
+            ("fronts of scripts", scripts(fronts), 2_599, 2_352),
+            ("fronts of journals", checks(fronts), 4_500, 4_500),
+            ("bytes of scripts", scripts(set_bytes), 10_396, 9_643),
+            ("bytes of journals", checks(set_bytes), 18_000, 16_836),
+        ):
+            test = partial(first_wrong, pool, program, works, number, faulty)
+            tally.run(name, test)
+    tally.end()
+
+
+if __name__ == "__main__":
+    main()
