@@ -1,4 +1,6 @@
 -- Passes and batches may go to another thread, and cells may be shared by threads: what each type is made of may.
+use denote.RattleType.{RattleType}
+use mir.Syntax.{Dict}
 use denote.Param.Send.{IsSend, IsSync, view_send, view_sync, sendable}
 use denote.Param.SendFields.{declared_send, declared_sync}
 use Rattle.std.proofs.Crossing.{crosses, Vec-send, send, sync, frees}
@@ -6,12 +8,12 @@ use Rattle.std.specs.contracts.alloc.Global as Global
 use Rattle.std.specs.contracts.impls.GlobalAllocator.TheImpl as heap
 use Rattle.atomic_table.proofs.owned.Table.TheSendSync as table
 use Rattle.atomic_table.proofs.shared.Seat.TheSendSync as seat
-use Rattle.thp_model.proofs.events.Event.TheSendSync as event
 use Rattle.thp_page.proofs.page_table.Descriptor.TheSendSync as descriptor
 use Rattle.thp_page.specs.contracts.page_table.PageTable as PageTable
 use Rattle.thp_page.specs.contracts.page_table.PageTable.TheInside as in_table
 use Rattle.thp_live_pages.specs.contracts.places.Places as Places
 use Rattle.thp_live_pages.specs.contracts.places.Places.TheInside as in_places
+use Rattle.thp_node.specs.declared.recorder.Recorder.{Ghosts}
 use Rattle.thp_node.specs.contracts.batch.Batch as Batch
 use Rattle.thp_node.specs.contracts.batch.Batch.TheInside as in_batch
 use Rattle.thp_node.specs.contracts.blocks.Blocks as Blocks
@@ -41,25 +43,27 @@ places_send = view_send in_places.the_row _ _ _ _ (declared_send in_places.the_t
 blocks_send : IsSend Blocks.the_row
 blocks_send = view_send in_blocks.the_row _ _ _ _ (declared_send in_blocks.the_type (places_send, (search (sendable, crosses) depth 30, tt)))
 
--- a journal may go to another thread
-journal_send : IsSend Journal.the_row
-journal_send = view_send in_journal.the_row _ _ _ _ (declared_send in_journal.the_type (search (sendable, crosses) depth 30, (Vec-send _ event.the_send, (search (sendable, crosses) depth 30, tt))))
-
--- a node may go to another thread
-node_send : IsSend Node.the_row
-node_send = view_send in_node.the_row _ _ _ _ (declared_send in_node.the_type (journal_send, (blocks_send, tt)))
-
--- a cell is shared by threads
-pub cell_sync : IsSync NodeCell.the_row
-cell_sync = view_sync in_cell.the_row _ _ _ _ (declared_sync in_cell.the_type (table.the_sync Node.the_row Knows.the_row Key.the_row CellRule.the_row Global.the_row rule.ghosts heap.ghosts node_send send sync frees, tt))
-
--- a pass may go to another thread
-pub pass_send : IsSend Pass.the_row
-pass_send = view_send in_pass.the_row _ _ _ _ (declared_send in_pass.the_type (search sendable, (search sendable, (search (sendable, seat.the_send, node_send), tt))))
-
 -- a batch may go to another thread
 pub batch_send : IsSend Batch.the_row
 batch_send = view_send in_batch.the_row _ _ _ _ (declared_send in_batch.the_type (search sendable, (search (sendable, crosses) depth 30, (search sendable, tt))))
+
+-- where a recorder may go to another thread, what is made over it may
+module _ (d e : Dict) (T : RattleType) (R : Ghosts T.Denot) (recorder_send : IsSend T) where
+  -- a journal may go to another thread
+  journal_send : IsSend (Journal.the_row T R)
+  journal_send = view_send (in_journal.the_row T R) _ _ _ _ (declared_send (in_journal.the_type T R) (search (sendable, crosses) depth 30, (search (sendable, recorder_send), (search (sendable, crosses) depth 30, tt))))
+
+  -- a node may go to another thread
+  node_send : IsSend (Node.the_row T R)
+  node_send = view_send (in_node.the_row T R) _ _ _ _ (declared_send (in_node.the_type T R) (journal_send, (blocks_send, tt)))
+
+  -- a cell is shared by threads
+  pub cell_sync : IsSync (NodeCell.the_row T R)
+  cell_sync = view_sync (in_cell.the_row T R) _ _ _ _ (declared_sync (in_cell.the_type T R) (table.the_sync (Node.the_row T R) Knows.the_row (Key.the_row T R) CellRule.the_row Global.the_row (rule.ghosts T R d e) heap.ghosts node_send send sync frees, tt))
+
+  -- a pass may go to another thread
+  pub pass_send : IsSend (Pass.the_row T R)
+  pass_send = view_send (in_pass.the_row T R) _ _ _ _ (declared_send (in_pass.the_type T R) (search sendable, (search sendable, (search (sendable, seat.the_send, node_send), tt))))
 
 -- what a caller's threads ask of what they are given
 pub ruleset crossings = (sendable, crosses, cell_sync, pass_send, batch_send)

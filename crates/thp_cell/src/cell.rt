@@ -20,17 +20,17 @@ use std::alloc::Global;
 use std::marker::{Brand, Model};
 use std::snapshot::Snapshot;
 use thp_model::MAX_CALLERS;
-use thp_node::{NewFault, Node};
+use thp_node::{Kept, NewFault, Node, Recorder};
 
 /// A node that threads share through one word and one slot.
 ///
 /// The word is twice the length of the queue, and the lock bit. Contracts see which cell it is.
 #[derive(Drop)]
-pub struct NodeCell {
-    table: Table<Node, Knows, Key, CellRule, Global>,
+pub struct NodeCell<R: Recorder = Kept> {
+    table: Table<Node<R>, Knows, Key<R>, CellRule, Global>,
 }
 
-impl Model for NodeCell {
+impl<R: Recorder> Model for NodeCell<R> {
     ghost use Rattle.std.specs.Prelude.{◌≡◌};
     ghost use Rattle.atomic_table.specs.Seated.{TableId};
 
@@ -41,7 +41,7 @@ impl Model for NodeCell {
     ghost invariant = { λ c. (c.table.shared.table_id.words ≡ 1) × (c.table.shared.table_id.slots ≡ 1) };
 }
 
-impl NodeCell {
+impl<R: Recorder> NodeCell<R> {
     ghost use Rattle.std.specs.Borrow.{sem};
     ghost use Rattle.thp_node.specs.NodeState.{NodeState};
     ghost use Rattle.thp_cell.specs.Steps.{seen, left_of, right_of, Took, WasBusy};
@@ -50,7 +50,11 @@ impl NodeCell {
 
     /// Makes a cell of a node, for a number of callers, and the pass that has them all. Their numbers are those below
     /// `callers`: 1 to 64 of them, which is looked at first. A refusal drops the node.
-    pub fn new(alloc: Global, node: Node, callers: u32) -> Result<(NodeCell, Pass), NewFault>
+    pub fn new(
+        alloc: Global,
+        node: Node<R>,
+        callers: u32,
+    ) -> Result<(NodeCell<R>, Pass<R>), NewFault>
         requires { All (λ e. e.caller < callers) node.journal }
         ensures bad_size { (result ≡ Err NewFault.BadSize) ↔ ((callers ≡ 0) ⊎ (max_callers < callers)) }
         ensures cell { IfOk result (λ r. r.1.cell ≡ r.0) }
@@ -70,9 +74,8 @@ impl NodeCell {
             callers,
             node: Snapshot::of(&node),
         };
-        // the journal's contract says that it is legal, which the rule of the cell asks
-        let _legal = node.journal();
-        // and its shape's, that its pages are none too large
+        // tells the proof that the history is legal, which the rule of the cell asks, and that its pages are none too large
+        node.laws();
         let _shape = node.shape();
         let Ok(mut slots) = Vec::with_capacity(alloc, 1) else {
             return Err(NewFault::OutOfMemory);
@@ -92,7 +95,7 @@ impl NodeCell {
     }
 
     /// Divides the callers of a pass: those below `at`, and those from it on.
-    pub fn split(&self, pass: Pass, at: u32) -> (Pass, Pass)
+    pub fn split(&self, pass: Pass<R>, at: u32) -> (Pass<R>, Pass<R>)
         requires cell { pass.cell ≡ self.now }
         requires after { pass.first < at }
         requires before { at < pass.end }
@@ -122,7 +125,7 @@ impl NodeCell {
     }
 
     // Divides the callers of a seat.
-    fn split_seat<C: Cut>(&self, seat: &mut Seat<Node, Knows>, at: u32) -> Seat<Node, Knows>
+    fn split_seat<C: Cut>(&self, seat: &mut Seat<Node<R>, Knows>, at: u32) -> Seat<Node<R>, Knows>
         requires cell { seat.old.table_id ≡ self.now }
         requires free { IsFree seat.old }
         requires cut { C.at ≡ at }
@@ -137,7 +140,7 @@ impl NodeCell {
     }
 
     /// Joins two passes whose callers adjoin. One front begins the other, and the new pass has the longer.
-    pub fn join(&self, left: Pass, right: Pass) -> Pass
+    pub fn join(&self, left: Pass<R>, right: Pass<R>) -> Pass<R>
         requires left_cell { left.cell ≡ self.now }
         requires right_cell { right.cell ≡ self.now }
         requires adjacent { left.end ≡ right.first }
@@ -168,7 +171,7 @@ impl NodeCell {
 
     /// Takes the node for a hold without events: no other pass reaches it before the release. Refused where another pass
     /// has the node, which a pass of all callers never meets.
-    pub fn hold(&self, pass: Pass) -> Result<Hold, (Pass, Busy)>
+    pub fn hold(&self, pass: Pass<R>) -> Result<Hold<R>, (Pass<R>, Busy)>
         requires { pass.cell ≡ self.now }
         ensures follows { IfOk result (λ h. Follows pass h) }
         ensures busy { IfErr result (λ e. IsBusy pass e.0) }
@@ -186,7 +189,7 @@ impl NodeCell {
     }
 
     /// Ends a hold without events.
-    pub fn release(&self, hold: Hold) -> Pass
+    pub fn release(&self, hold: Hold<R>) -> Pass<R>
         requires { hold.cell ≡ self.now }
         ensures { result ≡ hold }
     {
@@ -200,7 +203,7 @@ impl NodeCell {
     }
 
     /// How many pages are queued, by a single load without the lock, also while another pass has the node.
-    pub fn count(&self, pass: &mut Pass) -> u32
+    pub fn count(&self, pass: &mut Pass<R>) -> u32
         requires { pass.old.cell ≡ self.now }
         ensures follows { Follows pass.old pass.new }
         ensures count { result ≡ length (queue pass.new.shape pass.new.front) }
@@ -213,7 +216,7 @@ impl NodeCell {
     ///
     /// Its journal is the one legal history of all that the threads did: it is the pass's front, the part of each caller is
     /// what that caller did in it, and no event has another caller.
-    pub fn finish(self, pass: Pass) -> Node
+    pub fn finish(self, pass: Pass<R>) -> Node<R>
         requires cell { pass.cell ≡ self }
         requires all { HasAll pass }
         ensures shape { result.shape ≡ pass.shape }
@@ -239,13 +242,13 @@ impl NodeCell {
         let mut closed = table.close_with(seat);
         let node = closed.take(0);
         closed.free();
-        // the contract of a node's journal says the laws at it
-        let _laws = node.journal();
+        // tells the proof the laws at the journal
+        node.laws();
         node
     }
 
     // The lock step: where no other pass has the node, the seat has the slot with it until `unlock`.
-    fn lock(&self, seat: &mut Seat<Node, Knows>) -> bool
+    fn lock(&self, seat: &mut Seat<Node<R>, Knows>) -> bool
         requires cell { seat.old.table_id ≡ self.now }
         requires free { IsFree seat.old }
         ensures same_cell { seat.new.table_id ≡ seat.old.table_id }
@@ -256,17 +259,17 @@ impl NodeCell {
     }
 
     // The node in the slot that the seat has, to be called in place. The seat stands first, since it is what lends.
-    fn node<'a>(seat: &'a mut Seat<Node, Knows>, cell: &'a NodeCell) -> &'a mut Node
+    fn node<'a>(seat: &'a mut Seat<Node<R>, Knows>, cell: &'a NodeCell<R>) -> &'a mut Node<R>
         requires cell { seat.old.table_id ≡ cell.now }
         requires slot { HasSlot seat.old }
-        ensures* writes_back { sem 𝓛 (lends_node seat.entry result) }
+        ensures* writes_back { sem 𝓛 (lends_node R.row R.Recorder seat.entry result) }
         ensures value { seat.old.me.1 ≡ (0, result.now) ∷ [] }
     {
         seat.slot_mut(&cell.table.shared, 0)
     }
 
     // Ends the loan: tells the word the length of the queue, and lets the lock go.
-    fn unlock(&self, seat: &mut Seat<Node, Knows>)
+    fn unlock(&self, seat: &mut Seat<Node<R>, Knows>)
         requires cell { seat.old.table_id ≡ self.now }
         requires lent { IsLent seat.old }
         ensures same_cell { seat.new.table_id ≡ seat.old.table_id }

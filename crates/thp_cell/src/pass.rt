@@ -7,20 +7,20 @@ use crate::rule::Knows;
 use atomic_table::Seat;
 use std::marker::Model;
 use thp_model::narrowed;
-use thp_node::Node;
+use thp_node::{Kept, Node, Recorder};
 
 /// What a thread reaches the node of a cell with: some of the cell's callers.
 ///
 /// Contracts see which cell it is of, its callers and its front: the history of the node that it knows of.
 #[derive(Drop)]
-pub struct Pass {
+pub struct Pass<R: Recorder = Kept> {
     // the callers: from `first` on and below `end`
     pub(crate) first: u32,
     pub(crate) end: u32,
-    pub(crate) seat: Seat<Node, Knows>,
+    pub(crate) seat: Seat<Node<R>, Knows>,
 }
 
-impl Model for Pass {
+impl<R: Recorder> Model for Pass<R> {
     ghost use Rattle.thp_cell.specs.Views.{PassState};
     ghost use Rattle.thp_cell.specs.Seats.{pass_state, IsNumbered, IsFree};
 
@@ -31,7 +31,7 @@ impl Model for Pass {
     ghost invariant = { λ p. IsNumbered p.first p.end p.seat × IsFree p.seat };
 }
 
-impl Pass {
+impl<R: Recorder> Pass<R> {
     /// The callers of the pass: from the first of the two numbers on, and below the second.
     pub fn callers(&self) -> (u32, u32)
         ensures first { result.0 ≡ self.now.first }
@@ -59,14 +59,14 @@ impl Pass {
 }
 
 /// A pass that has the node, which no other pass can reach meanwhile. It is spent by `NodeCell::release` alone.
-pub struct Hold {
+pub struct Hold<R: Recorder = Kept> {
     // the callers: from `first` on and below `end`
     pub(crate) first: u32,
     pub(crate) end: u32,
-    pub(crate) seat: Seat<Node, Knows>,
+    pub(crate) seat: Seat<Node<R>, Knows>,
 }
 
-impl Model for Hold {
+impl<R: Recorder> Model for Hold<R> {
     ghost use Rattle.thp_cell.specs.Views.{PassState};
     ghost use Rattle.thp_cell.specs.Seats.{pass_state, IsNumbered, HoldsNode};
 

@@ -7,7 +7,7 @@ use std::collections::LinkedList;
 use std::marker::{Brand, PhantomData};
 use std::snapshot::Snapshot;
 use thp_model::{Event, Shape};
-use thp_node::Node;
+use thp_node::{Node, Recorder};
 
 /// The front of a seat before it was joined, and its callers. No value of it is made.
 pub struct OldFront {
@@ -35,15 +35,15 @@ pub struct Knows {
 
 /// What the table is told when it is made: how many callers there are, and the node.
 #[derive(Drop)]
-pub struct Key {
+pub struct Key<R: Recorder> {
     pub callers: u32,
-    pub node: Snapshot<Node>,
+    pub node: Snapshot<Node<R>>,
 }
 
 /// The rule of a cell.
 pub struct CellRule;
 
-impl TableRule<Node, Knows, Key> for CellRule {
+impl<R: Recorder> TableRule<Node<R>, Knows, Key<R>> for CellRule {
     ghost use Rattle.thp_cell.specs.Rule.{Kept, root};
 
     ghost holds = { λ key. Kept key.callers key.node.value.shape };
@@ -54,7 +54,7 @@ impl TableRule<Node, Knows, Key> for CellRule {
 /// The lock step: it finds the bit clear and takes the slot, or finds it set.
 pub struct Lock;
 
-impl Play<Node, Knows> for Lock {
+impl<R: Recorder> Play<Node<R>, Knows> for Lock {
     ghost use Rattle.thp_cell.specs.Steps.{Locked};
 
     ghost then = { Locked };
@@ -63,7 +63,7 @@ impl Play<Node, Knows> for Lock {
 /// The store that ends a hold.
 pub struct Store;
 
-impl Play<Node, Knows> for Store {
+impl<R: Recorder> Play<Node<R>, Knows> for Store {
     ghost use Rattle.thp_cell.specs.Steps.{Stored};
 
     ghost then = { Stored };
@@ -72,7 +72,7 @@ impl Play<Node, Knows> for Store {
 /// The load of a count.
 pub struct Count;
 
-impl Play<Node, Knows> for Count {
+impl<R: Recorder> Play<Node<R>, Knows> for Count {
     ghost use Rattle.thp_cell.specs.Steps.{Counted};
 
     ghost then = { Counted };
@@ -81,7 +81,7 @@ impl Play<Node, Knows> for Count {
 /// The load after a join.
 pub struct Look;
 
-impl Play<Node, Knows> for Look {
+impl<R: Recorder> Play<Node<R>, Knows> for Look {
     ghost use Rattle.thp_cell.specs.Steps.{Looked};
 
     ghost then = { Looked };

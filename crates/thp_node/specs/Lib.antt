@@ -1,4 +1,5 @@
 pub mod NodeState
+pub mod Recorders
 pub mod Journals
 pub mod JournalLaws
 pub mod Batches

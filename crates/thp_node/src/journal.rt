@@ -12,6 +12,7 @@ ghost use Rattle.thp_model.specs.Legal.{IsLegal, Fits};
 ghost use Rattle.thp_node.specs.Journals.{HasFlightRoom, unsaid_of, leaves_by, joins_of, counters_of, HasCountRoom, CanJoin, CanLeave, Moves, Counts, freed_from, mappings_of, is_underused};
 
 use crate::answers::Counters;
+use crate::recorder::{Kept, Recorder};
 use std::alloc::{AllocError, Global};
 use std::marker::Model;
 use thp_model::{Event, MAX_CALLERS, Outcome, Shape, SubSet, What};
@@ -32,9 +33,9 @@ const SEATS: usize = MAX_CALLERS as usize;
 
 // What happened on a node, and the numbers of it that the calls need at once.
 #[derive(Drop)]
-pub(crate) struct Journal {
+pub(crate) struct Journal<R: Recorder> {
     shape: Shape,
-    events: Vec<Event>,
+    events: R,
     tally: Tally,
 }
 
@@ -50,27 +51,26 @@ struct Tally {
     counters: Counters,
 }
 
-impl Model for Journal {
-    ghost use Rattle.std.specs.Prelude.{◌-◌, vec_len, vec_capacity};
+impl<R: Recorder> Model for Journal<R> {
     ghost use Rattle.thp_node.specs.Journals.{JournalState, IsJournal};
 
     ghost Value = { JournalState };
 
-    ghost view = { λ j. record { shape = j.shape; events = j.events.items; room = vec_capacity j.events - vec_len j.events } };
+    ghost view = { λ j. record { shape = j.shape; events = R.history j.events; room = R.room j.events } };
 
-    ghost invariant = { λ j. IsJournal j.shape j.events.items j.tally };
+    ghost invariant = { λ j. IsJournal j.shape (R.history j.events) j.tally };
 }
 
-impl Journal {
+impl<R: Recorder> Journal<R> {
     // A journal with no event.
-    pub(crate) fn new(alloc: Global, shape: Shape) -> Journal
+    pub(crate) fn new(alloc: Global, shape: Shape) -> Journal<R>
         requires { IsShape shape }
         ensures shape { result.shape ≡ shape }
         ensures events { result.events ≡ [] }
     {
         Journal {
             shape,
-            events: Vec::new(alloc),
+            events: R::empty(alloc),
             tally: Tally {
                 next: 0,
                 closed: false,
@@ -96,7 +96,7 @@ impl Journal {
         ensures full { OnErr result (self.old.room < count) }
         ensures err { OnErr result (self.new ≡ self.old) }
     {
-        self.events.try_reserve(count)
+        self.events.reserve(count)
     }
 
     // Whether an event can be recorded before the journal has to grow.
@@ -104,7 +104,7 @@ impl Journal {
     pub(crate) fn has_room(&self) -> bool
         ensures { IsTrue result ↔ (0 < self.now.room) }
     {
-        self.events.len() < self.events.capacity()
+        self.events.has_room()
     }
 
     // Records what a caller did, which fits, with what the event leaves unsaid. It is inlined, so that a caller who knows the
@@ -121,9 +121,9 @@ impl Journal {
         ensures room { self.new.room + 1 ≡ self.old.room }
         ensures legal { IsLegal self.new.shape self.new.events }
     {
-        self.events.push_reserved(Event { caller, what });
+        self.events.record(caller, what);
         // Tells the proof that the number of events, and with it each of the numbers of the tally, is bounded.
-        let _events = self.events.as_slice().len();
+        let _events = self.events.count();
         self.tally.count(caller, &what, unsaid);
     }
 
@@ -135,13 +135,11 @@ impl Journal {
         self.shape
     }
 
-    // What happened so far, the oldest event first.
-    pub(crate) fn events(&self) -> &[Event]
-        ensures value { result.now ≡ self.now.events }
-        ensures shape { IsShape self.now.shape }
-        ensures legal { IsLegal self.now.shape self.now.events }
+    // How many events there are.
+    pub(crate) fn count(&self) -> u64
+        ensures { result ≡ length self.now.events }
     {
-        &self.events
+        self.events.count()
     }
 
     // How many pages were allocated: the number of the next.
@@ -185,6 +183,15 @@ impl Journal {
         ensures { result ≡ counters_of self.now.shape self.now.events }
     {
         self.tally.counters
+    }
+}
+
+impl Journal<Kept> {
+    // What happened so far, the oldest event first.
+    pub(crate) fn events(&self) -> &[Event]
+        ensures value { result.now ≡ self.now.events }
+    {
+        self.events.events()
     }
 }
 

@@ -20,24 +20,25 @@ mod return_calls;
 use crate::answers::{Counters, NewFault};
 use crate::blocks::Blocks;
 use crate::journal::Journal;
+use crate::recorder::{Kept, Recorder};
 use std::alloc::Global;
 use std::marker::Model;
 use thp_links::Queue;
 use thp_model::{Event, Refusal, Shape};
 use thp_page::PageTable;
 
-/// A memory node, used by one thread.
+/// A memory node, used by one thread, which records its events in an `R`.
 ///
 /// Contracts see its shape, its journal, its room, its table of pages and the blocks of its queue. The room is the number
 /// of events that can be recorded before the journal has to grow: a call whose events fit the room is never refused as
 /// `OutOfMemory`.
 #[derive(Drop)]
-pub struct Node {
-    journal: Journal,
+pub struct Node<R: Recorder = Kept> {
+    journal: Journal<R>,
     blocks: Blocks,
 }
 
-impl Model for Node {
+impl<R: Recorder> Model for Node<R> {
     ghost use Rattle.thp_node.specs.NodeState.{NodeState};
     ghost use Rattle.thp_live_pages.specs.Holding.{IsNode};
 
@@ -48,9 +49,9 @@ impl Model for Node {
     ghost invariant = { λ n. IsNode n.journal.shape n.journal.events n.blocks.table n.blocks.queue };
 }
 
-impl Node {
-    /// A node with no page, whose journal is empty.
-    pub fn new(alloc: Global, shape: Shape) -> Result<Node, NewFault>
+impl<R: Recorder> Node<R> {
+    /// A node with no page, whose journal is empty, over any recorder.
+    pub fn with_recorder(alloc: Global, shape: Shape) -> Result<Node<R>, NewFault>
         ensures bad_size { (result ≡ Err NewFault.BadSize) ↔ ¬ IsShape shape }
         ensures shape { IfOk result (λ n. n.shape ≡ shape) }
         ensures journal { IfOk result (λ n. n.journal ≡ []) }
@@ -91,9 +92,8 @@ impl Node {
         self.journal.shape()
     }
 
-    /// What happened so far, the oldest event first: a legal history.
-    pub fn journal(&self) -> &[Event]
-        ensures value { result.now ≡ self.now.journal }
+    /// Nothing, but for contracts: what happened so far is a legal history, and the laws of every legal history at this one.
+    pub fn laws(&self)
         ensures legal { IsLegal self.now.shape self.now.journal }
         // the laws of every legal history, at this one
         ensures once { StandsOnce self.now.shape self.now.journal }
@@ -111,7 +111,14 @@ impl Node {
         ensures queue { QueueGoesOn self.now.shape self.now.journal }
         ensures off { NoneIsUnderused self.now.shape self.now.journal }
     {
-        self.journal.events()
+        let _shape = self.journal.shape();
+    }
+
+    /// How many events happened so far.
+    pub fn event_count(&self) -> u64
+        ensures { result ≡ length self.now.journal }
+    {
+        self.journal.count()
     }
 
     /// The table of pages, in whose links the queue stands. Its slots are the live pages, each in the block of its
@@ -169,5 +176,40 @@ impl Node {
         ensures { result ≡ counters_of self.now.shape self.now.journal }
     {
         self.journal.counters()
+    }
+}
+
+impl Node<Kept> {
+    /// A node with no page, whose journal is empty.
+    pub fn new(alloc: Global, shape: Shape) -> Result<Node, NewFault>
+        ensures bad_size { (result ≡ Err NewFault.BadSize) ↔ ¬ IsShape shape }
+        ensures shape { IfOk result (λ n. n.shape ≡ shape) }
+        ensures journal { IfOk result (λ n. n.journal ≡ []) }
+    {
+        Node::with_recorder(alloc, shape)
+    }
+
+    /// What happened so far, the oldest event first: a legal history.
+    pub fn journal(&self) -> &[Event]
+        ensures value { result.now ≡ self.now.journal }
+        ensures legal { IsLegal self.now.shape self.now.journal }
+        // the laws of every legal history, at this one
+        ensures once { StandsOnce self.now.shape self.now.journal }
+        ensures whole { StandsWhole self.now.shape self.now.journal }
+        ensures oldest { TakesOldest self.now.shape self.now.journal }
+        ensures freed { LeavesFreedAlone self.now.journal }
+        ensures new { AllocatesOnce self.now.journal }
+        ensures closed { NothingEnters self.now.journal }
+        ensures frames { HasFramesOnce self.now.shape self.now.journal }
+        ensures sum { KeepsFrames self.now.shape self.now.journal }
+        ensures holds { HoldsWhileLive self.now.shape self.now.journal }
+        ensures apart { LivesApart self.now.journal }
+        ensures others { OthersFree self.now.journal }
+        ensures flights { FlightsGoOn self.now.journal }
+        ensures queue { QueueGoesOn self.now.shape self.now.journal }
+        ensures off { NoneIsUnderused self.now.shape self.now.journal }
+    {
+        self.laws();
+        self.journal.events()
     }
 }

@@ -10,14 +10,14 @@ ghost use Rattle.thp_sections.specs.Logs.{kept_log};
 use std::alloc::{AllocError, Global};
 use thp_journal_writer::{put, put_number, put_outcome};
 use thp_model::Refusal;
-use thp_node::{Node, ScanReply, Tried};
+use thp_node::{Node, Recorder, ScanReply, Tried};
 use thp_sections::{Answer, KeptAnswers, KeptSection, Reply};
 
-/// The answers of the sections, in order, a line for each.
+/// The answers of the sections, in order, a line for each, whatever the nodes keep of their events.
 #[tactic(auto, unfolding(crate::specs::Answers::answers_text))]
-pub(crate) fn answers_text(
+pub fn answers_text<R: Recorder>(
     alloc: Global,
-    nodes: &[Node],
+    nodes: &[Node<R>],
     sections: &[KeptSection],
 ) -> Result<Vec<u8>, AllocError>
     ensures { IfOk result (λ text. text.items ≡ text_of (map shape_of nodes.now) sections.now) }
@@ -31,9 +31,9 @@ pub(crate) fn answers_text(
 
 // the answers of a worker's section
 #[tactic(auto, unfolding(crate::specs::Answers::section_text))]
-fn put_section(
+fn put_section<R: Recorder>(
     text: &mut Vec<u8>,
-    nodes: &[Node],
+    nodes: &[Node<R>],
     worker: u32,
     answers: &KeptAnswers,
 ) -> Result<(), AllocError>
@@ -49,9 +49,9 @@ fn put_section(
 }
 
 // an answer, behind its section and its place there
-fn put_answer(
+fn put_answer<R: Recorder>(
     text: &mut Vec<u8>,
-    nodes: &[Node],
+    nodes: &[Node<R>],
     section: u32,
     answer: &Answer,
 ) -> Result<(), AllocError>
@@ -156,7 +156,7 @@ fn put_named(text: &mut Vec<u8>, name: &[u8], number: u64, after: u8) -> Result<
 }
 
 // whether the shrinker of a node looks for underused pages
-fn looks_on(nodes: &[Node], node: u32) -> bool
+fn looks_on<R: Recorder>(nodes: &[Node<R>], node: u32) -> bool
     ensures { result ≡ looks (map shape_of nodes.now) node }
 {
     match nodes.get(node as usize) {

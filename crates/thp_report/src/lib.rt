@@ -9,5 +9,7 @@ mod laws;
 mod report;
 mod totals;
 
+pub use answers::answers_text;
 pub use laws::totals_tell_no_block;
-pub use report::report_text;
+pub use report::{journals_text, report_text};
+pub use totals::totals_text;

@@ -38,8 +38,8 @@ pub fn report_text(
     }
 }
 
-// the journals of the nodes
-fn journals_text(alloc: Global, nodes: &[Node]) -> Result<Vec<u8>, AllocError>
+/// The journals of the nodes, in order.
+pub fn journals_text(alloc: Global, nodes: &[Node]) -> Result<Vec<u8>, AllocError>
     ensures { IfOk result (λ text. text.items ≡ journals_told (map told_of nodes.now)) }
 {
     let mut histories = Vec::new(alloc);

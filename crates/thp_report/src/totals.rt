@@ -6,10 +6,10 @@ ghost use Rattle.thp_report.specs.Reports.{told_of};
 use itoa::Buffer;
 use std::alloc::{AllocError, Global};
 use thp_journal_writer::put;
-use thp_node::Node;
+use thp_node::{Node, Recorder};
 
-/// The totals of the nodes, in order.
-pub(crate) fn totals_text(alloc: Global, nodes: &[Node]) -> Result<Vec<u8>, AllocError>
+/// The totals of the nodes, in order, whatever the nodes keep of their events.
+pub fn totals_text<R: Recorder>(alloc: Global, nodes: &[Node<R>]) -> Result<Vec<u8>, AllocError>
     ensures { IfOk result (λ text. text.items ≡ totals_text (map told_of nodes.now)) }
 {
     let mut text = Vec::new(alloc);
@@ -20,7 +20,11 @@ pub(crate) fn totals_text(alloc: Global, nodes: &[Node]) -> Result<Vec<u8>, Allo
 }
 
 /// Puts the lines of a node.
-fn put_node(text: &mut Vec<u8>, number: usize, node: &Node) -> Result<(), AllocError>
+fn put_node<R: Recorder>(
+    text: &mut Vec<u8>,
+    number: usize,
+    node: &Node<R>,
+) -> Result<(), AllocError>
     ensures { OnOk result (text.new.items ≡ text.old.items ++ node_totals number (told_of node.now)) }
 {
     put_nine_lines(text, number, node)?;
@@ -28,7 +32,11 @@ fn put_node(text: &mut Vec<u8>, number: usize, node: &Node) -> Result<(), AllocE
 }
 
 #[tactic(auto, using(crate::proofs::Pieces::nine), unfolding(crate::specs::Totals::nine_lines))]
-fn put_nine_lines(text: &mut Vec<u8>, number: usize, node: &Node) -> Result<(), AllocError>
+fn put_nine_lines<R: Recorder>(
+    text: &mut Vec<u8>,
+    number: usize,
+    node: &Node<R>,
+) -> Result<(), AllocError>
     ensures { OnOk result (text.new.items ≡ text.old.items ++ nine_lines number node.now.shape node.now.journal) }
 {
     let counters = node.counters();
@@ -53,7 +61,7 @@ fn put_nine_lines(text: &mut Vec<u8>, number: usize, node: &Node) -> Result<(), 
 
 /// Puts the tenth line of a node whose shrinker looks for underused pages.
 #[tactic(auto, unfolding(crate::specs::Totals::underused_line))]
-fn put_underused_line(text: &mut Vec<u8>, node: &Node) -> Result<(), AllocError>
+fn put_underused_line<R: Recorder>(text: &mut Vec<u8>, node: &Node<R>) -> Result<(), AllocError>
     ensures { OnOk result (text.new.items ≡ text.old.items ++ underused_line node.now.shape node.now.journal) }
 {
     if !node.shape().shrinks_underused() {

@@ -11,12 +11,13 @@ use crate::watched::Watched;
 use std::alloc::{AllocError, Global};
 use std::io::{Read, Write};
 use std::thread::Threads;
-use thp_report::report_text;
-use thp_script_runs::{Ran, run_script};
+use thp_node::Unkept;
+use thp_report::{answers_text, journals_text, totals_text};
+use thp_script_runs::{Ran, run_recorded, run_script};
 use thp_sections::{Gate, kept_sections};
-use thp_text::{Script, Settings};
+use thp_text::{Report, Script, Settings};
 
-/// The report of a run of the script.
+/// The report of a run of the script. Only a report of journals has the nodes keep their events.
 fn report_of<T: Threads + Sync, G: Gate + Sync>(
     rt: &T,
     alloc: Global,
@@ -27,9 +28,22 @@ fn report_of<T: Threads + Sync, G: Gate + Sync>(
     requires { IsScriptFor settings.now script }
     ensures { IfOk result (λ text. (input : List ℕ) → script_of settings.now input ≡ Ok script → IsReport settings.now input text.items) }
 {
-    let Ran { nodes, sections } = run_script(rt, alloc, settings, script, gate)?;
-    let kept = kept_sections(alloc, sections)?;
-    report_text(alloc, settings, nodes.as_slice(), kept.as_slice())
+    match settings.report {
+        Report::Totals => {
+            let ran: Ran<Unkept> = run_recorded(rt, alloc, settings, script, gate)?;
+            totals_text(alloc, ran.nodes.as_slice())
+        }
+        Report::Answers => {
+            let Ran { nodes, sections }: Ran<Unkept> =
+                run_recorded(rt, alloc, settings, script, gate)?;
+            let kept = kept_sections(alloc, sections)?;
+            answers_text(alloc, nodes.as_slice(), kept.as_slice())
+        }
+        Report::Journal => {
+            let ran = run_script(rt, alloc, settings, script, gate)?;
+            journals_text(alloc, ran.nodes.as_slice())
+        }
+    }
 }
 
 /// Runs the script that the reader gives, and writes the report of the run.

@@ -2,7 +2,7 @@
 //!
 //! [`run_script`] makes the nodes that the settings ask for, runs a script on them, and gives back the nodes and the answers.
 //! What a run is, stands in `specs/Runs.antt`: each node has one legal history, in which the steps of each caller stand in
-//! order, and the answers are those of the steps.
+//! order, and the answers are those of the steps. [`run_recorded`] is the same on nodes that needn't keep their events.
 #![tactic(auto)]
 
 mod nodes;
@@ -10,4 +10,4 @@ mod running;
 mod sections;
 mod sharing;
 
-pub use running::{Ran, run_script};
+pub use running::{Ran, run_recorded, run_script};

@@ -5,16 +5,16 @@ ghost use Rattle.thp_script_runs.specs.NewNodes.{shape_of, AreNodesFor};
 
 use std::alloc::{AllocError, Global};
 use thp_model::Shape;
-use thp_node::{NewFault, Node};
+use thp_node::{NewFault, Node, Recorder};
 use thp_text::Settings;
 
 /// The nodes that the settings ask for, on which nothing has happened. Where there is memory for it, each has room for so many
 /// events from the start; its journal grows where that isn't enough.
-pub(crate) fn new_nodes(
+pub(crate) fn new_nodes<R: Recorder>(
     alloc: Global,
     settings: &Settings,
     events: u32,
-) -> Result<Vec<Node>, AllocError>
+) -> Result<Vec<Node<R>>, AllocError>
     ensures shapes { IfOk result (λ r. AreNodesFor settings.now r.items) }
     ensures new { IfOk result (λ r. All (λ (node : NodeState). node.journal ≡ []) r.items) }
 {
@@ -28,7 +28,11 @@ pub(crate) fn new_nodes(
 }
 
 /// The node of this number. The settings are within the limits of nodes, so only memory can be wanting.
-fn new_node(alloc: Global, settings: &Settings, index: u32) -> Result<Node, AllocError>
+fn new_node<R: Recorder>(
+    alloc: Global,
+    settings: &Settings,
+    index: u32,
+) -> Result<Node<R>, AllocError>
     requires { index < settings.now.nodes }
     ensures shape { IfOk result (λ node. node.shape ≡ shape_of settings.now index) }
     ensures new { IfOk result (λ node. node.journal ≡ []) }
@@ -38,14 +42,14 @@ fn new_node(alloc: Global, settings: &Settings, index: u32) -> Result<Node, Allo
         order: settings.orders[index as usize],
         underused: settings.underused[index as usize],
     };
-    match Node::new(alloc, shape) {
+    match Node::with_recorder(alloc, shape) {
         Ok(node) => Ok(node),
         Err(NewFault::BadSize | NewFault::OutOfMemory) => Err(AllocError),
     }
 }
 
 /// Makes room for so many events, if there is memory for it: a node does without until it records them.
-fn make_room(node: &mut Node, events: u32)
+fn make_room<R: Recorder>(node: &mut Node<R>, events: u32)
     ensures { node.new ≡ record node.old { room = node.new.room } }
 {
     let _ = node.reserve(events);

@@ -14,15 +14,15 @@ use crate::sharing::{close, finish, open, share};
 use std::alloc::{AllocError, Global};
 use std::thread::Threads;
 use thp_cell::{NodeCell, Pass};
-use thp_node::Node;
+use thp_node::{Kept, Node, Recorder};
 use thp_sections::{Answers, Gate, NodePasses, Section};
 use thp_text::{Report, Script, Settings};
 
-/// What a run leaves: the nodes, and the answers of each section.
+/// What a run leaves: the nodes, which recorded what happened in an `N`, and the answers of each section.
 #[derive(Drop)]
-pub struct Ran {
+pub struct Ran<N: Recorder = Kept> {
     /// The nodes, by number.
-    pub nodes: Vec<Node>,
+    pub nodes: Vec<Node<N>>,
     /// The answers of `setup`, and then those of each worker; they are kept where the report is of answers.
     pub sections: Vec<Section>,
 }
@@ -37,6 +37,22 @@ pub fn run_script<R: Threads + Sync, G: Gate + Sync>(
     script: Script,
     gate: &G,
 ) -> Result<Ran, AllocError>
+    requires { IsScriptFor settings.now script }
+    ensures nodes { IfOk result (λ r. AreNodesFor settings.now r.nodes.items) }
+    ensures answers { settings.now.report ≡ Report.Answers → IfOk result (λ r. All (SectionAnswersAre Answers.Kept) r.sections.items) }
+    ensures run { IfOk result (λ r. IsRun settings.now.nodes (shapes_of r.nodes.items) script (histories_of r.nodes.items) r.sections.items) }
+{
+    run_recorded(rt, alloc, settings, script, gate)
+}
+
+/// The same on nodes that record what happens in an `N`: what contracts see of the run is the same whatever that keeps.
+pub fn run_recorded<R: Threads + Sync, N: Recorder + Send, G: Gate + Sync>(
+    rt: &R,
+    alloc: Global,
+    settings: &Settings,
+    script: Script,
+    gate: &G,
+) -> Result<Ran<N>, AllocError>
     requires { IsScriptFor settings.now script }
     ensures nodes { IfOk result (λ r. AreNodesFor settings.now r.nodes.items) }
     ensures answers { settings.now.report ≡ Report.Answers → IfOk result (λ r. All (SectionAnswersAre Answers.Kept) r.sections.items) }
@@ -64,16 +80,16 @@ pub fn run_script<R: Threads + Sync, G: Gate + Sync>(
 }
 
 /// Runs a script by the passes of all callers.
-fn run_on<R: Threads + Sync, G: Gate + Sync>(
+fn run_on<R: Threads + Sync, N: Recorder + Send, G: Gate + Sync>(
     rt: &R,
     alloc: Global,
-    cells: &[NodeCell],
-    passes: Vec<Pass>,
+    cells: &[NodeCell<N>],
+    passes: Vec<Pass<N>>,
     callers: u32,
     script: Script,
     answers: Answers,
     gate: &G,
-) -> Result<(Vec<Pass>, Vec<Section>), AllocError>
+) -> Result<(Vec<Pass<N>>, Vec<Section>), AllocError>
     requires cells { map cell_of passes.items ≡ cells.now }
     requires callers { callers ≡ 1 + length script.workers }
     requires fresh { All (IsFresh callers) passes.items }

@@ -7,15 +7,15 @@ ghost use Rattle.thp_script_runs.specs.Sharing.{cell_of, pass_of, IsNodeOf, IsRo
 
 use std::alloc::{AllocError, Global};
 use thp_cell::{NodeCell, Pass};
-use thp_node::{NewFault, Node};
+use thp_node::{NewFault, Node, Recorder};
 use thp_sections::{NodePass, NodePasses};
 
 /// A cell of each node, on which nothing has happened, and the pass that has all of its callers.
-pub(crate) fn share(
+pub(crate) fn share<R: Recorder>(
     alloc: Global,
-    nodes: Vec<Node>,
+    nodes: Vec<Node<R>>,
     callers: u32,
-) -> Result<(Vec<NodeCell>, Vec<Pass>), AllocError>
+) -> Result<(Vec<NodeCell<R>>, Vec<Pass<R>>), AllocError>
     requires { All (λ (node : NodeState). node.journal ≡ []) nodes.items }
     ensures cells { IfOk result (λ r. map cell_of r.1.items ≡ r.0.items) }
     ensures roots { IfOk result (λ r. Pairs (IsRoot callers) nodes.items r.1.items) }
@@ -31,7 +31,11 @@ pub(crate) fn share(
 }
 
 /// The cell of a node. The number of callers is within its limits, so only memory can be wanting.
-fn new_cell(alloc: Global, node: Node, callers: u32) -> Result<(NodeCell, Pass), AllocError>
+fn new_cell<R: Recorder>(
+    alloc: Global,
+    node: Node<R>,
+    callers: u32,
+) -> Result<(NodeCell<R>, Pass<R>), AllocError>
     requires { node.journal ≡ [] }
     ensures cell { IfOk result (λ r. r.1.cell ≡ r.0) }
     ensures root { IfOk result (λ r. IsRoot callers node r.1) }
@@ -43,11 +47,11 @@ fn new_cell(alloc: Global, node: Node, callers: u32) -> Result<(NodeCell, Pass),
 }
 
 /// The passes, ready for steps; none of their callers has a batch open.
-pub(crate) fn open<'a>(
+pub(crate) fn open<'a, R: Recorder>(
     alloc: Global,
-    cells: &'a [NodeCell],
-    passes: Vec<Pass>,
-) -> Result<Vec<NodePass<'a>>, AllocError>
+    cells: &'a [NodeCell<R>],
+    passes: Vec<Pass<R>>,
+) -> Result<Vec<NodePass<'a, R>>, AllocError>
     requires cells { map cell_of passes.items ≡ cells.now }
     requires some { All (λ (p : PassState). p.first ≤ p.end) passes.items }
     ensures { IfOk result (λ r. Pairs IsUnused passes.items r.items) }
@@ -61,7 +65,10 @@ pub(crate) fn open<'a>(
 }
 
 /// The passes, once all steps are made.
-pub(crate) fn close<'a>(alloc: Global, passes: NodePasses<'a>) -> Result<Vec<Pass>, AllocError>
+pub(crate) fn close<'a, R: Recorder>(
+    alloc: Global,
+    passes: NodePasses<'a, R>,
+) -> Result<Vec<Pass<R>>, AllocError>
     ensures passes { IfOk result (λ r. r.items ≡ map pass_of passes.entry.held) }
     ensures agree { Agree passes.entry.callers passes.entry.first passes.entry.end passes.entry.held }
 {
@@ -74,11 +81,11 @@ pub(crate) fn close<'a>(alloc: Global, passes: NodePasses<'a>) -> Result<Vec<Pas
 }
 
 /// Takes the cells apart, by the passes that have all their callers, and gives the nodes back.
-pub(crate) fn finish(
+pub(crate) fn finish<R: Recorder>(
     alloc: Global,
-    cells: Vec<NodeCell>,
-    passes: Vec<Pass>,
-) -> Result<Vec<Node>, AllocError>
+    cells: Vec<NodeCell<R>>,
+    passes: Vec<Pass<R>>,
+) -> Result<Vec<Node<R>>, AllocError>
     requires cells { map cell_of passes.items ≡ cells.items }
     requires all { All HasAll passes.items }
     ensures { IfOk result (λ r. Pairs IsNodeOf passes.items r.items) }

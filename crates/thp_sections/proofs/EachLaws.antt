@@ -1,13 +1,15 @@
 -- The passes of all nodes, divided and joined one by one.
-use Rattle.std.proofs.Common.{◌≡◌, ◌∙◌, ◌++◌, ◌<◌, ap, ℕ, zero, suc, List, [], ◌∷◌, length, map, refl, sym, subst, arith, append_assoc, Option, Some, None}
+use Rattle.std.proofs.Common.{◌≡◌, ◌∙◌, ◌++◌, ◌<◌, ap, ℕ, zero, suc, List, [], ◌∷◌, length, map, refl, sym, subst, arith, append_assoc, get_or, Option, Some, None}
 use Rattle.std.specs.Prelude.{slice_get}
+use Rattle.std.specs.List.{All}
 use Rattle.std.proofs.lemmas.List.{append-nil, length-map}
+use Rattle.std.proofs.lemmas.Option.{slice_get-get_or}
 use Rattle.thp_model.specs.History.{History, events_of}
 use Rattle.thp_model.specs.Legal.{IsLegal}
 use Rattle.thp_cell.specs.Views.{PassState}
 use Rattle.thp_sections.specs.Halves.{IsSplit, CanJoin, IsJoined}
 use Rattle.thp_sections.specs.Holdings.{Held}
-use Rattle.thp_sections.specs.Passes.{cell_in, shape_in, front_in, batch_in, fronts_of, IsOf, Agree, low_part, high_part, Adjoins, IsJoint, EachAdjoins, EachJoint}
+use Rattle.thp_sections.specs.Passes.{cell_in, shape_in, front_in, batch_in, fronts_of, IsOf, Agree, IsCut, low_part, high_part, Adjoins, IsJoint, EachAdjoins, EachJoint}
 use Rattle.thp_sections.proofs.PartLaws.{lower_open, upper_open}
 
 -- ---- the loops
@@ -55,6 +57,9 @@ of_each P Q f (x ∷ xs) go each zero h e = let is : f x ≡ h = cc in subst Q i
 of_each P Q f (x ∷ xs) go each (suc n) h e = of_each P Q f xs go (λ k y at. each (suc k) y at) n h e
 
 module _ (callers first end at : ℕ) (held : List Held) (agree : Agree callers first end held) where
+  pub cut_each : first < at → at < end → All (IsCut at) held
+  cut_each after before k d less = let is = agree.each k (get_or held k d) (slice_get-get_or held k d less) in record { after = omega (arith, is.first_is, after); before = omega (arith, is.end_is, before) }
+
   pub agree_low : Agree callers first at (map (low_part at) held)
   agree_low = record {
     few = rw (length-map held (low_part at)) agree.few;

@@ -12,18 +12,18 @@ use std::alloc::{AllocError, Global};
 use std::marker::Model;
 use thp_cell::{CellFault, NodeCell, Pass};
 use thp_model::{PageCall, PageId, Refusal};
-use thp_node::{Batch, Done};
+use thp_node::{Batch, Done, Kept, Recorder};
 
 /// A pass of one node, and for each of its callers at most one open batch.
 #[derive(Drop)]
-pub struct NodePass<'a> {
-    cell: &'a NodeCell,
-    pass: Pass,
+pub struct NodePass<'a, R: Recorder = Kept> {
+    cell: &'a NodeCell<R>,
+    pass: Pass<R>,
     // by caller, from the pass's first on
     batches: Vec<Option<Batch>>,
 }
 
-impl<'a> Model for NodePass<'a> {
+impl<'a, R: Recorder> Model for NodePass<'a, R> {
     ghost use Rattle.thp_sections.specs.Holdings.{Held, IsHeld};
 
     ghost Value = { Held };
@@ -33,9 +33,13 @@ impl<'a> Model for NodePass<'a> {
     ghost invariant = { λ p. IsHeld p.cell.now p.pass p.batches.items };
 }
 
-impl<'a> NodePass<'a> {
+impl<'a, R: Recorder> NodePass<'a, R> {
     /// A pass of a cell whose callers have no batch open.
-    pub fn new(alloc: Global, cell: &'a NodeCell, pass: Pass) -> Result<NodePass<'a>, AllocError>
+    pub fn new(
+        alloc: Global,
+        cell: &'a NodeCell<R>,
+        pass: Pass<R>,
+    ) -> Result<NodePass<'a, R>, AllocError>
         requires cell { pass.cell ≡ cell.now }
         requires some { pass.first ≤ pass.end }
         ensures pass { IfOk result (λ p. p.pass ≡ pass) }
@@ -54,7 +58,7 @@ impl<'a> NodePass<'a> {
     }
 
     /// The pass. Open batches are let go: their pages stay in flight.
-    pub fn into_pass(self) -> Pass
+    pub fn into_pass(self) -> Pass<R>
         ensures { result ≡ self.entry.pass }
     {
         let NodePass {
@@ -85,7 +89,7 @@ impl<'a> NodePass<'a> {
     }
 
     /// Divides the callers: those below `at`, and those from it on, each with its open batch.
-    pub(crate) fn split(self, at: u32) -> Result<(NodePass<'a>, NodePass<'a>), AllocError>
+    pub(crate) fn split(self, at: u32) -> Result<(NodePass<'a, R>, NodePass<'a, R>), AllocError>
         requires after { self.pass.first < at }
         requires before { at < self.pass.end }
         ensures left { IfOk result (λ r. r.0 ≡ lower_part self.entry at) }
@@ -115,7 +119,7 @@ impl<'a> NodePass<'a> {
     }
 
     /// Joins the passes of one cell whose callers adjoin, with their open batches.
-    pub(crate) fn join(self, other: NodePass<'a>) -> Result<NodePass<'a>, AllocError>
+    pub(crate) fn join(self, other: NodePass<'a, R>) -> Result<NodePass<'a, R>, AllocError>
         requires cell { other.pass.cell ≡ self.pass.cell }
         requires adjacent { self.pass.end ≡ other.pass.first }
         ensures passes { IfOk result (λ r. IsJoined self.entry.pass other.entry.pass r.pass) }

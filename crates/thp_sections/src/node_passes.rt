@@ -11,17 +11,18 @@ use crate::steps::{Step, Steps};
 use std::alloc::{AllocError, Global};
 use std::marker::Model;
 use thp_cell::CellFault;
+use thp_node::{Kept, Recorder};
 
 /// A pass of each node, all of the same callers. Contracts see what the holder knows of the nodes.
 #[derive(Drop)]
-pub struct NodePasses<'a> {
+pub struct NodePasses<'a, R: Recorder = Kept> {
     callers: u32,
     first: u32,
     end: u32,
-    nodes: Vec<NodePass<'a>>,
+    nodes: Vec<NodePass<'a, R>>,
 }
 
-impl<'a> Model for NodePasses<'a> {
+impl<'a, R: Recorder> Model for NodePasses<'a, R> {
     ghost use Rattle.thp_sections.specs.Passes.{Passes, Agree};
 
     ghost Value = { Passes };
@@ -31,7 +32,7 @@ impl<'a> Model for NodePasses<'a> {
     ghost invariant = { λ s. Agree s.callers s.first s.end s.nodes.items };
 }
 
-impl<'a> Steps for NodePasses<'a> {
+impl<'a, R: Recorder> Steps for NodePasses<'a, R> {
     ghost use Rattle.thp_sections.specs.Passes.{fronts_in};
 
     ghost fronts = { fronts_in };
@@ -59,9 +60,9 @@ impl<'a> Steps for NodePasses<'a> {
     }
 }
 
-impl<'a> NodePasses<'a> {
+impl<'a, R: Recorder> NodePasses<'a, R> {
     /// The passes of the nodes, each of the callers from `first` on and before `end`, of so many callers.
-    pub fn new(nodes: Vec<NodePass<'a>>, callers: u32, first: u32, end: u32) -> NodePasses<'a>
+    pub fn new(nodes: Vec<NodePass<'a, R>>, callers: u32, first: u32, end: u32) -> NodePasses<'a, R>
         requires { Agree callers first end nodes.items }
         ensures { result ≡ record { callers = callers; first = first; end = end; held = nodes.entry.items } }
     {
@@ -92,7 +93,7 @@ impl<'a> NodePasses<'a> {
     }
 
     /// The passes of the nodes.
-    pub fn into_nodes(self) -> Vec<NodePass<'a>>
+    pub fn into_nodes(self) -> Vec<NodePass<'a, R>>
         ensures items { result.items ≡ self.entry.held }
         ensures agree { Agree self.entry.callers self.entry.first self.entry.end result.items }
     {
@@ -100,7 +101,7 @@ impl<'a> NodePasses<'a> {
     }
 }
 
-impl<'a> Passes for NodePasses<'a> {
+impl<'a, R: Recorder> Passes for NodePasses<'a, R> {
     fn split(self, alloc: Global, at: u32) -> Result<(Self, Self), AllocError> {
         let NodePasses {
             callers,
@@ -149,11 +150,11 @@ impl<'a> Passes for NodePasses<'a> {
 }
 
 /// Divides the callers of each pass: those below `at`, and those from it on.
-fn split_each<'a>(
+fn split_each<'a, R: Recorder>(
     alloc: Global,
-    nodes: Vec<NodePass<'a>>,
+    nodes: Vec<NodePass<'a, R>>,
     at: u32,
-) -> Result<(Vec<NodePass<'a>>, Vec<NodePass<'a>>), AllocError>
+) -> Result<(Vec<NodePass<'a, R>>, Vec<NodePass<'a, R>>), AllocError>
     requires { All (IsCut at) nodes.items }
     ensures low { IfOk result (λ r. r.0.items ≡ map (low_part at) nodes.entry.items) }
     ensures high { IfOk result (λ r. r.1.items ≡ map (high_part at) nodes.entry.items) }
@@ -169,11 +170,11 @@ fn split_each<'a>(
 }
 
 /// Joins each pass with the one at its place.
-fn join_each<'a>(
+fn join_each<'a, R: Recorder>(
     alloc: Global,
-    nodes: Vec<NodePass<'a>>,
-    more: Vec<NodePass<'a>>,
-) -> Result<Vec<NodePass<'a>>, AllocError>
+    nodes: Vec<NodePass<'a, R>>,
+    more: Vec<NodePass<'a, R>>,
+) -> Result<Vec<NodePass<'a, R>>, AllocError>
     requires { EachAdjoins nodes.items more.items }
     ensures { IfOk result (λ r. EachJoint nodes.entry.items more.entry.items r.items) }
 {

@@ -11,19 +11,20 @@ use crate::node_passes::NodePasses;
 use crate::reply::Worked;
 use std::alloc::{AllocError, Global};
 use std::thread::Threads;
+use thp_node::Recorder;
 use thp_text::Command;
 
 /// Does the sections of the workers from `first` on, each on a thread of its own, on nodes that they share. `answers` says
 /// what becomes of theirs.
-pub fn run_workers<'a, R: Threads + Sync, G: Gate + Sync>(
+pub fn run_workers<'a, R: Threads + Sync, N: Recorder + Send, G: Gate + Sync>(
     rt: &R,
     alloc: Global,
-    passes: NodePasses<'a>,
+    passes: NodePasses<'a, N>,
     first: u32,
     workers: &[Vec<Command>],
     answers: Answers,
     gate: &G,
-) -> Result<(NodePasses<'a>, Vec<Worked>), AllocError>
+) -> Result<(NodePasses<'a, N>, Vec<Worked>), AllocError>
     requires { CanRun (fronts_in passes) first workers.now }
     ensures ran { IfOk result (λ r. Ran first (fronts_in passes.entry) (fronts_in r.0) workers.now r.1.items) }
     ensures answers { IfOk result (λ r. All (AnswersAre answers) r.1.items) }

@@ -16,9 +16,10 @@ use crate::answers::{BackReply, ScanReply, Tried};
 use crate::batch::Batch;
 use crate::journal::Unsaid;
 use crate::node::Node;
+use crate::recorder::Recorder;
 use thp_model::{PageId, Refusal, What};
 
-impl Node {
+impl<R: Recorder> Node<R> {
     ghost use Rattle.thp_model.specs.Pages.{is_worth};
     ghost use Rattle.thp_model.specs.Underused.{is_worth_split};
     ghost use Rattle.thp_page.specs.Slots.{slot_at};

@@ -10,9 +10,10 @@ ghost use Rattle.thp_node.specs.Calls.{Did, DidAlloc, Refused};
 
 use crate::journal::Unsaid;
 use crate::node::Node;
+use crate::recorder::Recorder;
 use thp_model::{PageId, Refusal, What};
 
-impl Node {
+impl<R: Recorder> Node<R> {
     /// A new page, mapped whole once, in a block of no live page. Its number is the count of allocations before it. It is
     /// queued where the shrinker looks for underused pages. Refused as `Closed` and `NoBlock`.
     pub fn alloc_page(&mut self, caller: u32) -> Result<PageId, Refusal>

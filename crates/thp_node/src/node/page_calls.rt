@@ -13,9 +13,10 @@ ghost use Rattle.thp_model.specs.PageCalls.{gain_call, loss_call, page_call, gai
 
 use crate::journal::Unsaid;
 use crate::node::Node;
+use crate::recorder::Recorder;
 use thp_model::{Done, Gain, Loss, PageCall, PageId, Refusal, What, narrowed};
 
-impl Node {
+impl<R: Recorder> Node<R> {
     /// One more mapping of the whole page, by a PMD entry. Refused as `NoPage`, `IsSplit` and `TooMany`.
     pub fn map_whole(&mut self, caller: u32, page: PageId) -> Result<(), Refusal>
         requires { caller < max_callers }

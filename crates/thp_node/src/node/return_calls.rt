@@ -15,10 +15,11 @@ use crate::answers::{BackReply, ScanReply, Tried};
 use crate::batch::Batch;
 use crate::journal::Unsaid;
 use crate::node::Node;
+use crate::recorder::Recorder;
 use arrayvec::ArrayVec;
 use thp_model::{MAX_BATCH, PageId, Refusal, What};
 
-impl Node {
+impl<R: Recorder> Node<R> {
     ghost use Rattle.thp_live_pages.specs.Flying.{IsFlyingAt};
     ghost use Rattle.thp_node.specs.Returning.{BeginsIn, return_first, OneBack};
     ghost use Rattle.thp_node.specs.Scanning.{events_behind, is_used};

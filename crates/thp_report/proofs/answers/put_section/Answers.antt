@@ -6,7 +6,7 @@ use Rattle.thp_report.proofs.AnswerLaws.{drop_at_get}
 use Rattle.thp_report.proofs.answers.put_section.Goals as goal
 
 pub loop-place-preserved : goal.loop-place-preserved
-loop-place-preserved c =
+loop-place-preserved g c =
     let items = c.args.answers.now.items in
     let place = c.loop-place.place in
     let answer = c.in-Some.answer in

@@ -6,5 +6,5 @@ use Rattle.thp_sections.specs.Logs.{kept_log}
 use Rattle.thp_report.proofs.answers.put_section.Given as goal
 
 abbrev pub invariant-loop-place : goal.invariant-loop-place
-invariant-loop-place l =
+invariant-loop-place g l =
     l.text.items ++ flat_map (answer_line (map shape_of l.nodes) l.worker) (drop l.place l.answers.items) ≡ l.fn.text.items ++ section_text (map shape_of l.nodes) (record { worker = l.worker; answers = kept_log l.answers })

@@ -6,7 +6,7 @@ use Rattle.thp_script_runs.proofs.NodeLaws.{each_more}
 use Rattle.thp_script_runs.proofs.nodes.new_nodes.Goals as goal
 
 pub loop-index-preserved : goal.loop-index-preserved
-loop-index-preserved c =
+loop-index-preserved g c =
     let inv = c.loop-index.invariant in
     let nodes = c.loop-index.nodes.items in
     let node = c.make_room.new.node in

@@ -12,7 +12,7 @@ pub new-passes-requires : goal.new-passes-requires
 new-passes-requires g c = agree_new c.args.callers c.args.passes.items c.in_ok-nodes.nodes.items c.in_ok-nodes.ensures c.requires.fresh c.requires.few
 
 pub run_sections-requires-send-P : goal.run_sections-requires-send-P
-run_sections-requires-send-P g c κs within = search (param_send, arg_send, node_passes_send)
+run_sections-requires-send-P g c κs within = search (param_send, arg_send, node_passes_send g.N.Recorder-dict g.N.Destruct-dict)
 
 pub run_sections-requires-clause-new : goal.run_sections-requires-clause-new
 run_sections-requires-clause-new g c κs within =

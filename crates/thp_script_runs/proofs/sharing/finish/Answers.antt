@@ -9,7 +9,7 @@ use Rattle.thp_script_runs.proofs.NodeLaws.{cons_tail, filled_end, filled_first,
 use Rattle.thp_script_runs.proofs.sharing.finish.Goals as goal
 
 pub loop-cell-init : goal.loop-cell-init
-loop-cell-init c =
+loop-cell-init g c =
     let cells = c.into_iter-cell-iterator.ensures.into_iter_gives in
     let passes = c.into_iter-passes.ensures in
     let left = ap length cells.0 in
@@ -23,10 +23,10 @@ loop-cell-init c =
     }
 
 pub finish-requires-clause-all : goal.finish-requires-clause-all
-finish-requires-clause-all c = All-head HasAll c.in-Some-next.pass (into_iter_items c.next-in-loop-cell.new.self) (subst (All HasAll) c.in-Some-next.ensures.cases.0 c.loop-cell.invariant.all)
+finish-requires-clause-all g c = All-head HasAll c.in-Some-next.pass (into_iter_items c.next-in-loop-cell.new.self) (subst (All HasAll) c.in-Some-next.ensures.cases.0 c.loop-cell.invariant.all)
 
 pub loop-cell-preserved-in-Continue-1 : goal.loop-cell-preserved-in-Continue-1
-loop-cell-preserved-in-Continue-1 c =
+loop-cell-preserved-in-Continue-1 g c =
     let inv = c.loop-cell.invariant in
     let low = c.in-Some.ensures.steps in
     let high = c.in-Some-next.ensures.cases in
@@ -45,7 +45,7 @@ loop-cell-preserved-in-Continue-1 c =
     }
 
 pub returns : goal.returns
-returns c =
+returns g c =
     let inv = c.loop-cell.invariant in
     let items = into_iter_items c.loop-cell.passes in
     let same = ap length inv.cells in

@@ -7,7 +7,7 @@ use Rattle.thp_script_runs.proofs.NodeLaws.{Filled}
 use Rattle.thp_script_runs.proofs.sharing.finish.Given as goal
 
 abbrev pub invariant-loop-cell : goal.invariant-loop-cell
-invariant-loop-cell l = record {
+invariant-loop-cell g l = record {
   cells : map cell_of (into_iter_items l.passes) ≡ into_iter_items l.cell-iterator;
   all : All HasAll (into_iter_items l.passes);
   filled : Filled IsNodeOf l.fn.passes.items l.nodes.items (into_iter_items l.passes);

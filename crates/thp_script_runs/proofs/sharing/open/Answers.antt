@@ -8,7 +8,7 @@ use Rattle.thp_script_runs.proofs.NodeLaws.{at_drop, filled_end, filled_first, f
 use Rattle.thp_script_runs.proofs.sharing.open.Goals as goal
 
 pub loop-pass-init : goal.loop-pass-init
-loop-pass-init c =
+loop-pass-init g c =
     let gives = c.into_iter-pass-iterator.ensures.into_iter_gives in
     let left = ap length gives.0 in
     record {
@@ -19,7 +19,7 @@ loop-pass-init c =
     }
 
 pub loop-pass-preserved : goal.loop-pass-preserved
-loop-pass-preserved c =
+loop-pass-preserved g c =
     let inv = c.loop-pass.invariant in
     let steps = c.in-Some.ensures.steps in
     let items = into_iter_items c.loop-pass.pass-iterator in
@@ -38,6 +38,6 @@ loop-pass-preserved c =
     }
 
 pub returns : goal.returns
-returns c =
+returns g c =
     let inv = c.loop-pass.invariant in
     filled_end IsUnused c.args.passes.items (into_iter_items c.loop-pass.pass-iterator) c.loop-pass.nodes.items (omega (arith, inv.left, c.in-None.ensures.steps.0)) inv.filled

@@ -7,7 +7,7 @@ use Rattle.thp_script_runs.proofs.NodeLaws.{Filled}
 use Rattle.thp_script_runs.proofs.sharing.open.Given as goal
 
 abbrev pub invariant-loop-pass : goal.invariant-loop-pass
-invariant-loop-pass l = record {
+invariant-loop-pass g l = record {
   cells : drop (length l.nodes.items) l.cells ≡ map cell_of (into_iter_items l.pass-iterator);
   some : All (λ (p : PassState). p.first ≤ p.end) (into_iter_items l.pass-iterator);
   filled : Filled IsUnused l.fn.passes.items l.nodes.items (into_iter_items l.pass-iterator);

@@ -9,7 +9,7 @@ use Rattle.thp_script_runs.proofs.NodeLaws.{filled_end, filled_first, filled_mor
 use Rattle.thp_script_runs.proofs.sharing.share.Goals as goal
 
 pub loop-node-init : goal.loop-node-init
-loop-node-init c =
+loop-node-init g c =
     let gives = c.into_iter-node-iterator.ensures.into_iter_gives in
     let left = ap length gives.0 in
     record {
@@ -20,7 +20,7 @@ loop-node-init c =
     }
 
 pub loop-node-preserved : goal.loop-node-preserved
-loop-node-preserved c =
+loop-node-preserved g c =
     let inv = c.loop-node.invariant in
     let steps = c.in-Some.ensures.steps in
     let items = into_iter_items c.loop-node.node-iterator in
@@ -37,6 +37,6 @@ loop-node-preserved c =
     }
 
 pub returns-clause-roots : goal.returns-clause-roots
-returns-clause-roots c =
+returns-clause-roots g c =
     let inv = c.loop-node.invariant in
     filled_end (IsRoot c.args.callers) c.args.nodes.items (into_iter_items c.loop-node.node-iterator) c.loop-node.passes.items (omega (arith, inv.left, c.in-None.ensures.steps.0)) inv.filled

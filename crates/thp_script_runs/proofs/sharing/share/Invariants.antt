@@ -7,7 +7,7 @@ use Rattle.thp_script_runs.proofs.NodeLaws.{Filled}
 use Rattle.thp_script_runs.proofs.sharing.share.Given as goal
 
 abbrev pub invariant-loop-node : goal.invariant-loop-node
-invariant-loop-node l = record {
+invariant-loop-node g l = record {
   cells : map cell_of l.passes.items ≡ l.cells.items;
   filled : Filled (IsRoot l.callers) l.fn.nodes.items l.passes.items (into_iter_items l.node-iterator);
   new : All (λ (node : NodeState). node.journal ≡ []) (into_iter_items l.node-iterator);

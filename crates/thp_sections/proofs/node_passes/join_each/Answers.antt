@@ -3,13 +3,13 @@ use Rattle.thp_sections.proofs.EachLaws.{adjoins_first, joint_more, adjoins_some
 use Rattle.thp_sections.proofs.node_passes.join_each.Goals as goal
 
 pub join-requires-clause-cell : goal.join-requires-clause-cell
-join-requires-clause-cell c = (adjoins_first _ _ c.in-Some.low c.in-Some-next.high _ _ c.in-Some.ensures.steps.0 c.in-Some-next.ensures.items c.loop-low.invariant.adjoin).0.cell
+join-requires-clause-cell g c = (adjoins_first _ _ c.in-Some.low c.in-Some-next.high _ _ c.in-Some.ensures.steps.0 c.in-Some-next.ensures.items c.loop-low.invariant.adjoin).0.cell
 
 pub join-requires-clause-adjacent : goal.join-requires-clause-adjacent
-join-requires-clause-adjacent c = (adjoins_first _ _ c.in-Some.low c.in-Some-next.high _ _ c.in-Some.ensures.steps.0 c.in-Some-next.ensures.items c.loop-low.invariant.adjoin).0.adjacent
+join-requires-clause-adjacent g c = (adjoins_first _ _ c.in-Some.low c.in-Some-next.high _ _ c.in-Some.ensures.steps.0 c.in-Some-next.ensures.items c.loop-low.invariant.adjoin).0.adjacent
 
 pub loop-low-preserved-in_ok-push-in-Some-next : goal.loop-low-preserved-in_ok-push-in-Some-next
-loop-low-preserved-in_ok-push-in-Some-next c =
+loop-low-preserved-in_ok-push-in-Some-next g c =
     let inv = c.loop-low.invariant in
     let e = c.in_ok-join-in-Some-next.ensures in
     let low = c.in-Some.ensures.steps in
@@ -26,7 +26,7 @@ loop-low-preserved-in_ok-push-in-Some-next c =
     }
 
 pub loop-low-preserved : goal.loop-low-preserved
-loop-low-preserved c = absurd (adjoins_some _ _ c.in-Some.low _ c.in-Some.ensures.steps.0 (omega (arith, c.loop-low.invariant.right, c.in-None-next.ensures.cases.0)) c.loop-low.invariant.adjoin)
+loop-low-preserved g c = absurd (adjoins_some _ _ c.in-Some.low _ c.in-Some.ensures.steps.0 (omega (arith, c.loop-low.invariant.right, c.in-None-next.ensures.cases.0)) c.loop-low.invariant.adjoin)
 
 pub returns : goal.returns
-returns c = joint_end _ _ _ _ _ (omega (arith, c.loop-low.invariant.left, c.in-None.ensures.steps.0)) c.loop-low.invariant.adjoin c.loop-low.invariant.joint
+returns g c = joint_end _ _ _ _ _ (omega (arith, c.loop-low.invariant.left, c.in-None.ensures.steps.0)) c.loop-low.invariant.adjoin c.loop-low.invariant.joint

@@ -5,7 +5,7 @@ use Rattle.thp_sections.specs.Passes.{EachAdjoins, EachJoint}
 use Rattle.thp_sections.proofs.node_passes.join_each.Given as goal
 
 abbrev pub invariant-loop-low : goal.invariant-loop-low
-invariant-loop-low l = record {
+invariant-loop-low g l = record {
   adjoin : EachAdjoins (into_iter_items l.low-iterator) (into_iter_items l.more);
   joint : (hs : List Held) → EachJoint (into_iter_items l.low-iterator) (into_iter_items l.more) hs → EachJoint l.fn.nodes.items l.fn.more.items (l.all.items ++ hs);
   left : length (into_iter_items l.low-iterator) ≡ into_iter_len l.low-iterator;

@@ -6,7 +6,7 @@ use Rattle.thp_sections.proofs.EachLaws.{pushed}
 use Rattle.thp_sections.proofs.node_passes.split_each.Goals as goal
 
 pub loop-node-preserved : goal.loop-node-preserved
-loop-node-preserved c =
+loop-node-preserved g c =
     let inv = c.loop-node.invariant in
     let step = c.in-Some.ensures.steps.0 in
     record {

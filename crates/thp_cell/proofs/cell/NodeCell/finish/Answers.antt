@@ -30,7 +30,7 @@ is_whole : (p : PassState) (s : Place) → pass_state s ≡ p → HasAll p → I
 is_whole p s is all = let whole = subst HasAll (sym is) all in record { from = whole.from; to = whole.to }
 
 pub returns : goal.returns
-returns c =
+returns g c =
     let free = c.pass.invariant.1 in
     let s = c.pass.inside.seat in
     let t = ends _ _ _ s.me.0 _ _ _ free.no_node free.callers (is_whole _ s c.pass.view_is c.requires.all) c.close_with-closed.ensures.values.2 c.take-node.ensures.value in
@@ -40,11 +40,11 @@ returns c =
       legal = t.legal;
       parts = λ k. ap (events_of k) e.journal;
       callers = e.callers;
-      oldest = c.journal-laws.ensures.oldest;
-      once = c.journal-laws.ensures.once;
-      whole = c.journal-laws.ensures.whole;
-      freed = c.journal-laws.ensures.freed;
-      closed = c.journal-laws.ensures.closed;
-      frames = c.journal-laws.ensures.frames;
-      sum = c.journal-laws.ensures.sum;
+      oldest = c.laws.ensures.oldest;
+      once = c.laws.ensures.once;
+      whole = c.laws.ensures.whole;
+      freed = c.laws.ensures.freed;
+      closed = c.laws.ensures.closed;
+      frames = c.laws.ensures.frames;
+      sum = c.laws.ensures.sum;
     }

@@ -10,13 +10,13 @@ use Rattle.thp_cell.proofs.Splitting.{joins}
 use Rattle.thp_cell.proofs.cell.NodeCell.join.Goals as goal
 
 pub join_seat-requires : goal.join_seat-requires
-join_seat-requires c =
+join_seat-requires g c =
     let free = c.left.invariant.1 in
     let free' = c.right.invariant.1 in
     (search rules, search rules, free'.no_slot, search rules, joins _ _ _ _ _ _ free.no_node free'.no_node free.callers free'.callers (search rules))
 
 pub load-requires : goal.load-requires
-load-requires c =
+load-requires g c =
     let free = c.left.invariant.1 in
     let free' = c.right.invariant.1 in
     let e = c.join_seat.ensures.2 in
@@ -29,7 +29,7 @@ load-requires c =
 
 -- what the load tells of the three passes
 pub returns : goal.returns
-returns c =
+returns g c =
     let p = pass_state c.left.inside.seat in
     let q = pass_state c.right.inside.seat in
     let r = pass_state c.load.new.seat in

@@ -5,7 +5,7 @@ use Rattle.thp_cell.proofs.Fronts.{adds_none}
 use Rattle.thp_cell.proofs.cell.NodeCell.release.Goals as goal
 
 pub unlock-requires : goal.unlock-requires
-unlock-requires c =
+unlock-requires g c =
     let held = c.hold.invariant.1 in
     let v = c.hold.inside.seat.me.0 in
     record {

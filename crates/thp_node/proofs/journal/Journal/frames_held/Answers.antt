@@ -5,18 +5,18 @@ use Rattle.thp_node.proofs.JournalLemmas.{all_frames}
 use Rattle.thp_node.proofs.journal.Journal.frames_held.Goals as goal
 
 pub overflow_sub-result : goal.overflow_sub-result
-overflow_sub-result c =
+overflow_sub-result g c =
     let j = c.self.invariant in
     omega (
       arith,
-      all_frames c.self.inside.shape c.self.inside.events.items _ _ _ j.has_shape j.legal (c.from.ensures ∙ c.subpages.ensures) (c.from-2.ensures ∙ j.next_is) j.given_is,
+      all_frames c.self.inside.shape (g.R.Recorder.history c.self.inside.events) _ _ _ j.has_shape j.legal (c.from.ensures ∙ c.subpages.ensures) (c.from-2.ensures ∙ j.next_is) j.given_is,
     )
 
 pub returns : goal.returns
-returns c =
+returns g c =
     let j = c.self.invariant in
     omega (
       arith,
-      all_frames c.self.inside.shape c.self.inside.events.items _ _ _ j.has_shape j.legal (c.from.ensures ∙ c.subpages.ensures) (c.from-2.ensures ∙ j.next_is) j.given_is,
+      all_frames c.self.inside.shape (g.R.Recorder.history c.self.inside.events) _ _ _ j.has_shape j.legal (c.from.ensures ∙ c.subpages.ensures) (c.from-2.ensures ∙ j.next_is) j.given_is,
       ap (λ (s : JournalState). frames_held s.shape s.events) c.self.view_is,
     )

@@ -5,7 +5,7 @@ use Rattle.thp_node.proofs.Recording.{journal_none}
 use Rattle.thp_node.proofs.journal.Journal.new.Goals as goal
 
 pub invariant_of-result : goal.invariant_of-result
-invariant_of-result c =
+invariant_of-result g c =
     let P : List Event → Type 0 = λ h.
     IsJournal c.args.shape h
     (record {
@@ -15,4 +15,4 @@ invariant_of-result c =
       frames_given = 0;
       counters = record { split_page = 0; split_page_failed = 0; deferred_split_page = 0; underused_split_page = 0; split_pmd = 0 };
     }) in
-    subst P (sym c.new.ensures.items) (journal_none c.args.shape c.requires)
+    subst P (sym c.empty.ensures) (journal_none c.args.shape c.requires)

@@ -6,7 +6,7 @@ use Rattle.thp_live_pages.proofs.Admitting.{refused_gone_page}
 use Rattle.thp_node.proofs.node.Node.admit.Goals as goal
 
 pub returns-in-None-clause-refused : goal.returns-in-None-clause-refused
-returns-in-None-clause-refused c =
+returns-in-None-clause-refused g c =
     let j = c.self.inside.journal in
     let b = c.self.inside.blocks in
     record {

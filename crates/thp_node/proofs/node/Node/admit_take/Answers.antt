@@ -4,14 +4,14 @@ use Rattle.thp_model.specs.Refusals.{refusal}
 use Rattle.thp_model.specs.Refusals as call
 use Rattle.thp_model.specs.Runs.{take_events}
 use Rattle.thp_model.proofs.TakeRuns.{none_flies}
-use Rattle.thp_node.specs.contracts.node.Node.{the_view}
 use Rattle.thp_node.specs.Journals.{JournalState}
 use Rattle.thp_node.specs.NodeState.{NodeState}
+use Rattle.thp_node.proofs.CallLemmas.{node_of}
 use Rattle.thp_node.proofs.BatchRuns.{refused_take, unrefused_take, queue_length, take_length}
 use Rattle.thp_node.proofs.node.Node.admit_take.Goals as goal
 
 pub returns-then-flying-ne0-clause-refused : goal.returns-then-flying-ne0-clause-refused
-returns-then-flying-ne0-clause-refused c =
+returns-then-flying-ne0-clause-refused g c =
     let j = c.self.inside.journal in
     record {
       same = refl;
@@ -19,23 +19,23 @@ returns-then-flying-ne0-clause-refused c =
     }
 
 pub returns-clause-allowed : goal.returns-clause-allowed
-returns-clause-allowed c =
+returns-clause-allowed g c =
     let j = c.self.inside.journal in
     ap (λ (n : NodeState). refusal n.shape n.journal (call.take c.args.caller)) (sym c.self.view_is) ∙ unrefused_take j.shape j.events c.args.caller (omega (arith, c.flying.ensures))
 
 pub returns-clause-free : goal.returns-clause-free
-returns-clause-free c =
+returns-clause-free g c =
     ap (λ (n : NodeState). no_pages (flight n.journal c.args.caller)) (sym c.self.view_is) ∙ none_flies (flight c.self.inside.journal.events c.args.caller) (omega (arith, c.flying.ensures))
 
 pub returns-clause-count : goal.returns-clause-count
-returns-clause-count c =
+returns-clause-count g c =
     let j = c.self.inside.journal in
     let b = c.self.inside.blocks in
     c.min-count.ensures ∙ ap (min c.args.n)
     (c.len.ensures ∙ ap length c.queue.ensures.value ∙ sym (queue_length j.shape j.events b.table b.queue c.self.invariant) ∙ ap (λ (n : NodeState). length (queue n.shape n.journal)) c.self.view_is)
 
 pub returns-in-Err-clause-refused : goal.returns-in-Err-clause-refused
-returns-in-Err-clause-refused c =
+returns-in-Err-clause-refused g c =
     let j = c.self.inside.journal in
     let b = c.self.inside.blocks in
     let wanted : c.min-count.result ≡ length (take_events c.args.self.now.shape c.args.self.now.journal c.args.caller c.args.n) =
@@ -49,7 +49,7 @@ returns-in-Err-clause-refused c =
       queue_length j.shape j.events b.table b.queue c.self.invariant,
     ) in
     record {
-      same = ap (λ (k : JournalState). the_view (record { journal = k; blocks = b })) c.in-Err.ensures.err ∙ c.self.view_is;
+      same = ap (λ (k : JournalState). node_of k b) c.in-Err.ensures.err ∙ c.self.view_is;
       cause = inr (
         ap (λ (n : NodeState). refusal n.shape n.journal (call.take c.args.caller)) (sym c.self.view_is) ∙ unrefused_take j.shape j.events c.args.caller (omega (arith, c.flying.ensures)),
         refl,

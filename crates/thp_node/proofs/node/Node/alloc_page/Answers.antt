@@ -9,11 +9,11 @@ use Rattle.thp_model.specs.Refusals.{refusal}
 use Rattle.thp_model.specs.Refusals as call
 use Rattle.thp_model.specs.Underused.{shrinks_underused}
 use Rattle.thp_page.specs.Slots.{slot_at}
-use Rattle.thp_node.specs.contracts.node.Node.{the_view}
 use Rattle.thp_live_pages.specs.PlacesState.{HasFree}
 use Rattle.thp_live_pages.specs.Holding.{IsNode}
 use Rattle.thp_node.specs.Journals.{JournalState}
 use Rattle.thp_node.specs.NodeState.{NodeState}
+use Rattle.thp_node.proofs.CallLemmas.{node_of}
 use Rattle.thp_live_pages.proofs.Closing.{refused_alloc, refused_full, allowed_alloc, next_is_new}
 use Rattle.thp_live_pages.proofs.Homing.{legal_homed}
 use Rattle.thp_live_pages.proofs.ListEvents.{placed_fits, placed_node}
@@ -22,14 +22,14 @@ use Rattle.thp_node.proofs.Fronts.{fronts_same, fronts_grown}
 use Rattle.thp_node.proofs.node.Node.alloc_page.Goals as goal
 
 pub returns-then-is_closed-clause-refused : goal.returns-then-is_closed-clause-refused
-returns-then-is_closed-clause-refused c = record {
+returns-then-is_closed-clause-refused g c = record {
   same = refl;
   cause = inl (ap (λ (n : NodeState). refusal n.shape n.journal call.alloc_page) (sym c.self.view_is)
       ∙ refused_alloc c.self.inside.journal.shape c.self.inside.journal.events (sym c.is_closed.ensures ∙ c.if-is_closed.true));
 }
 
 pub returns-then-not-has_free-clause-refused : goal.returns-then-not-has_free-clause-refused
-returns-then-not-has_free-clause-refused c =
+returns-then-not-has_free-clause-refused g c =
     let j = c.self.inside.journal in
     let b = c.self.inside.blocks in
     let P : Bool → Type 0 = λ z. OnFalse z ((i : ℕ) → i < length b.table.slots → IsSome (slot_at b.table i)) in
@@ -40,12 +40,12 @@ returns-then-not-has_free-clause-refused c =
     }
 
 pub returns-in-Err-clause-refused : goal.returns-in-Err-clause-refused
-returns-in-Err-clause-refused c =
+returns-in-Err-clause-refused g c =
     let j = c.self.inside.journal in
     let b = c.self.inside.blocks in
     let P : Bool → Type 0 = λ z. OnTrue z (HasFree b.table) in
     record {
-      same = ap (λ (k : JournalState). the_view (record { journal = k; blocks = b })) c.in-Err.ensures.err ∙ c.self.view_is;
+      same = ap (λ (k : JournalState). node_of k b) c.in-Err.ensures.err ∙ c.self.view_is;
       cause = inr (
         ap (λ (n : NodeState). refusal n.shape n.journal call.alloc_page) (sym c.self.view_is)
             ∙ allowed_alloc j.shape j.events b.table b.queue c.self.invariant (sym c.is_closed.ensures ∙ c.if-is_closed.false) (subst P c.if-not-has_free.false c.has_free.ensures.some),
@@ -55,14 +55,14 @@ returns-in-Err-clause-refused c =
     }
 
 pub place-block-requires-clause-new : goal.place-block-requires-clause-new
-place-block-requires-clause-new c =
+place-block-requires-clause-new g c =
     let j = c.self.inside.journal in
     let b = c.self.inside.blocks in
     let number : c.next.result ≡ Rattle.thp_model.specs.Counts.allocations j.events = c.next.ensures ∙ ap (λ h. Rattle.thp_model.specs.Counts.allocations h) c.in_default.ensures.events in
     next_is_new j.shape j.events b.table b.queue c.next.result c.self.invariant number
 
 pub record-requires-clause-fits : goal.record-requires-clause-fits
-record-requires-clause-fits c =
+record-requires-clause-fits g c =
     let j = c.self.inside.journal in
     let b = c.self.inside.blocks in
     let P : Bool → Type 0 = λ z. OnTrue z (HasFree b.table) in
@@ -74,7 +74,7 @@ record-requires-clause-fits c =
     subst (λ h. F c.reserve.new.self.shape h) (sym c.in_default.ensures.events) (subst (λ s. F s j.events) (sym c.in_default.ensures.shape) fits)
 
 pub invariant_of-self-2 : goal.invariant_of-self-2
-invariant_of-self-2 c =
+invariant_of-self-2 g c =
     let j = c.self.inside.journal in
     let b = c.self.inside.blocks in
     let P : Bool → Type 0 = λ z. OnTrue z (HasFree b.table) in
@@ -95,7 +95,7 @@ invariant_of-self-2 c =
     subst (λ h. N c.record.new.self.shape h) (sym events) (subst (λ s. N s (j.events ++ by c.args.caller w ∷ [])) (sym shape) node)
 
 pub returns-clause-allowed : goal.returns-clause-allowed
-returns-clause-allowed c =
+returns-clause-allowed g c =
     let j = c.self.inside.journal in
     let b = c.self.inside.blocks in
     let P : Bool → Type 0 = λ z. OnTrue z (HasFree b.table) in
@@ -103,11 +103,11 @@ returns-clause-allowed c =
     ∙ allowed_alloc j.shape j.events b.table b.queue c.self.invariant (sym c.is_closed.ensures ∙ c.if-is_closed.false) (subst P c.if-not-has_free.false c.has_free.ensures.some)
 
 pub returns-in-Err-clause-fronts : goal.returns-in-Err-clause-fronts
-returns-in-Err-clause-fronts c =
-    fronts_same c.args.self.now.journal _ (ap (λ (n : NodeState). n.journal) (returns-in-Err-clause-refused c).same)
+returns-in-Err-clause-fronts g c =
+    fronts_same c.args.self.now.journal _ (ap (λ (n : NodeState). n.journal) (returns-in-Err-clause-refused g c).same)
 
 pub returns-clause-fronts : goal.returns-clause-fronts
-returns-clause-fronts c =
+returns-clause-fronts g c =
     fronts_grown c.args.self.now.journal _ _
     (c.record.ensures.events ∙ ap (λ h. h ++ by c.args.caller (what.Alloc c.next.result c.place-block.result) ∷ []) (c.in_default.ensures.events ∙ ap (λ (n : NodeState). n.journal) c.self.view_is))
     (λ d. refl)

@@ -4,25 +4,25 @@ use Rattle.thp_model.specs.declared.events.What.TheVariants as what
 use Rattle.thp_model.specs.History.{History, by}
 use Rattle.thp_model.specs.Refusals.{refusal}
 use Rattle.thp_model.specs.Refusals as call
-use Rattle.thp_node.specs.contracts.node.Node.{the_view}
 use Rattle.thp_live_pages.specs.Holding.{IsNode}
 use Rattle.thp_node.specs.Journals.{JournalState}
 use Rattle.thp_node.specs.NodeState.{NodeState}
+use Rattle.thp_node.proofs.CallLemmas.{node_of}
 use Rattle.thp_live_pages.proofs.Closing.{refused_close, allowed_close}
 use Rattle.thp_live_pages.proofs.ListEvents.{closed_node}
 use Rattle.thp_node.proofs.Fronts.{fronts_same, fronts_grown}
 use Rattle.thp_node.proofs.node.Node.close.Goals as goal
 
 pub returns-then-is_closed-clause-refused : goal.returns-then-is_closed-clause-refused
-returns-then-is_closed-clause-refused c = record {
+returns-then-is_closed-clause-refused g c = record {
   same = refl;
   cause = inl (ap (λ (n : NodeState). refusal n.shape n.journal call.close) (sym c.self.view_is)
       ∙ refused_close c.self.inside.journal.shape c.self.inside.journal.events (sym c.is_closed.ensures ∙ c.if-is_closed.true));
 }
 
 pub returns-in-Err-clause-refused : goal.returns-in-Err-clause-refused
-returns-in-Err-clause-refused c = record {
-  same = ap (λ (j : JournalState). the_view (record { journal = j; blocks = c.self.inside.blocks })) c.in-Err.ensures.err ∙ c.self.view_is;
+returns-in-Err-clause-refused g c = record {
+  same = ap (λ (j : JournalState). node_of j c.self.inside.blocks) c.in-Err.ensures.err ∙ c.self.view_is;
   cause = inr (
     ap (λ (n : NodeState). refusal n.shape n.journal call.close) (sym c.self.view_is)
         ∙ allowed_close c.self.inside.journal.shape c.self.inside.journal.events (sym c.is_closed.ensures ∙ c.if-is_closed.false),
@@ -32,12 +32,12 @@ returns-in-Err-clause-refused c = record {
 }
 
 pub record-requires-clause-fits : goal.record-requires-clause-fits
-record-requires-clause-fits c =
+record-requires-clause-fits g c =
     allowed_close c.reserve.new.self.shape c.reserve.new.self.events
     (let P : History → Type 0 = λ h. Rattle.thp_model.specs.Counts.is_closed h ≡ false in subst P (sym c.in_default.ensures.events) (sym c.is_closed.ensures ∙ c.if-is_closed.false))
 
 pub invariant_of-self-2 : goal.invariant_of-self-2
-invariant_of-self-2 c =
+invariant_of-self-2 g c =
     let j = c.self.inside.journal in
     let b = c.self.inside.blocks in
     let open_is = allowed_close j.shape j.events (sym c.is_closed.ensures ∙ c.if-is_closed.false) in
@@ -48,16 +48,16 @@ invariant_of-self-2 c =
     subst (λ h. P c.record.new.self.shape h) (sym events) (subst (λ s. P s (j.events ++ by c.args.caller what.Close ∷ [])) (sym shape) node)
 
 pub returns-clause-allowed : goal.returns-clause-allowed
-returns-clause-allowed c =
+returns-clause-allowed g c =
     ap (λ (n : NodeState). refusal n.shape n.journal call.close) (sym c.self.view_is)
     ∙ allowed_close c.self.inside.journal.shape c.self.inside.journal.events (sym c.is_closed.ensures ∙ c.if-is_closed.false)
 
 pub returns-in-Err-clause-fronts : goal.returns-in-Err-clause-fronts
-returns-in-Err-clause-fronts c =
-    fronts_same c.args.self.now.journal _ (ap (λ (n : NodeState). n.journal) (returns-in-Err-clause-refused c).same)
+returns-in-Err-clause-fronts g c =
+    fronts_same c.args.self.now.journal _ (ap (λ (n : NodeState). n.journal) (returns-in-Err-clause-refused g c).same)
 
 pub returns-clause-fronts : goal.returns-clause-fronts
-returns-clause-fronts c =
+returns-clause-fronts g c =
     fronts_grown c.args.self.now.journal _ (by c.args.caller what.Close ∷ [])
     (c.record.ensures.events ∙ ap (λ h. h ++ by c.args.caller what.Close ∷ []) (c.in_default.ensures.events ∙ ap (λ (n : NodeState). n.journal) c.self.view_is))
     (λ d. refl)

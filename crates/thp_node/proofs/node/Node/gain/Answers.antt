@@ -8,18 +8,18 @@ use Rattle.thp_model.specs.declared.page_call.PageCall.TheVariants as either
 use Rattle.thp_live_pages.specs.Holding.{IsNode}
 use Rattle.thp_live_pages.specs.Homes.{block_of}
 use Rattle.thp_node.specs.NodeState.{NodeState}
-use Rattle.thp_node.specs.contracts.node.Node.{the_view}
 use Rattle.thp_live_pages.specs.PlacesState.{PlacesState}
 use Rattle.thp_model.specs.PageCalls.{gain_call, gain_what}
 use Rattle.thp_live_pages.proofs.Admitting.{Found, at_home, refused_by_page}
-use Rattle.thp_node.proofs.CallLemmas.{did_one, refused_by}
+use Rattle.thp_node.proofs.CallLemmas.{did_one, refused_by, node_of}
 use Rattle.thp_live_pages.proofs.PageEvents.{gained}
 use Rattle.thp_node.proofs.Fronts.{fronts_same, fronts_grown, gain_takes_none}
+use Rattle.thp_node.proofs.node.Node.gain.Given.{Over}
 use Rattle.thp_node.proofs.node.Node.gain.Goals as goal
 use Rattle.thp_node.proofs.node.Node.gain.Goals.{In-Err}
 
 pub record-requires-clause-fits : goal.record-requires-clause-fits
-record-requires-clause-fits c =
+record-requires-clause-fits g c =
     let j = c.self.inside.journal in
     let b = c.self.inside.blocks in
     let is = c.self.view_is ∙ c.in_ok-block.ensures.same in
@@ -34,8 +34,8 @@ record-requires-clause-fits c =
     subst P (sym c.what.ensures) (subst Q w.id_is (gained j.shape j.events c.args.caller c.in_ok-block.block w.slot did.0 c.args.gain b c.gain.new.self c.self.invariant w.at allowed did.1 did.2).0)
 
 -- the node that the page's gain leaves, with its event
-changed : (c : goal.After-record) → IsNode c.record.new.self.shape c.record.new.self.events c.gain.new.self.table c.gain.new.self.queue
-changed c =
+changed : (g : Over) (c : goal.After-record g) → IsNode c.record.new.self.shape c.record.new.self.events c.gain.new.self.table c.gain.new.self.queue
+changed g c =
     let j = c.self.inside.journal in
     let b = c.self.inside.blocks in
     let is = c.self.view_is ∙ c.in_ok-block.ensures.same in
@@ -52,10 +52,10 @@ changed c =
     subst (λ h. P c.record.new.self.shape h) (sym events) (subst (λ s. P s (j.events ++ by c.args.caller (gain_what c.args.gain w.slot.id) ∷ [])) (sym c.record.ensures.shape) node)
 
 pub invariant_of-self-2 : goal.invariant_of-self-2
-invariant_of-self-2 c = changed c
+invariant_of-self-2 g c = changed c
 
 pub returns-clause-recorded : goal.returns-clause-recorded
-returns-clause-recorded c =
+returns-clause-recorded g c =
     let j = c.self.inside.journal in
     let b = c.self.inside.blocks in
     let is = c.self.view_is ∙ c.in_ok-block.ensures.same in
@@ -71,17 +71,17 @@ returns-clause-recorded c =
     (omega arith)
 
 pub returns-in_err-block-clause-fronts : goal.returns-in_err-block-clause-fronts
-returns-in_err-block-clause-fronts c =
+returns-in_err-block-clause-fronts g c =
     fronts_same c.args.self.now.journal _ (ap (λ (n : NodeState). n.journal) c.in_err-block.ensures.refused.same)
 
 pub returns-clause-fronts : goal.returns-clause-fronts
-returns-clause-fronts c =
-    fronts_grown c.args.self.now.journal _ (by c.args.caller (gain_what c.args.gain c.args.page) ∷ []) (returns-clause-recorded c).journal
+returns-clause-fronts g c =
+    fronts_grown c.args.self.now.journal _ (by c.args.caller (gain_what c.args.gain c.args.page) ∷ []) (returns-clause-recorded g c).journal
     (λ d. gain_takes_none d c.args.caller c.args.page c.args.gain)
 
 -- what the page refuses is refused
-refused : (c : In-Err) → refusal c.args.self.now.shape c.args.self.now.journal (gain_call c.args.gain c.args.page) ≡ Some c.in-Err.refusal
-refused c =
+refused : (g : Over) (c : In-Err g) → refusal c.args.self.now.shape c.args.self.now.journal (gain_call c.args.gain c.args.page) ≡ Some c.in-Err.refusal
+refused g c =
     let j = c.self.inside.journal in
     let b = c.self.inside.blocks in
     let is = c.self.view_is ∙ c.in_ok-block.ensures.same in
@@ -91,12 +91,12 @@ refused c =
     ∙ refused_by_page j.shape j.events b.table c.args.page c.in_ok-block.block (either.Gain c.args.gain) w ∙ sym (c.in-Err.ensures.refusal w.slot w.at c.args.page)
 
 pub returns-in-Err-clause-refused : goal.returns-in-Err-clause-refused
-returns-in-Err-clause-refused c =
-    refused_by c.args.self.now _ _ _ _ (ap (λ (b : PlacesState). let n : NodeState = record (the_view c.self.inside) { table = b.table; queue = b.queue } in n) c.in-Err.ensures.kept ∙ c.self.view_is) (refused c)
+returns-in-Err-clause-refused g c =
+    refused_by c.args.self.now _ _ _ _ (ap (λ (b : PlacesState). node_of c.self.inside.journal b) c.in-Err.ensures.kept ∙ c.self.view_is) (refused g c)
     c.in_ok-block.ensures.kept c.in_ok-block.ensures.allowed
 
 pub returns-clause-allowed : goal.returns-clause-allowed
-returns-clause-allowed c =
+returns-clause-allowed g c =
     let j = c.self.inside.journal in
     let b = c.self.inside.blocks in
     let is = c.self.view_is ∙ c.in_ok-block.ensures.same in

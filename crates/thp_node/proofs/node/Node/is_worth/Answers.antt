@@ -6,7 +6,7 @@ use Rattle.thp_node.proofs.BatchRuns.{flies_inside, worth_there}
 use Rattle.thp_node.proofs.node.Node.is_worth.Goals as goal
 
 pub returns-clause-worth : goal.returns-clause-worth
-returns-clause-worth c = λ caller p flies.
+returns-clause-worth g c = λ caller p flies.
     let j = c.self.inside.journal in
     let w = flies_inside _ c.args.self.now caller p c.args.block c.self.view_is flies in
     c.is_worth.ensures w.slot w.at ∙ ap (λ s. is_worth s.underused w.slot.page) c.shape.ensures.value

@@ -5,21 +5,20 @@ use Rattle.thp_model.specs.Pages.{is_worth}
 use Rattle.thp_model.specs.History.{by}
 use Rattle.thp_model.specs.Runs.{try_event}
 use Rattle.thp_node.specs.Calls.{Did}
-use Rattle.thp_node.specs.contracts.node.Node.{the_view}
 use Rattle.thp_node.specs.NodeState.{NodeState}
 use Rattle.thp_node.proofs.BatchRuns.{flies_inside, slot_inside, node_recorded, found_used}
-use Rattle.thp_node.proofs.CallLemmas.{did_one}
+use Rattle.thp_node.proofs.CallLemmas.{did_one, node_of}
 use Rattle.thp_node.proofs.node.Node.let_go.Goals as goal
 
 pub record-requires-clause-fits : goal.record-requires-clause-fits
-record-requires-clause-fits c =
+record-requires-clause-fits g c =
     let j = c.self.inside.journal in
     let w = flies_inside _ c.args.self.now c.args.caller c.args.page c.args.block c.self.view_is c.requires.flies in
     (found_used j.shape j.events c.args.caller c.args.page c.args.block c.self.inside.blocks c.self.invariant w c.drop_out.new.self c.drop_out.ensures
     (slot_inside _ c.args.self.now c.args.block (λ s x. is_worth s.underused x.page ≡ false) c.self.view_is c.requires.used w.slot w.at)).fits
 
 pub invariant_of-self : goal.invariant_of-self
-invariant_of-self c =
+invariant_of-self g c =
     let j = c.self.inside.journal in
     let w = flies_inside _ c.args.self.now c.args.caller c.args.page c.args.block c.self.view_is c.requires.flies in
     node_recorded c.record.new.self.shape j.shape c.record.new.self.events j.events (by c.args.caller (Used c.args.page)) c.drop_out.new.self
@@ -27,14 +26,14 @@ invariant_of-self c =
     (slot_inside _ c.args.self.now c.args.block (λ s x. is_worth s.underused x.page ≡ false) c.self.view_is c.requires.used w.slot w.at)).node
 
 pub returns : goal.returns
-returns c =
+returns g c =
     let j = c.self.inside.journal in
     let w = flies_inside _ c.args.self.now c.args.caller c.args.page c.args.block c.self.view_is c.requires.flies in
     let u = (found_used j.shape j.events c.args.caller c.args.page c.args.block c.self.inside.blocks c.self.invariant w c.drop_out.new.self c.drop_out.ensures
     (slot_inside _ c.args.self.now c.args.block (λ s x. is_worth s.underused x.page ≡ false) c.self.view_is c.requires.used w.slot w.at)) in
     let is : by c.args.caller (Used c.args.page) ≡ try_event c.args.self.now.shape c.args.self.now.journal c.args.caller c.args.page =
     u.is ∙ ap (λ (n : NodeState). try_event n.shape n.journal c.args.caller c.args.page) c.self.view_is in
-    let new : NodeState = the_view (record { journal = c.record.new.self; blocks = c.drop_out.new.self }) in
+    let new : NodeState = node_of c.record.new.self c.drop_out.new.self in
     let P : Event → Type 0 = λ e. Did c.args.self.now new c.args.caller (e ∷ []) in
     record {
       did =

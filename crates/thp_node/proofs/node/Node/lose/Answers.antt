@@ -13,12 +13,12 @@ use Rattle.thp_model.specs.Pages.{page_refusal}
 use Rattle.thp_model.specs.declared.page_call.Loss.{Loss}
 use Rattle.thp_node.specs.Journals.{unsaid_of}
 use Rattle.thp_node.specs.NodeState.{NodeState}
-use Rattle.thp_node.specs.contracts.node.Node.{the_view}
 use Rattle.thp_model.specs.PageCalls.{loss_call, loss_what}
 use Rattle.thp_live_pages.proofs.Admitting.{Found, at_home, refused_by_page}
-use Rattle.thp_node.proofs.CallLemmas.{did_one, refused_by}
+use Rattle.thp_node.proofs.CallLemmas.{did_one, refused_by, node_of}
 use Rattle.thp_node.proofs.Losing.{Losing, losing}
 use Rattle.thp_node.proofs.Fronts.{fronts_same, fronts_grown, loss_takes_none}
+use Rattle.thp_node.proofs.node.Node.lose.Given.{Over}
 use Rattle.thp_node.proofs.node.Node.lose.Goals as goal
 
 -- what the page doesn't refuse isn't refused
@@ -28,98 +28,98 @@ allowed s h n p b l m home told =
     refused_by_page s h n.table p b (either.Loss l) w ∙ sym (told w.slot w.at p)
 
 -- what the page lost, before and after it is recorded
-before : (c : goal.After-what) → Losing c.self.inside.journal.shape c.self.inside.journal.events c.args.caller c.args.page c.args.loss c.self.inside.blocks c.lose.new.self c.lose.new.done c.in-Ok.left
-before c =
+before : (g : Over) (c : goal.After-what g) → Losing c.self.inside.journal.shape c.self.inside.journal.events g c.args.caller c.args.page c.args.loss c.self.inside.blocks c.lose.new.self c.lose.new.done c.in-Ok.left
+before g c =
     let j = c.self.inside.journal in
     let b = c.self.inside.blocks in
     let is = c.self.view_is ∙ c.in_ok-block.ensures.same in
-    losing j.shape j.events c.args.caller c.args.page c.in_ok-block.block c.args.loss c.is_closed-closed.result b c.lose.new.self c.lose.new.done c.in-Ok.left c.self.invariant
+    losing j.shape j.events g c.args.caller c.args.page c.in_ok-block.block c.args.loss c.is_closed-closed.result b c.lose.new.self c.lose.new.done c.in-Ok.left c.self.invariant
     (ap (λ (n : NodeState). block_of n.journal c.args.page) is ∙ c.in_ok-block.ensures.block)
     c.is_closed-closed.ensures
     (allowed j.shape j.events b c.args.page c.in_ok-block.block c.args.loss c.self.invariant (ap (λ (n : NodeState). block_of n.journal c.args.page) is ∙ c.in_ok-block.ensures.block) c.in-Ok.ensures.refusal)
     c.in-Ok.ensures.lost
 
-after : (c : goal.After-record) → Losing c.self.inside.journal.shape c.self.inside.journal.events c.args.caller c.args.page c.args.loss c.self.inside.blocks c.lose.new.self c.lose.new.done c.in-Ok.left
-after c =
+after : (g : Over) (c : goal.After-record g) → Losing c.self.inside.journal.shape c.self.inside.journal.events g c.args.caller c.args.page c.args.loss c.self.inside.blocks c.lose.new.self c.lose.new.done c.in-Ok.left
+after g c =
     let j = c.self.inside.journal in
     let b = c.self.inside.blocks in
     let is = c.self.view_is ∙ c.in_ok-block.ensures.same in
-    losing j.shape j.events c.args.caller c.args.page c.in_ok-block.block c.args.loss c.is_closed-closed.result b c.lose.new.self c.lose.new.done c.in-Ok.left c.self.invariant
+    losing j.shape j.events g c.args.caller c.args.page c.in_ok-block.block c.args.loss c.is_closed-closed.result b c.lose.new.self c.lose.new.done c.in-Ok.left c.self.invariant
     (ap (λ (n : NodeState). block_of n.journal c.args.page) is ∙ c.in_ok-block.ensures.block)
     c.is_closed-closed.ensures
     (allowed j.shape j.events b c.args.page c.in_ok-block.block c.args.loss c.self.invariant (ap (λ (n : NodeState). block_of n.journal c.args.page) is ∙ c.in_ok-block.ensures.block) c.in-Ok.ensures.refusal)
     c.in-Ok.ensures.lost
 
 pub record-requires-clause-fits : goal.record-requires-clause-fits
-record-requires-clause-fits c =
+record-requires-clause-fits g c =
     let j = c.self.inside.journal in
     let P : What → Type 0 = λ w. Fits j.shape j.events (by c.args.caller w) in
-    subst P (sym c.what.ensures) (before c).fits
+    subst P (sym c.what.ensures) (before g c).fits
 
 pub record-requires-clause-unsaid : goal.record-requires-clause-unsaid
-record-requires-clause-unsaid c = (before c).unsaid_is ∙ ap (unsaid_of c.self.inside.journal.shape c.self.inside.journal.events) (sym c.what.ensures)
+record-requires-clause-unsaid g c = (before g c).unsaid_is ∙ ap (unsaid_of c.self.inside.journal.shape c.self.inside.journal.events) (sym c.what.ensures)
 
-events : (c : goal.After-record) → c.record.new.self.events ≡ c.self.inside.journal.events ++ by c.args.caller (loss_what c.args.loss c.args.page c.lose.new.done.outcome c.lose.new.done.released) ∷ []
-events c = c.record.ensures.events ∙ ap (λ v. c.self.inside.journal.events ++ by c.args.caller v ∷ []) c.what.ensures
+events : (g : Over) (c : goal.After-record g) → c.record.new.self.events ≡ c.self.inside.journal.events ++ by c.args.caller (loss_what c.args.loss c.args.page c.lose.new.done.outcome c.lose.new.done.released) ∷ []
+events g c = c.record.ensures.events ∙ ap (λ v. c.self.inside.journal.events ++ by c.args.caller v ∷ []) c.what.ensures
 
 pub invariant_of-self-2 : goal.invariant_of-self-2
-invariant_of-self-2 c =
+invariant_of-self-2 g c =
     let j = c.self.inside.journal in
     let w : What = loss_what c.args.loss c.args.page c.lose.new.done.outcome c.lose.new.done.released in
     let P : Shape → History → Type 0 = λ s h. IsNode s h c.lose.new.self.table c.lose.new.self.queue in
-    subst (λ h. P c.record.new.self.shape h) (sym (events c)) (subst (λ s. P s (j.events ++ by c.args.caller w ∷ [])) (sym c.record.ensures.shape) (after c).node)
+    subst (λ h. P c.record.new.self.shape h) (sym (events g c)) (subst (λ s. P s (j.events ++ by c.args.caller w ∷ [])) (sym c.record.ensures.shape) (after g c).node)
 
 pub returns-clause-recorded : goal.returns-clause-recorded
-returns-clause-recorded c =
+returns-clause-recorded g c =
     let j = c.self.inside.journal in
     let is = c.self.view_is ∙ c.in_ok-block.ensures.same in
     let w : What = loss_what c.args.loss c.args.page c.lose.new.done.outcome c.lose.new.done.released in
     did_one c.args.self.now _ c.args.caller w j.room 8
     (c.record.ensures.shape ∙ ap (λ (n : NodeState). n.shape) is)
-    (events c ∙ ap (λ h. h ++ by c.args.caller w ∷ []) (ap (λ (n : NodeState). n.journal) is))
+    (events g c ∙ ap (λ h. h ++ by c.args.caller w ∷ []) (ap (λ (n : NodeState). n.journal) is))
     c.record.ensures.legal
     (omega (arith, c.in_ok-block.ensures.more, ap (λ (n : NodeState). n.room) c.self.view_is))
     c.record.ensures.room
-    (omega (arith, (after c).work, ap (λ (n : NodeState). n.table.accesses) is))
+    (omega (arith, (after g c).work, ap (λ (n : NodeState). n.table.accesses) is))
     (omega arith)
 
 pub returns-clause-outcome : goal.returns-clause-outcome
-returns-clause-outcome c =
+returns-clause-outcome g c =
     let is = c.self.view_is ∙ c.in_ok-block.ensures.same in
-    (after c).gives.outcome_is
-    ∙ ap₂ (λ (n : NodeState) h. outcome n.shape n.journal h c.args.page) is (sym (events c))
+    (after g c).gives.outcome_is
+    ∙ ap₂ (λ (n : NodeState) h. outcome n.shape n.journal h c.args.page) is (sym (events g c))
 
 pub returns-clause-released : goal.returns-clause-released
-returns-clause-released c =
+returns-clause-released g c =
     let is = c.self.view_is ∙ c.in_ok-block.ensures.same in
-    (after c).gives.set_is
-    ∙ ap₂ (λ (n : NodeState) h. released n.shape n.journal h c.args.page) is (sym (events c))
+    (after g c).gives.set_is
+    ∙ ap₂ (λ (n : NodeState) h. released n.shape n.journal h c.args.page) is (sym (events g c))
 
 pub returns-in_err-block-clause-fronts : goal.returns-in_err-block-clause-fronts
-returns-in_err-block-clause-fronts c =
+returns-in_err-block-clause-fronts g c =
     fronts_same c.args.self.now.journal _ (ap (λ (n : NodeState). n.journal) c.in_err-block.ensures.refused.same)
 
 pub returns-clause-fronts : goal.returns-clause-fronts
-returns-clause-fronts c =
+returns-clause-fronts g c =
     let done = c.lose.new.done in
-    fronts_grown c.args.self.now.journal _ (by c.args.caller (loss_what c.args.loss c.args.page done.outcome done.released) ∷ []) (returns-clause-recorded c).journal
+    fronts_grown c.args.self.now.journal _ (by c.args.caller (loss_what c.args.loss c.args.page done.outcome done.released) ∷ []) (returns-clause-recorded g c).journal
     (λ d. loss_takes_none d c.args.caller c.args.page c.args.loss done.outcome done.released)
 
 pub returns-clause-allowed : goal.returns-clause-allowed
-returns-clause-allowed c =
+returns-clause-allowed g c =
     let j = c.self.inside.journal in
     let is = c.self.view_is ∙ c.in_ok-block.ensures.same in
     ap (λ (n : NodeState). refusal n.shape n.journal (loss_call c.args.loss c.args.page)) (sym is)
-    ∙ allowed j.shape j.events c.self.inside.blocks c.args.page c.in_ok-block.block c.args.loss c.self.invariant (ap (λ (n : NodeState). block_of n.journal c.args.page) is ∙ c.in_ok-block.ensures.block) c.in-Ok.ensures.refusal
+    ∙ allowed j.shape j.events g c.self.inside.blocks c.args.page c.in_ok-block.block c.args.loss c.self.invariant (ap (λ (n : NodeState). block_of n.journal c.args.page) is ∙ c.in_ok-block.ensures.block) c.in-Ok.ensures.refusal
 
 pub returns-in-Err-clause-refused : goal.returns-in-Err-clause-refused
-returns-in-Err-clause-refused c =
+returns-in-Err-clause-refused g c =
     let j = c.self.inside.journal in
     let b = c.self.inside.blocks in
     let is = c.self.view_is ∙ c.in_ok-block.ensures.same in
     let w : Found j.shape j.events b.table c.args.page c.in_ok-block.block =
     at_home j.shape j.events b.table b.queue c.args.page c.in_ok-block.block c.self.invariant (ap (λ (n : NodeState). block_of n.journal c.args.page) is ∙ c.in_ok-block.ensures.block) in
-    refused_by c.args.self.now _ _ _ _ (ap (λ (b : PlacesState). let n : NodeState = record (the_view c.self.inside) { table = b.table; queue = b.queue } in n) c.in-Err.ensures.kept ∙ c.self.view_is)
+    refused_by c.args.self.now _ _ _ _ (ap (λ (b : PlacesState). node_of c.self.inside.journal b) c.in-Err.ensures.kept ∙ c.self.view_is)
     (ap (λ (n : NodeState). refusal n.shape n.journal (loss_call c.args.loss c.args.page)) (sym is)
     ∙ refused_by_page j.shape j.events b.table c.args.page c.in_ok-block.block (either.Loss c.args.loss) w ∙ sym (c.in-Err.ensures.refusal w.slot w.at c.args.page))
     c.in_ok-block.ensures.kept c.in_ok-block.ensures.allowed

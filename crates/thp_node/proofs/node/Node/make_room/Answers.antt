@@ -2,15 +2,16 @@ use Rattle.std.proofs.Common.{◌≡◌, None, sym, ◌∙◌, inl, inr, ap, sub
 use Rattle.thp_model.specs.Refusals.{refusal}
 use Rattle.thp_page.specs.Slots.{slot_at, HoldsPage}
 use Rattle.thp_node.specs.NodeState.{NodeState}
-use Rattle.thp_node.specs.contracts.node.Node.{the_view}
+use Rattle.thp_node.proofs.CallLemmas.{node_of}
 use Rattle.thp_node.specs.Journals.{JournalState}
 use Rattle.thp_model.specs.PageCalls.{page_call}
 use Rattle.thp_live_pages.proofs.Admitting.{Found, found, refused_by_page}
+use Rattle.thp_node.proofs.node.Node.make_room.Given.{Over}
 use Rattle.thp_node.proofs.node.Node.make_room.Goals as goal
 use Rattle.thp_node.proofs.node.Node.make_room.Goals.{in-Ok, in-Err}
 
 pub returns-in-Some-clause-refused : goal.returns-in-Some-clause-refused
-returns-in-Some-clause-refused c =
+returns-in-Some-clause-refused g c =
     let j = c.self.inside.journal in
     let b = c.self.inside.blocks in
     let w : Found j.shape j.events b.table c.args.page c.args.block = found j.shape j.events b.table b.queue c.args.page c.args.block c.self.invariant (subst (λ (n : NodeState). HoldsPage (slot_at n.table c.args.block) c.args.page) (sym c.self.view_is) c.requires) in
@@ -21,8 +22,8 @@ returns-in-Some-clause-refused c =
     }
 
 -- the call isn't refused once the page's test has passed
-allowed : (c : goal.Joined-reserve) → refusal c.args.self.now.shape c.args.self.now.journal (page_call c.args.call c.args.page) ≡ None
-allowed c =
+allowed : (g : Over) (c : goal.Joined-reserve g) → refusal c.args.self.now.shape c.args.self.now.journal (page_call c.args.call c.args.page) ≡ None
+allowed g c =
     let j = c.self.inside.journal in
     let b = c.self.inside.blocks in
     let w : Found j.shape j.events b.table c.args.page c.args.block = found j.shape j.events b.table b.queue c.args.page c.args.block c.self.invariant (subst (λ (n : NodeState). HoldsPage (slot_at n.table c.args.block) c.args.page) (sym c.self.view_is) c.requires) in
@@ -30,18 +31,18 @@ allowed c =
     ∙ refused_by_page j.shape j.events b.table c.args.page c.args.block c.args.call w ∙ sym (c.refusal.ensures w.slot w.at c.args.page) ∙ c.in_default.is
 
 pub returns-clause-allowed : goal.returns-clause-allowed
-returns-clause-allowed c = elim c.match-reserve.branch [
-  | in-Ok w ↦ rw w.result-is (allowed c)
+returns-clause-allowed g c = elim c.match-reserve.branch [
+  | in-Ok w ↦ rw w.result-is (allowed g c)
   | in-Err w ↦ rw w.result-is tt
 ]
 
 pub returns-clause-refused : goal.returns-clause-refused
-returns-clause-refused c = elim c.match-reserve.branch [
+returns-clause-refused g c = elim c.match-reserve.branch [
   | in-Ok w ↦ rw w.result-is tt
   | in-Err w ↦
       rw w.result-is
       (record {
-        same = ap (λ (j : JournalState). the_view (record { journal = j; blocks = c.self.inside.blocks })) w.in-Err.ensures.err ∙ c.self.view_is;
-        cause = inr (allowed c, refl, omega (arith, ap (λ (n : NodeState). n.room) c.self.view_is, w.in-Err.ensures.full));
+        same = ap (λ (j : JournalState). node_of j c.self.inside.blocks) w.in-Err.ensures.err ∙ c.self.view_is;
+        cause = inr (allowed g c, refl, omega (arith, ap (λ (n : NodeState). n.room) c.self.view_is, w.in-Err.ensures.full));
       })
 ]

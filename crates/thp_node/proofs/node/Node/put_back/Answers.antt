@@ -9,7 +9,7 @@ use Rattle.thp_node.proofs.ReturnLemmas.{batch_begins, batch_did, batch_reply, t
 use Rattle.thp_node.proofs.node.Node.put_back.Goals as goal
 
 pub return_all-back-requires-clause-front : goal.return_all-back-requires-clause-front
-return_all-back-requires-clause-front c =
+return_all-back-requires-clause-front g c =
     let h : History = c.args.self.now.journal in
     let same = c.in_default.ensures.events ∙ ap (λ (n : NodeState). n.journal) c.self.view_is in
     let caller = c.args.batch.caller in
@@ -20,7 +20,7 @@ return_all-back-requires-clause-front c =
     subst (λ k. BeginsIn k c.caller-2.result c.deref.result.now) (sym same) (subst (λ x. BeginsIn h x c.deref.result.now) (sym c.caller-2.ensures.value) begins)
 
 pub returns-clause-recorded : goal.returns-clause-recorded
-returns-clause-recorded c =
+returns-clause-recorded g c =
     let h : History = c.args.self.now.journal in
     batch_did c.args.self.now _ c.return_all-back.new.self c.caller-2.result (length c.deref.result.now) c.args.batch
     (c.in_default.ensures.shape ∙ ap (λ (n : NodeState). n.shape) c.self.view_is)
@@ -32,7 +32,7 @@ returns-clause-recorded c =
     c.return_all-back.ensures.did
 
 pub overflow_sub-result : goal.overflow_sub-result
-overflow_sub-result c =
+overflow_sub-result g c =
     let h : History = c.args.self.now.journal in
     omega (
       arith,
@@ -47,7 +47,7 @@ overflow_sub-result c =
     )
 
 pub returns-clause-reply : goal.returns-clause-reply
-returns-clause-reply c =
+returns-clause-reply g c =
     let h : History = c.args.self.now.journal in
     ap (λ n. the_reply c.return_all-back.result (n - c.return_all-back.result)) (c.len-count.ensures.value ∙ sym (ap length c.deref.ensures.0))
     ∙ (batch_reply c.args.self.now.shape c.reserve.new.self.shape h c.reserve.new.self.events c.caller-2.result (length c.deref.result.now) c.return_all-back.result c.args.batch
@@ -58,6 +58,6 @@ returns-clause-reply c =
     c.return_all-back.ensures.back).1
 
 pub returns-clause-fronts : goal.returns-clause-fronts
-returns-clause-fronts c =
-    fronts_grown c.args.self.now.journal _ _ (returns-clause-recorded c).journal
+returns-clause-fronts g c =
+    fronts_grown c.args.self.now.journal _ _ (returns-clause-recorded g c).journal
     (λ d. return_takes_none d c.args.self.now.shape c.args.self.now.journal c.args.batch.caller c.args.batch.pages)

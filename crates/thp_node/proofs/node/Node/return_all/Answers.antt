@@ -10,18 +10,18 @@ use Rattle.thp_node.proofs.ReturnLemmas.{NextReturn, next_return, returned_more,
 use Rattle.thp_node.proofs.node.Node.return_all.Goals as goal
 
 pub loop-block-init : goal.loop-block-init
-loop-block-init c = record {
+loop-block-init g c = record {
   did = did_none c.args.self.now c.args.self.now c.args.caller refl refl c.requires.legal (omega arith) refl;
   back = refl;
 }
 
 pub return_first-requires-clause-front : goal.return_first-requires-clause-front
-return_first-requires-clause-front c =
+return_first-requires-clause-front g c =
     (next_return c.args.self.now.shape c.args.self.now.journal c.loop-block.self.journal c.args.caller c.loop-block.block-index (get_or c.args.blocks.now c.loop-block.block-index 0) 0 c.args.blocks.now
     c.requires.legal c.requires.front c.loop-block.invariant.did.journal c.loop-block-test.true refl).begins
 
 pub overflow_add-back : goal.overflow_add-back
-overflow_add-back c =
+overflow_add-back g c =
     let h = c.args.self.now.journal in
     let t = goes_back c.args.self.now.shape h in
     omega (
@@ -36,7 +36,7 @@ overflow_add-back c =
     )
 
 pub loop-block-preserved : goal.loop-block-preserved
-loop-block-preserved c =
+loop-block-preserved g c =
     let i = c.loop-block.block-index in
     let b = get_or c.args.blocks.now i 0 in
     let a = c.args.self.now in

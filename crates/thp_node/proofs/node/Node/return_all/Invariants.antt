@@ -6,7 +6,7 @@ use Rattle.thp_node.specs.Returning.{return_first}
 use Rattle.thp_node.proofs.node.Node.return_all.Given as goal
 
 abbrev pub invariant-loop-block : goal.invariant-loop-block
-invariant-loop-block l = record {
+invariant-loop-block g l = record {
   did : Did l.fn.self l.self l.fn.caller (return_first l.fn.self.shape l.fn.self.journal l.fn.caller l.block-index);
   back : l.back ≡ count_by (goes_back l.fn.self.shape l.fn.self.journal) (take l.block-index (flight l.fn.self.journal l.fn.caller));
 }

@@ -9,7 +9,7 @@ use Rattle.thp_node.proofs.ReturnLemmas.{FirstFlies, first_flies, first_leaves}
 use Rattle.thp_node.proofs.node.Node.return_first.Goals as goal
 
 pub number-page-requires : goal.number-page-requires
-number-page-requires c =
+number-page-requires g c =
     let j = c.self.inside.journal in
     let b = c.self.inside.blocks in
     let w : FirstFlies j.events b.table c.args.caller c.args.block =
@@ -18,15 +18,15 @@ number-page-requires c =
     subst (λ (o : Option Slot). IsSome o) (sym w.flies.at) refl
 
 pub return_page-requires-clause-first : goal.return_page-requires-clause-first
-return_page-requires-clause-first c =
+return_page-requires-clause-first g c =
     (first_leaves c.args.self.now _ c.args.caller c.args.block c.number-page.result c.self.view_is c.self.invariant c.requires.front c.number-page.ensures).first
 
 pub return_page-requires-clause-flies : goal.return_page-requires-clause-flies
-return_page-requires-clause-flies c =
+return_page-requires-clause-flies g c =
     (first_leaves c.args.self.now _ c.args.caller c.args.block c.number-page.result c.self.view_is c.self.invariant c.requires.front c.number-page.ensures).flies
 
 pub returns : goal.returns
-returns c =
+returns g c =
     let w = first_leaves c.args.self.now _ c.args.caller c.args.block c.number-page.result c.self.view_is c.self.invariant c.requires.front c.number-page.ensures in
     let n : NodeState = c.args.self.now in
     record {

@@ -11,7 +11,7 @@ use Rattle.thp_node.proofs.ReturnLemmas.{back_all, dropped_all, back_may, drop_m
 use Rattle.thp_node.proofs.node.Node.return_page.Goals as goal
 
 pub invariant_of-self : goal.invariant_of-self
-invariant_of-self c =
+invariant_of-self g c =
     let j = c.self.inside.journal in
     let b = c.self.inside.blocks in
     let is = c.self.view_is in
@@ -23,7 +23,7 @@ invariant_of-self c =
     c.enqueue.ensures c.record.ensures.shape c.record.ensures.events
 
 pub returns-then-is_back-clause-did : goal.returns-then-is_back-clause-did
-returns-then-is_back-clause-did c =
+returns-then-is_back-clause-did g c =
     let j = c.self.inside.journal in
     let b = c.self.inside.blocks in
     let is = c.self.view_is in
@@ -42,7 +42,7 @@ returns-then-is_back-clause-did c =
     (omega arith))
 
 pub invariant_of-self-else-is_back : goal.invariant_of-self-else-is_back
-invariant_of-self-else-is_back c =
+invariant_of-self-else-is_back g c =
     let j = c.self.inside.journal in
     let b = c.self.inside.blocks in
     let is = c.self.view_is in
@@ -54,7 +54,7 @@ invariant_of-self-else-is_back c =
     c.drop_out.ensures c.record-else-is_back.ensures.shape c.record-else-is_back.ensures.events
 
 pub returns-else-is_back-clause-did : goal.returns-else-is_back-clause-did
-returns-else-is_back-clause-did c =
+returns-else-is_back-clause-did g c =
     let j = c.self.inside.journal in
     let b = c.self.inside.blocks in
     let is = c.self.view_is in

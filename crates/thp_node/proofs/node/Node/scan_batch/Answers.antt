@@ -3,13 +3,13 @@ use Rattle.thp_node.proofs.ScanLemmas.{no_refusal, tried_front, tried_room, trie
 use Rattle.thp_node.proofs.node.Node.scan_batch.Goals as goal
 
 pub put_back-requires : goal.put_back-requires
-put_back-requires c = record {
+put_back-requires g c = record {
   front = tried_front c.args.self.now c.try_all-used.new.self c.try_all-used.new.batch c.args.batch.caller c.args.batch.pages c.requires.legal c.requires.flies
       c.try_all-used.ensures.did c.try_all-used.ensures.same_caller c.try_all-used.ensures.same_pages;
 }
 
 pub overflow_sub-result : goal.overflow_sub-result
-overflow_sub-result c =
+overflow_sub-result g c =
     omega (
       arith,
       (tried_reply c.args.self.now c.try_all-used.new.self c.try_all-used.new.batch c.args.batch.caller c.args.batch.pages c.requires.legal c.requires.flies
@@ -18,7 +18,7 @@ overflow_sub-result c =
     )
 
 pub overflow_sub-result-in-Ok : goal.overflow_sub-result-in-Ok
-overflow_sub-result-in-Ok c =
+overflow_sub-result-in-Ok g c =
     omega (
       arith,
       (tried_reply c.args.self.now c.try_all-used.new.self c.try_all-used.new.batch c.args.batch.caller c.args.batch.pages c.requires.legal c.requires.flies
@@ -27,7 +27,7 @@ overflow_sub-result-in-Ok c =
     )
 
 pub overflow_add-pinned : goal.overflow_add-pinned
-overflow_add-pinned c =
+overflow_add-pinned g c =
     omega (
       arith,
       (tried_reply c.args.self.now c.try_all-used.new.self c.try_all-used.new.batch c.args.batch.caller c.args.batch.pages c.requires.legal c.requires.flies
@@ -38,18 +38,18 @@ overflow_add-pinned c =
     )
 
 pub unreachable-requires : goal.unreachable-requires
-unreachable-requires c =
+unreachable-requires g c =
     no_refusal c.try_all-used.new.self c.put_back.new.self _ _ c.in-Err.ensures.refused
     (tried_room c.args.self.now c.try_all-used.new.self c.try_all-used.new.batch c.args.batch.caller c.args.batch.pages c.requires.legal c.requires.flies
     c.try_all-used.ensures.did c.try_all-used.ensures.same_caller c.try_all-used.ensures.same_pages c.requires.room)
 
 pub returns-clause-reply : goal.returns-clause-reply
-returns-clause-reply c =
+returns-clause-reply g c =
     (tried_reply c.args.self.now c.try_all-used.new.self c.try_all-used.new.batch c.args.batch.caller c.args.batch.pages c.requires.legal c.requires.flies
     c.try_all-used.ensures.did c.try_all-used.ensures.same_caller c.try_all-used.ensures.same_pages
     c.in-Ok.field-0 (length c.pages.result.now) c.try_all-used.result c.in-Ok.ensures.reply (ap length c.pages.ensures.value) c.try_all-used.ensures.used).1
 
 pub returns-clause-did : goal.returns-clause-did
-returns-clause-did c =
+returns-clause-did g c =
     tried_returned c.args.self.now c.try_all-used.new.self c.try_all-used.new.batch c.args.batch.caller c.args.batch.pages c.requires.legal c.requires.flies
     c.try_all-used.ensures.did c.try_all-used.ensures.same_caller c.try_all-used.ensures.same_pages c.put_back.new.self c.in-Ok.ensures.recorded

@@ -7,16 +7,16 @@ use Rattle.thp_model.specs.History.{by}
 use Rattle.thp_model.specs.Runs.{try_event}
 use Rattle.thp_node.specs.Calls.{Did}
 use Rattle.thp_node.specs.declared.journal.Unsaid.TheVariants.{OfSplit}
-use Rattle.thp_node.specs.contracts.node.Node.{the_view}
 use Rattle.thp_node.specs.NodeState.{NodeState}
 use Rattle.thp_node.proofs.BatchRuns.{flies_inside, unpinned_inside, node_recorded, slot_inside, ready_there, whole_there, partly_there, SplitOff, split_off}
-use Rattle.thp_node.proofs.CallLemmas.{did_one}
+use Rattle.thp_node.proofs.CallLemmas.{did_one, node_of}
+use Rattle.thp_node.proofs.node.Node.split_page.Given.{Over}
 use Rattle.thp_node.proofs.node.Node.split_page.Goals as goal
 use Rattle.thp_node.proofs.node.Node.split_page.Goals.{After-split-released}
 
 -- the page is split off its batch
-off : (c : After-split-released) → SplitOff c.self.inside.journal.shape c.self.inside.journal.events c.args.caller c.args.page c.split-released.result c.self.inside.blocks c.split-released.new.self
-off c =
+off : (g : Over) (c : After-split-released g) → SplitOff c.self.inside.journal.shape c.self.inside.journal.events c.args.caller c.args.page c.split-released.result c.self.inside.blocks c.split-released.new.self
+off g c =
     let j = c.self.inside.journal in
     let w = flies_inside _ c.args.self.now c.args.caller c.args.page c.args.block c.self.view_is c.requires.flies in
     split_off j.shape j.events c.args.caller c.args.page c.args.block c.self.inside.blocks c.self.invariant w c.split-released.new.self c.split-released.result c.shrinks_underused-give_zero.result
@@ -24,35 +24,35 @@ off c =
     (slot_inside _ c.args.self.now c.args.block (λ s x. is_worth s.underused x.page ≡ true) c.self.view_is c.requires.worth w.slot w.at) (unpinned_inside _ c.args.self.now c.args.block c.self.view_is c.requires.unpinned w.slot w.at)
 
 pub split-released-requires-clause-allowed : goal.split-released-requires-clause-allowed
-split-released-requires-clause-allowed c =
+split-released-requires-clause-allowed g c =
     let j = c.self.inside.journal in
     let w = flies_inside _ c.args.self.now c.args.caller c.args.page c.args.block c.self.view_is c.requires.flies in
     ready_there j.shape j.events c.args.caller c.args.page c.args.block c.self.inside.blocks c.self.invariant w
     (unpinned_inside _ c.args.self.now c.args.block c.self.view_is c.requires.unpinned w.slot w.at)
 
 pub record-requires-clause-fits : goal.record-requires-clause-fits
-record-requires-clause-fits c = (off (goal.at.record-requires-clause-fits c).After-split-released).fits
+record-requires-clause-fits g c = (off g (goal.at.record-requires-clause-fits g c).After-split-released).fits
 
 pub record-requires-clause-unsaid : goal.record-requires-clause-unsaid
-record-requires-clause-unsaid c =
+record-requires-clause-unsaid g c =
     let j = c.self.inside.journal in
     let w = flies_inside _ c.args.self.now c.args.caller c.args.page c.args.block c.self.view_is c.requires.flies in
     ap₂ (λ n z. OfSplit n z) (c.whole.ensures w.slot w.at ∙ sym (whole_there j.shape j.events c.args.caller c.args.page c.args.block c.self.inside.blocks c.self.invariant w))
     (c.is_partly.ensures w.slot w.at ∙ sym (partly_there j.shape j.events c.args.caller c.args.page c.args.block c.self.inside.blocks c.self.invariant w))
 
 pub invariant_of-self : goal.invariant_of-self
-invariant_of-self c =
+invariant_of-self g c =
     let j = c.self.inside.journal in
     node_recorded c.record.new.self.shape j.shape c.record.new.self.events j.events (by c.args.caller (Split c.args.page c.split-released.result)) c.split-released.new.self
-    c.record.ensures.shape c.record.ensures.events (off (goal.at.invariant_of-self c).After-split-released).node
+    c.record.ensures.shape c.record.ensures.events (off g (goal.at.invariant_of-self g c).After-split-released).node
 
 pub returns : goal.returns
-returns c =
+returns g c =
     let j = c.self.inside.journal in
-    let w = off (goal.at.returns c).After-split-released in
+    let w = off g (goal.at.returns g c).After-split-released in
     let is : by c.args.caller (Split c.args.page c.split-released.result) ≡ try_event c.args.self.now.shape c.args.self.now.journal c.args.caller c.args.page =
     w.is ∙ ap (λ (n : NodeState). try_event n.shape n.journal c.args.caller c.args.page) c.self.view_is in
-    let new : NodeState = the_view (record { journal = c.record.new.self; blocks = c.split-released.new.self }) in
+    let new : NodeState = node_of c.record.new.self c.split-released.new.self in
     let P : Event → Type 0 = λ e. Did c.args.self.now new c.args.caller (e ∷ []) in
     record {
       did =

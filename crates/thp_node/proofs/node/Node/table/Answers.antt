@@ -2,10 +2,11 @@ use Rattle.std.proofs.Common.{ap}
 use Rattle.thp_live_pages.specs.Holding.{IsNode}
 use Rattle.thp_node.specs.NodeState.{NodeState}
 use Rattle.thp_node.proofs.TableFacts.{live_has_block, lies_where_placed, node_seen}
+use Rattle.thp_node.proofs.node.Node.table.Given.{Over}
 use Rattle.thp_node.proofs.node.Node.table.Goals as goal
 
-seen : (c : goal.After-table) → IsNode c.args.self.now.shape c.args.self.now.journal c.args.self.now.table c.args.self.now.queue
-seen c =
+seen : (g : Over) (c : goal.After-table g) → IsNode c.args.self.now.shape c.args.self.now.journal c.args.self.now.table c.args.self.now.queue
+seen g c =
     let j = c.self.inside.journal in
     let b = c.self.inside.blocks in
     let is = c.self.view_is in
@@ -13,16 +14,16 @@ seen c =
     (ap (λ (n : NodeState). n.queue) is) c.self.invariant
 
 pub returns-clause-size : goal.returns-clause-size
-returns-clause-size c = (seen c).size
+returns-clause-size g c = (seen g c).size
 
 pub returns-clause-order : goal.returns-clause-order
-returns-clause-order c = (seen c).order
+returns-clause-order g c = (seen g c).order
 
 pub returns-clause-slots : goal.returns-clause-slots
-returns-clause-slots c = (seen c).fills
+returns-clause-slots g c = (seen g c).fills
 
 pub returns-clause-live : goal.returns-clause-live
-returns-clause-live c = let n = c.args.self.now in live_has_block n.shape n.journal n.table n.queue (seen c)
+returns-clause-live g c = let n = c.args.self.now in live_has_block n.shape n.journal n.table n.queue (seen g c)
 
 pub returns-clause-homes : goal.returns-clause-homes
-returns-clause-homes c = lies_where_placed c.args.self.now.shape c.args.self.now.journal (seen c).legal
+returns-clause-homes g c = lies_where_placed c.args.self.now.shape c.args.self.now.journal (seen g c).legal

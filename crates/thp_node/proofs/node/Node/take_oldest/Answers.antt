@@ -12,7 +12,7 @@ none_long [] e = refl
 none_long (p ∷ ps) e = absurd (true≢false (sym e))
 
 pub loop-taken-init : goal.loop-taken-init
-loop-taken-init c = record {
+loop-taken-init g c = record {
   took = took_none c.args.self.now c.args.self.now c.args.caller refl c.requires.legal c.requires.may_take;
   batch = c.new-batch.ensures;
   room = omega (arith, c.requires.room);
@@ -20,16 +20,16 @@ loop-taken-init c = record {
 }
 
 pub take_one-page-requires-clause-few : goal.take_one-page-requires-clause-few
-take_one-page-requires-clause-few c = omega (arith, c.loop-taken.invariant.flying, c.requires.few)
+take_one-page-requires-clause-few g c = omega (arith, c.loop-taken.invariant.flying, c.requires.few)
 
 pub take_one-page-requires-clause-queued : goal.take_one-page-requires-clause-queued
-take_one-page-requires-clause-queued c =
+take_one-page-requires-clause-queued g c =
     subst (λ s. 0 < length (queue s c.loop-taken.self.journal)) (sym c.loop-taken.invariant.took.did.shape)
     (subst (λ (ps : List ℕ). 0 < length ps) (sym c.loop-taken.invariant.took.left)
     (some_left c.loop-taken._taken c.args.count (queue c.args.self.now.shape c.args.self.now.journal) (omega arith) c.requires.queued))
 
 pub loop-taken-preserved : goal.loop-taken-preserved
-loop-taken-preserved c =
+loop-taken-preserved g c =
     let first = c.take_one-page.ensures.oldest in
     let more = (more_taken c.loop-taken._taken (queue c.args.self.now.shape c.args.self.now.journal) c.take_one-page.result (ap (λ qs. slice_get qs 0) (sym c.loop-taken.invariant.took.left) ∙ ap (λ s. slice_get (queue s c.loop-taken.self.journal) 0) (sym c.loop-taken.invariant.took.did.shape) ∙ first)).0 in
     record {

@@ -11,13 +11,13 @@ use Rattle.thp_live_pages.proofs.ListEvents.{first_is, taken_fits, taken_node}
 use Rattle.thp_node.proofs.node.Node.take_one.Goals as goal
 
 pub record-requires-clause-fits : goal.record-requires-clause-fits
-record-requires-clause-fits c =
+record-requires-clause-fits g c =
     let j = c.self.inside.journal in
     taken_fits j.shape j.events c.args.caller c.self.inside.blocks c.take_first-page.new.self c.take_first-page.result (legal_homed j.shape j.events c.self.invariant.legal) c.self.invariant c.take_first-page.ensures
     (ap (λ (n : NodeState). no_pages (flight n.journal c.args.caller) || is_taking n.journal c.args.caller) c.self.view_is ∙ c.requires.may_take)
 
 pub invariant_of-self : goal.invariant_of-self
-invariant_of-self c =
+invariant_of-self g c =
     let j = c.self.inside.journal in
     let homed = legal_homed j.shape j.events c.self.invariant.legal in
     let fits : FitsTaken j.shape j.events c.args.caller c.take_first-page.result =
@@ -28,7 +28,7 @@ invariant_of-self c =
     (taken_node j.shape j.events c.args.caller c.self.inside.blocks c.take_first-page.new.self c.take_first-page.result homed c.self.invariant c.take_first-page.ensures fits)
 
 pub returns-clause-oldest : goal.returns-clause-oldest
-returns-clause-oldest c =
+returns-clause-oldest g c =
     let j = c.self.inside.journal in
     ap (λ (n : NodeState). slice_get (queue n.shape n.journal) 0) (sym c.self.view_is)
     ∙ first_is j.shape j.events c.args.caller c.self.inside.blocks c.take_first-page.new.self c.take_first-page.result (legal_homed j.shape j.events c.self.invariant.legal) c.self.invariant c.take_first-page.ensures

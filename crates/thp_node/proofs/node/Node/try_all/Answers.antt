@@ -7,7 +7,7 @@ use Rattle.thp_node.proofs.ScanLemmas.{used_more, few_used, tried_more, tried_af
 use Rattle.thp_node.proofs.node.Node.try_all.Goals as goal
 
 pub unreachable-requires : goal.unreachable-requires
-unreachable-requires c =
+unreachable-requires g c =
     let a : NodeState = c.args.self.now in
     let b : NodeState = c.loop-tried.self in
     no_refusal b c.split_next.new.self _ _ c.in-Err.ensures.refused
@@ -15,7 +15,7 @@ unreachable-requires c =
     (omega (arith, c.loop-tried-test.true, ap length c.pages-tried-end.ensures.value)) c.requires.room c.loop-tried.invariant.did.room)
 
 pub overflow_add-used : goal.overflow_add-used
-overflow_add-used c =
+overflow_add-used g c =
     let a : NodeState = c.args.self.now in
     let ps : List ℕ = c.args.batch.now.pages in
     omega (
@@ -31,7 +31,7 @@ overflow_add-used c =
     )
 
 pub loop-tried-preserved : goal.loop-tried-preserved
-loop-tried-preserved c =
+loop-tried-preserved g c =
     let a : NodeState = c.args.self.now in
     let b : NodeState = c.loop-tried.self in
     let i : ℕ = c.loop-tried._tried in

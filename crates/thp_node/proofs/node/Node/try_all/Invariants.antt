@@ -6,7 +6,7 @@ use Rattle.thp_node.specs.Scanning.{is_used}
 use Rattle.thp_node.proofs.node.Node.try_all.Given as goal
 
 abbrev pub invariant-loop-tried : goal.invariant-loop-tried
-invariant-loop-tried l = record {
+invariant-loop-tried g l = record {
   did : Did l.fn.self l.self l.fn.batch.caller (map (try_event l.fn.self.shape l.fn.self.journal l.fn.batch.caller) (take l._tried l.fn.batch.pages));
   used : l.used ≡ count_by (is_used l.fn.self.shape l.fn.self.journal) (take l._tried l.fn.batch.pages);
   left : rest l.batch ≡ drop l._tried l.fn.batch.pages;

@@ -5,17 +5,17 @@ use Rattle.thp_model.specs.History.{by}
 use Rattle.thp_model.specs.Counts.{pins}
 use Rattle.thp_model.specs.Pages.{is_worth}
 use Rattle.thp_model.specs.Runs.{try_event}
-use Rattle.thp_node.specs.contracts.node.Node.{the_view}
 use Rattle.thp_node.specs.Calls.{Did}
 use Rattle.thp_node.specs.NodeState.{NodeState}
 use Rattle.thp_node.proofs.BatchRuns.{flies_inside, slot_inside, node_recorded, pins_there, tried_split, tried_pinned, tried_used, FoundPinned, found_pinned}
-use Rattle.thp_node.proofs.CallLemmas.{did_one}
+use Rattle.thp_node.proofs.CallLemmas.{did_one, node_of}
+use Rattle.thp_node.proofs.node.Node.try_page.Given.{Over}
 use Rattle.thp_node.proofs.node.Node.try_page.Goals as goal
 use Rattle.thp_node.proofs.node.Node.try_page.Goals.{Else-pins-eq0}
 
 -- the page is found pinned
-pinned : (c : Else-pins-eq0) → FoundPinned c.self.inside.journal.shape c.self.inside.journal.events c.args.caller c.args.page c.self.inside.blocks.table c.self.inside.blocks.queue
-pinned c =
+pinned : (g : Over) (c : Else-pins-eq0 g) → FoundPinned c.self.inside.journal.shape c.self.inside.journal.events c.args.caller c.args.page c.self.inside.blocks.table c.self.inside.blocks.queue
+pinned g c =
     let j = c.self.inside.journal in
     let w = flies_inside _ c.args.self.now c.args.caller c.args.page c.args.block c.self.view_is c.requires.flies in
     found_pinned j.shape j.events c.args.caller c.args.page c.args.block c.self.inside.blocks c.self.invariant w
@@ -23,20 +23,20 @@ pinned c =
     (omega (arith, c.pins.ensures w.slot w.at, c.if-pins-eq0.false))
 
 pub record-requires-clause-fits : goal.record-requires-clause-fits
-record-requires-clause-fits c = (pinned (goal.at.record-requires-clause-fits c).Else-pins-eq0).fits
+record-requires-clause-fits g c = (pinned g (goal.at.record-requires-clause-fits g c).Else-pins-eq0).fits
 
 pub invariant_of-self : goal.invariant_of-self
-invariant_of-self c =
+invariant_of-self g c =
     let j = c.self.inside.journal in
     node_recorded c.record.new.self.shape j.shape c.record.new.self.events j.events (by c.args.caller (Pinned c.args.page)) c.self.inside.blocks
-    c.record.ensures.shape c.record.ensures.events (pinned (goal.at.invariant_of-self c).Else-pins-eq0).node
+    c.record.ensures.shape c.record.ensures.events (pinned g (goal.at.invariant_of-self g c).Else-pins-eq0).node
 
 pub returns-then-not-is_worth-clause-tried : goal.returns-then-not-is_worth-clause-tried
-returns-then-not-is_worth-clause-tried c =
+returns-then-not-is_worth-clause-tried g c =
     tried_used c.args.self.now.shape c.args.self.now.journal c.args.page (sym (c.is_worth.ensures.worth c.args.caller c.args.page c.requires.flies) ∙ c.if-not-is_worth.true)
 
 pub returns-then-pins-eq0-clause-tried : goal.returns-then-pins-eq0-clause-tried
-returns-then-pins-eq0-clause-tried c =
+returns-then-pins-eq0-clause-tried g c =
     let j = c.self.inside.journal in
     let w = flies_inside _ c.args.self.now c.args.caller c.args.page c.args.block c.self.view_is c.requires.flies in
     let there : pins j.events c.args.page ≡ w.slot.page.pins = pins_there j.shape j.events c.args.caller c.args.page c.args.block c.self.inside.blocks c.self.invariant w in
@@ -44,19 +44,19 @@ returns-then-pins-eq0-clause-tried c =
     (omega (arith, there, c.pins.ensures w.slot w.at, c.if-pins-eq0.true, ap (λ (n : NodeState). pins n.journal c.args.page) c.self.view_is))
 
 pub returns-else-pins-eq0-clause-tried : goal.returns-else-pins-eq0-clause-tried
-returns-else-pins-eq0-clause-tried c =
+returns-else-pins-eq0-clause-tried g c =
     let j = c.self.inside.journal in
     let w = flies_inside _ c.args.self.now c.args.caller c.args.page c.args.block c.self.view_is c.requires.flies in
     let there : pins j.events c.args.page ≡ w.slot.page.pins = pins_there j.shape j.events c.args.caller c.args.page c.args.block c.self.inside.blocks c.self.invariant w in
     tried_pinned c.args.self.now.shape c.args.self.now.journal c.args.page (sym (c.is_worth.ensures.worth c.args.caller c.args.page c.requires.flies) ∙ c.if-not-is_worth.false) (omega (arith, there, c.pins.ensures w.slot w.at, c.if-pins-eq0.false, ap (λ (n : NodeState). pins n.journal c.args.page) c.self.view_is))
 
 pub returns-else-pins-eq0-clause-did : goal.returns-else-pins-eq0-clause-did
-returns-else-pins-eq0-clause-did c =
+returns-else-pins-eq0-clause-did g c =
     let j = c.self.inside.journal in
-    let w = pinned (goal.at.returns-else-pins-eq0-clause-did c).Else-pins-eq0 in
+    let w = pinned g (goal.at.returns-else-pins-eq0-clause-did g c).Else-pins-eq0 in
     let is : by c.args.caller (Pinned c.args.page) ≡ try_event c.args.self.now.shape c.args.self.now.journal c.args.caller c.args.page =
     w.is ∙ ap (λ (n : NodeState). try_event n.shape n.journal c.args.caller c.args.page) c.self.view_is in
-    let new : NodeState = the_view (record { journal = c.record.new.self; blocks = c.self.inside.blocks }) in
+    let new : NodeState = node_of c.record.new.self c.self.inside.blocks in
     let P : Event → Type 0 = λ e. Did c.args.self.now new c.args.caller (e ∷ []) in
     subst P is
     (did_one c.args.self.now new c.args.caller (Pinned c.args.page) j.room 0

@@ -4,7 +4,7 @@ use Rattle.thp_sections.proofs.PartLaws.{held_joined, joined_left_open, joined_r
 use Rattle.thp_sections.proofs.node_pass.NodePass.join.Goals as goal
 
 pub invariant_of-result : goal.invariant_of-result
-invariant_of-result c =
+invariant_of-result g c =
     let p = c.self.inside.pass in
     let q = c.other.inside.pass in
     let adjacent : p.end ≡ q.first = subst (λ (y : Held). p.end ≡ y.pass.first) (sym c.other.view_is) (subst (λ (x : Held). x.pass.end ≡ c.args.other.pass.first) (sym c.self.view_is) c.requires.adjacent) in
@@ -13,13 +13,13 @@ invariant_of-result c =
     held_joined c.self.inside.cell.now p q c.join-pass.result c.self.inside.batches.items c.other.inside.batches.items c.append.new.self.items c.self.invariant other j.fronts j.left_batches j.right_batches adjacent c.in_ok-append.ensures.items
 
 pub returns-clause-left_batches : goal.returns-clause-left_batches
-returns-clause-left_batches c =
+returns-clause-left_batches g c =
     let now : Held = record { pass = c.join-pass.result; batches = c.append.new.self.items } in
     subst (λ (x : Held). OpenStay x now) c.self.view_is
     (joined_left_open c.self.inside.cell.now c.self.inside.pass c.other.inside.pass c.join-pass.result c.self.inside.batches.items c.other.inside.batches.items c.append.new.self.items c.self.invariant c.join-pass.ensures.fronts c.in_ok-append.ensures.items)
 
 pub returns-clause-right_batches : goal.returns-clause-right_batches
-returns-clause-right_batches c =
+returns-clause-right_batches g c =
     let p = c.self.inside.pass in
     let q = c.other.inside.pass in
     let adjacent : p.end ≡ q.first = subst (λ (y : Held). p.end ≡ y.pass.first) (sym c.other.view_is) (subst (λ (x : Held). x.pass.end ≡ c.args.other.pass.first) (sym c.self.view_is) c.requires.adjacent) in

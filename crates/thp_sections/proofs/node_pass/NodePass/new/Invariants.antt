@@ -4,7 +4,7 @@ use Rattle.thp_node.specs.Batches.{BatchState}
 use Rattle.thp_sections.proofs.node_pass.NodePass.new.Given as goal
 
 abbrev pub invariant-loop : goal.invariant-loop
-invariant-loop l = record {
+invariant-loop g l = record {
   places : l.first + length l.batches.items ≡ l.counter;
   none : All (λ (b : Option BatchState). b ≡ None) l.batches.items;
 }

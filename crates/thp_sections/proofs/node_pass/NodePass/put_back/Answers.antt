@@ -6,7 +6,7 @@ use Rattle.thp_sections.proofs.HoldingLaws.{place_in, mine, has_mine, held_none,
 use Rattle.thp_sections.proofs.node_pass.NodePass.put_back.Goals as goal
 
 pub invariant_of-self : goal.invariant_of-self
-invariant_of-self c =
+invariant_of-self g c =
     let p = c.self.inside.pass in
     let bs = c.self.inside.batches.items in
     let who = c.args.caller in
@@ -17,7 +17,7 @@ invariant_of-self c =
     held_none c.self.inside.cell.now p bs c.take_at.new.batches.items place c.self.invariant is c.take_at.ensures.now
 
 pub returns-in_default : goal.returns-in_default
-returns-in_default c =
+returns-in_default g c =
     let p = c.self.inside.pass in
     let bs = c.self.inside.batches.items in
     let who = c.args.caller in
@@ -28,7 +28,7 @@ returns-in_default c =
     rw (← c.self.view_is) (no_back_held p bs c.take_at.new.batches.items who place at.0 at.1 is c.take_at.ensures.now)
 
 pub put_back-requires-clause-caller : goal.put_back-requires-clause-caller
-put_back-requires-clause-caller c =
+put_back-requires-clause-caller g c =
     let p = c.self.inside.pass in
     let bs = c.self.inside.batches.items in
     let who = c.args.caller in
@@ -40,7 +40,7 @@ put_back-requires-clause-caller c =
     has_mine p who c.in-Some.batch own.0 has
 
 pub put_back-requires-clause-front : goal.put_back-requires-clause-front
-put_back-requires-clause-front c =
+put_back-requires-clause-front g c =
     let p = c.self.inside.pass in
     let bs = c.self.inside.batches.items in
     let who = c.args.caller in
@@ -52,7 +52,7 @@ put_back-requires-clause-front c =
     own.1
 
 pub invariant_of-self-in-Ok : goal.invariant_of-self-in-Ok
-invariant_of-self-in-Ok c =
+invariant_of-self-in-Ok g c =
     let p = c.self.inside.pass in
     let bs = c.self.inside.batches.items in
     let who = c.args.caller in
@@ -64,7 +64,7 @@ invariant_of-self-in-Ok c =
     held_gone c.self.inside.cell.now p c.put_back.new.pass bs c.take_at.new.batches.items who place c.self.invariant c.put_back.ensures.same c.put_back.ensures.batches at.0 at.1 c.take_at.ensures.now
 
 pub returns-in-Ok : goal.returns-in-Ok
-returns-in-Ok c =
+returns-in-Ok g c =
     let p = c.self.inside.pass in
     let bs = c.self.inside.batches.items in
     let who = c.args.caller in
@@ -76,7 +76,7 @@ returns-in-Ok c =
     rw (← c.self.view_is) (back_held p c.put_back.new.pass bs c.take_at.new.batches.items who place c.put_back.ensures.same at.0 at.1 c.in-Some.batch c.in-Ok.back own.0 is c.take_at.ensures.now c.in-Ok.ensures.recorded)
 
 pub invariant_of-self-in-Err : goal.invariant_of-self-in-Err
-invariant_of-self-in-Err c =
+invariant_of-self-in-Err g c =
     let p = c.self.inside.pass in
     let bs = c.self.inside.batches.items in
     let who = c.args.caller in
@@ -89,7 +89,7 @@ invariant_of-self-in-Err c =
     held_again c.self.inside.cell.now p c.put_back.new.pass bs c.put_at.new.batches.items who place c.in-Err.batch c.self.invariant c.put_back.ensures.same c.put_back.ensures.batches at.0 at.1 (rw c.take_at.ensures.now at c.put_at.ensures) (rw e own.0) (rw e (c.put_back.ensures.batches c.in-Some.batch (has_mine p who c.in-Some.batch own.0 has) own.1))
 
 pub returns-in-Err : goal.returns-in-Err
-returns-in-Err c =
+returns-in-Err g c =
     let p = c.self.inside.pass in
     let bs = c.self.inside.batches.items in
     let who = c.args.caller in

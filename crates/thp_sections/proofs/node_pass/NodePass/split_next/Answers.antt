@@ -10,7 +10,7 @@ use Rattle.thp_sections.proofs.node_pass.NodePass.split_next.Goals.{in-Ok, in-Er
 use Rattle.thp_sections.proofs.node_pass.NodePass.split_next.Goals as goal
 
 pub returns-in_default : goal.returns-in_default
-returns-in_default c =
+returns-in_default g c =
     let p = c.self.inside.pass in
     let bs = c.self.inside.batches.items in
     let who = c.args.caller in
@@ -21,7 +21,7 @@ returns-in_default c =
     rw (← c.self.view_is) (no_split_held p bs _ who place at.0 at.1 is (ap (λ b. set bs place b) c.in_default.is))
 
 pub split_next-requires-clause-caller : goal.split_next-requires-clause-caller
-split_next-requires-clause-caller c =
+split_next-requires-clause-caller g c =
     let p = c.self.inside.pass in
     let bs = c.self.inside.batches.items in
     let who = c.args.caller in
@@ -33,7 +33,7 @@ split_next-requires-clause-caller c =
     has_mine p who c.in-Some.batch own.0 has
 
 pub invariant_of-self-2 : goal.invariant_of-self-2
-invariant_of-self-2 c =
+invariant_of-self-2 g c =
     let p = c.self.inside.pass in
     let bs = c.self.inside.batches.items in
     let who = c.args.caller in
@@ -47,7 +47,7 @@ invariant_of-self-2 c =
     held_again c.self.inside.cell.now p c.split_next.new.pass bs new who place c.split_next.new.batch c.self.invariant e.same e.batches at.0 at.1 (sym (set-set bs place None (Some c.split_next.new.batch))) (e.same_caller ∙ own.0) (e.front own.1)
 
 pub returns : goal.returns
-returns c =
+returns g c =
     let p = c.self.inside.pass in
     let bs = c.self.inside.batches.items in
     let who = c.args.caller in

@@ -6,7 +6,7 @@ use Rattle.thp_sections.proofs.HoldingLaws.{place_in, beside_held, held_taken, h
 use Rattle.thp_sections.proofs.node_pass.NodePass.take.Goals as goal
 
 pub returns-then-is_open : goal.returns-then-is_open
-returns-then-is_open c =
+returns-then-is_open g c =
     let p = c.self.inside.pass in
     let bs = c.self.inside.batches.items in
     let who = c.args.caller in
@@ -17,7 +17,7 @@ returns-then-is_open c =
     rw (← c.self.view_is) (beside_held p bs who place c.args.count some.0 at.0 at.1 some.1)
 
 pub invariant_of-self : goal.invariant_of-self
-invariant_of-self c =
+invariant_of-self g c =
     let p = c.self.inside.pass in
     let bs = c.self.inside.batches.items in
     let who = c.args.caller in
@@ -28,7 +28,7 @@ invariant_of-self c =
     held_taken c.self.inside.cell.now p c.take.new.pass bs c.put_at.new.batches.items who place c.in-Ok.batch c.self.invariant c.take.ensures.same c.take.ensures.batches at.0 at.1 c.put_at.ensures (taken_by p c.take.new.pass who c.args.count c.in-Ok.batch c.in-Ok.ensures.recorded) c.in-Ok.ensures.front
 
 pub invariant_of-self-in-Err : goal.invariant_of-self-in-Err
-invariant_of-self-in-Err c =
+invariant_of-self-in-Err g c =
     let p = c.self.inside.pass in
     let bs = c.self.inside.batches.items in
     let who = c.args.caller in
@@ -39,7 +39,7 @@ invariant_of-self-in-Err c =
     held_untaken c.self.inside.cell.now p c.take.new.pass bs who place c.self.invariant c.take.ensures.same c.take.ensures.batches at.0 at.1 is
 
 pub returns-in-Ok : goal.returns-in-Ok
-returns-in-Ok c =
+returns-in-Ok g c =
     let p = c.self.inside.pass in
     let bs = c.self.inside.batches.items in
     let who = c.args.caller in
@@ -50,7 +50,7 @@ returns-in-Ok c =
     rw (← c.self.view_is) (take_held p c.take.new.pass bs c.put_at.new.batches.items who place c.take.ensures.same at.0 at.1 c.args.count _ c.in-Ok.batch is c.put_at.ensures (rw c.pages.ensures.value refl) c.in-Ok.ensures.recorded)
 
 pub returns-in-Err : goal.returns-in-Err
-returns-in-Err c =
+returns-in-Err g c =
     let p = c.self.inside.pass in
     let bs = c.self.inside.batches.items in
     let who = c.args.caller in

@@ -7,14 +7,14 @@ use Rattle.thp_sections.proofs.PassLaws.{done_same, agree_after, step_done, goes
 use Rattle.thp_sections.proofs.node_passes.NodePasses.step_in_place.Goals as goal
 
 pub invariant_of-self : goal.invariant_of-self
-invariant_of-self c =
+invariant_of-self g c =
     let held = c.self.inside.nodes.items in
     let lt : c.args.node < length held = subst (λ p. c.args.node < length p.held) (sym c.self.view_is) c.requires.node in
     let is = slice_get_read held (length held) c.args.node c.index_mut.result.now refl lt c.index_mut.ensures.value in
     agree_after c.self.inside.callers c.self.inside.first c.self.inside.end held c.args.node c.index_mut.result.now c.step.new.self c.self.invariant is (done_same c.args.caller c.args.step c.index_mut.result.now c.step.new.self (answer_of c.step.result c.step.new.reply) c.step.ensures)
 
 pub returns-clause-done : goal.returns-clause-done
-returns-clause-done c =
+returns-clause-done g c =
     let held = c.self.inside.nodes.items in
     let lt : c.args.node < length held = subst (λ p. c.args.node < length p.held) (sym c.self.view_is) c.requires.node in
     let is = slice_get_read held (length held) c.args.node c.index_mut.result.now refl lt c.index_mut.ensures.value in
@@ -22,7 +22,7 @@ returns-clause-done c =
     (step_done c.self.inside.callers c.self.inside.first c.self.inside.end held c.args.node c.index_mut.result.now c.step.new.self is (c.self.invariant.each c.args.node c.index_mut.result.now is) c.args.caller c.args.step (answer_of c.step.result c.step.new.reply) c.step.ensures)
 
 pub returns-clause-goes : goal.returns-clause-goes
-returns-clause-goes c =
+returns-clause-goes g c =
     let held = c.self.inside.nodes.items in
     let lt : c.args.node < length held = subst (λ p. c.args.node < length p.held) (sym c.self.view_is) c.requires.node in
     let is = slice_get_read held (length held) c.args.node c.index_mut.result.now refl lt c.index_mut.ensures.value in

@@ -5,7 +5,7 @@ use Rattle.thp_sections.proofs.EachLaws.{each_adjoins, agree_joint, join_fronts}
 use Rattle.thp_sections.proofs.node_passes.NodePassesPasses.join.Goals as goal
 
 pub join_each-requires : goal.join_each-requires
-join_each-requires c =
+join_each-requires g c =
     let i = c.self.inside in
     let o = c.other.inside in
     let can : CanJoin (fronts_of i.callers i.first i.end i.nodes.items) (fronts_of o.callers o.first o.end o.nodes.items) =
@@ -13,13 +13,13 @@ join_each-requires c =
     each_adjoins i.callers i.first i.end o.callers o.first o.end i.nodes.items o.nodes.items c.self.invariant c.other.invariant can
 
 pub invariant_of-result : goal.invariant_of-result
-invariant_of-result c =
+invariant_of-result g c =
     let i = c.self.inside in
     let o = c.other.inside in
     agree_joint i.callers i.first i.end o.callers o.first o.end i.nodes.items o.nodes.items c.self.invariant c.other.invariant c.in_ok-nodes.nodes.items c.in_ok-nodes.ensures
 
 pub returns : goal.returns
-returns c =
+returns g c =
     let i = c.self.inside in
     let o = c.other.inside in
     subst (λ (p : Passes). IsJoined (fronts_in p) (fronts_in c.args.other) (fronts_of i.callers i.first o.end c.in_ok-nodes.nodes.items)) c.self.view_is

@@ -4,7 +4,7 @@ use Rattle.thp_script_runs.specs.Sections.{SectionAnswersAre}
 use Rattle.thp_script_runs.specs.Sharing.{AreFew, IsRoot}
 use Rattle.thp_script_runs.proofs.NodeLaws.{pairs_length}
 use Rattle.thp_script_runs.proofs.SharingLaws.{is_run, nodes_asked, roots_fresh, script_fits}
-use Rattle.thp_script_runs.proofs.running.run_script.Goals as goal
+use Rattle.thp_script_runs.proofs.running.run_recorded.Goals as goal
 
 pub run_on-requires-clause-fresh : goal.run_on-requires-clause-fresh
 run_on-requires-clause-fresh g c κs within = roots_fresh (c.args.settings.now.workers + 1) c.in_ok-nodes.nodes.items c.in_ok-cells.passes.items c.in_ok-cells.ensures.roots c.in_ok-nodes.ensures.new

@@ -3,10 +3,10 @@ use Rattle.thp_model.specs.declared.shape.Shape.{Shape}
 use Rattle.thp_model.specs.History.{History}
 use Rattle.thp_live_pages.specs.Holding.{IsNode}
 use Rattle.thp_live_pages.proofs.Starting.{node_none}
-use Rattle.thp_node.proofs.node.Node.new.Goals as goal
+use Rattle.thp_node.proofs.node.Node.with_recorder.Goals as goal
 
 pub invariant_of-result : goal.invariant_of-result
-invariant_of-result c =
+invariant_of-result g c =
     let b = c.in-Ok.blocks in
     let P : History → Type 0 = λ h. IsNode c.new-in-Ok.result.shape h b.table b.queue in
     let Q : Shape → Type 0 = λ s. IsNode s [] b.table b.queue in
