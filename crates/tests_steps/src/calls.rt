@@ -4,7 +4,7 @@ ghost use Rattle.thp_node.specs.Batches.{FrontsStay};
 
 use std::alloc::Global;
 use thp_model::{Outcome, PageId, Refusal, Shape, SubSet};
-use thp_node::{Done, Node, ScanReply};
+use thp_node::{Done, Node, Recorder, ScanReply};
 
 /// A call about a page or about the node.
 #[derive(Clone, Copy, Debug)]
@@ -71,8 +71,8 @@ pub fn first_wrong(
     None
 }
 
-/// What a caller's call is answered.
-pub fn answer_of(node: &mut Node, caller: u32, call: Call) -> Answer
+/// What a caller's call is answered, whatever the node does with its events.
+pub fn answer_of<R: Recorder>(node: &mut Node<R>, caller: u32, call: Call) -> Answer
     requires { caller < 64 }
     ensures { FrontsStay node.old.journal node.new.journal }
 {

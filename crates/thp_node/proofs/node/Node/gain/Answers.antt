@@ -52,7 +52,7 @@ changed g c =
     subst (λ h. P c.record.new.self.shape h) (sym events) (subst (λ s. P s (j.events ++ by c.args.caller (gain_what c.args.gain w.slot.id) ∷ [])) (sym c.record.ensures.shape) node)
 
 pub invariant_of-self-2 : goal.invariant_of-self-2
-invariant_of-self-2 g c = changed c
+invariant_of-self-2 g c = changed g c
 
 pub returns-clause-recorded : goal.returns-clause-recorded
 returns-clause-recorded g c =

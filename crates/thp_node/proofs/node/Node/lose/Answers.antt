@@ -28,23 +28,23 @@ allowed s h n p b l m home told =
     refused_by_page s h n.table p b (either.Loss l) w ∙ sym (told w.slot w.at p)
 
 -- what the page lost, before and after it is recorded
-before : (g : Over) (c : goal.After-what g) → Losing c.self.inside.journal.shape c.self.inside.journal.events g c.args.caller c.args.page c.args.loss c.self.inside.blocks c.lose.new.self c.lose.new.done c.in-Ok.left
+before : (g : Over) (c : goal.After-what g) → Losing c.self.inside.journal.shape c.self.inside.journal.events c.args.caller c.args.page c.args.loss c.self.inside.blocks c.lose.new.self c.lose.new.done c.in-Ok.left
 before g c =
     let j = c.self.inside.journal in
     let b = c.self.inside.blocks in
     let is = c.self.view_is ∙ c.in_ok-block.ensures.same in
-    losing j.shape j.events g c.args.caller c.args.page c.in_ok-block.block c.args.loss c.is_closed-closed.result b c.lose.new.self c.lose.new.done c.in-Ok.left c.self.invariant
+    losing j.shape j.events c.args.caller c.args.page c.in_ok-block.block c.args.loss c.is_closed-closed.result b c.lose.new.self c.lose.new.done c.in-Ok.left c.self.invariant
     (ap (λ (n : NodeState). block_of n.journal c.args.page) is ∙ c.in_ok-block.ensures.block)
     c.is_closed-closed.ensures
     (allowed j.shape j.events b c.args.page c.in_ok-block.block c.args.loss c.self.invariant (ap (λ (n : NodeState). block_of n.journal c.args.page) is ∙ c.in_ok-block.ensures.block) c.in-Ok.ensures.refusal)
     c.in-Ok.ensures.lost
 
-after : (g : Over) (c : goal.After-record g) → Losing c.self.inside.journal.shape c.self.inside.journal.events g c.args.caller c.args.page c.args.loss c.self.inside.blocks c.lose.new.self c.lose.new.done c.in-Ok.left
+after : (g : Over) (c : goal.After-record g) → Losing c.self.inside.journal.shape c.self.inside.journal.events c.args.caller c.args.page c.args.loss c.self.inside.blocks c.lose.new.self c.lose.new.done c.in-Ok.left
 after g c =
     let j = c.self.inside.journal in
     let b = c.self.inside.blocks in
     let is = c.self.view_is ∙ c.in_ok-block.ensures.same in
-    losing j.shape j.events g c.args.caller c.args.page c.in_ok-block.block c.args.loss c.is_closed-closed.result b c.lose.new.self c.lose.new.done c.in-Ok.left c.self.invariant
+    losing j.shape j.events c.args.caller c.args.page c.in_ok-block.block c.args.loss c.is_closed-closed.result b c.lose.new.self c.lose.new.done c.in-Ok.left c.self.invariant
     (ap (λ (n : NodeState). block_of n.journal c.args.page) is ∙ c.in_ok-block.ensures.block)
     c.is_closed-closed.ensures
     (allowed j.shape j.events b c.args.page c.in_ok-block.block c.args.loss c.self.invariant (ap (λ (n : NodeState). block_of n.journal c.args.page) is ∙ c.in_ok-block.ensures.block) c.in-Ok.ensures.refusal)
@@ -110,7 +110,7 @@ returns-clause-allowed g c =
     let j = c.self.inside.journal in
     let is = c.self.view_is ∙ c.in_ok-block.ensures.same in
     ap (λ (n : NodeState). refusal n.shape n.journal (loss_call c.args.loss c.args.page)) (sym is)
-    ∙ allowed j.shape j.events g c.self.inside.blocks c.args.page c.in_ok-block.block c.args.loss c.self.invariant (ap (λ (n : NodeState). block_of n.journal c.args.page) is ∙ c.in_ok-block.ensures.block) c.in-Ok.ensures.refusal
+    ∙ allowed j.shape j.events c.self.inside.blocks c.args.page c.in_ok-block.block c.args.loss c.self.invariant (ap (λ (n : NodeState). block_of n.journal c.args.page) is ∙ c.in_ok-block.ensures.block) c.in-Ok.ensures.refusal
 
 pub returns-in-Err-clause-refused : goal.returns-in-Err-clause-refused
 returns-in-Err-clause-refused g c =

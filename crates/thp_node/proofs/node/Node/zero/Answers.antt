@@ -7,23 +7,24 @@ use Rattle.thp_model.specs.Refusals.{refusal}
 use Rattle.thp_model.specs.Refusals as call
 use Rattle.thp_model.proofs.Narrowing.{zero_fill, zero_fill-whole, on_ok, both_ok}
 use Rattle.thp_node.specs.Calls.{Did, Refused}
+use Rattle.thp_node.proofs.node.Node.zero.Given.{Over}
 use Rattle.thp_node.proofs.node.Node.zero.Goals as goal
 
 -- the range as it is kept is refused as the range is
-same : (c : goal.After-gain) → refusal c.args.self.now.shape c.args.self.now.journal (call.zero_fill c.args.page c.operands-first.result.0 c.operands-first.result.1) ≡ refusal c.args.self.now.shape c.args.self.now.journal (call.zero_fill c.args.page c.args.first c.args.count)
-same c =
+same : (g : Over) (c : goal.After-gain g) → refusal c.args.self.now.shape c.args.self.now.journal (call.zero_fill c.args.page c.operands-first.result.0 c.operands-first.result.1) ≡ refusal c.args.self.now.shape c.args.self.now.journal (call.zero_fill c.args.page c.args.first c.args.count)
+same g c =
     ap₂ (λ f n. refusal c.args.self.now.shape c.args.self.now.journal (call.zero_fill c.args.page f n)) c.operands-first.ensures.first c.operands-first.ensures.count
     ∙ zero_fill c.args.self.now.shape c.args.self.now.journal c.args.page c.args.first c.args.count c.operands-first.ensures.low
 
 pub returns-clause-allowed : goal.returns-clause-allowed
-returns-clause-allowed c = on_ok c.gain.result _ _ c.gain.ensures.allowed (λ e a. sym (same c) ∙ a)
+returns-clause-allowed g c = on_ok c.gain.result _ _ c.gain.ensures.allowed (λ e a. sym (same g c) ∙ a)
 
 pub returns-clause-refused : goal.returns-clause-refused
-returns-clause-refused c = subst (λ (w : Option Refusal). IfErr c.gain.result (Refused c.args.self.now c.gain.new.self w 1)) (same c) c.gain.ensures.refused
+returns-clause-refused g c = subst (λ (w : Option Refusal). IfErr c.gain.result (Refused c.args.self.now c.gain.new.self w 1)) (same g c) c.gain.ensures.refused
 
 pub returns-clause-recorded : goal.returns-clause-recorded
-returns-clause-recorded c =
+returns-clause-recorded g c =
     let P : ℕ → ℕ → Type 0 = λ f n. Did c.args.self.now c.gain.new.self c.args.caller (by c.args.caller (what.Zero c.args.page f n) ∷ []) in
-    both_ok c.gain.result _ _ _ (returns-clause-allowed c) c.gain.ensures.recorded (λ a d.
+    both_ok c.gain.result _ _ _ (returns-clause-allowed g c) c.gain.ensures.recorded (λ a d.
     let whole = zero_fill-whole c.args.self.now.shape c.args.self.now.journal c.args.page c.args.first c.args.count c.operands-first.ensures.low a in
     subst (λ n. P c.args.first n) (c.operands-first.ensures.count ∙ whole.1) (subst (λ f. P f c.operands-first.result.1) (c.operands-first.ensures.first ∙ whole.0) d))
