@@ -13,7 +13,11 @@ use Rattle.thp_page.specs.contracts.page_table.PageTable as PageTable
 use Rattle.thp_page.specs.contracts.page_table.PageTable.TheInside as in_table
 use Rattle.thp_live_pages.specs.contracts.places.Places as Places
 use Rattle.thp_live_pages.specs.contracts.places.Places.TheInside as in_places
+use Rattle.thp_model.proofs.events.Event.TheSendSync as event
 use Rattle.thp_node.specs.declared.recorder.Recorder.{Ghosts}
+use Rattle.thp_node.specs.contracts.recorder.Kept as Kept
+use Rattle.thp_node.specs.contracts.recorder.Kept.TheInside as in_kept
+use Rattle.thp_node.specs.contracts.recorder.KeptRecorder.TheImpl as keeps
 use Rattle.thp_node.specs.contracts.batch.Batch as Batch
 use Rattle.thp_node.specs.contracts.batch.Batch.TheInside as in_batch
 use Rattle.thp_node.specs.contracts.blocks.Blocks as Blocks
@@ -65,5 +69,16 @@ module _ (d e : Dict) (T : RattleType) (R : Ghosts T.Denot) (recorder_send : IsS
   pub pass_send : IsSend (Pass.the_row T R)
   pass_send = view_send (in_pass.the_row T R) _ _ _ _ (declared_send (in_pass.the_type T R) (search sendable, (search sendable, (search (sendable, seat.the_send, node_send), tt))))
 
+-- kept events may go to another thread
+kept_send : IsSend Kept.the_row
+kept_send = view_send in_kept.the_row _ _ _ _ (declared_send in_kept.the_type (Vec-send _ event.the_send, tt))
+
+-- and so may passes of cells whose nodes keep their events
+pub kept_cell_sync : IsSync (NodeCell.the_row Kept.the_row keeps.ghosts)
+kept_cell_sync = cell_sync keeps.dict keeps.dict Kept.the_row keeps.ghosts kept_send
+
+pub kept_pass_send : IsSend (Pass.the_row Kept.the_row keeps.ghosts)
+kept_pass_send = pass_send keeps.dict keeps.dict Kept.the_row keeps.ghosts kept_send
+
 -- what a caller's threads ask of what they are given
-pub ruleset crossings = (sendable, crosses, cell_sync, pass_send, batch_send)
+pub ruleset crossings = (sendable, crosses, kept_cell_sync, kept_pass_send, batch_send)
