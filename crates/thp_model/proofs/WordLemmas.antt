@@ -1,5 +1,5 @@
 -- Sets as words.
-use Rattle.std.proofs.Common.{◌≡◌, ◌≢◌, ℕ, suc, zero, ◌+◌, ◌-◌, ◌*◌, ◌/◌, ◌%◌, ◌^◌, ◌<◌, ◌≤◌, max, min, Bool, true, false, cond, not, ◌&&◌, ◌||◌, List, [], ◌∷◌, ◌++◌, length, map, set, get_or, refl, ap, sym, ◌∙◌, subst, arith, inl, inr, nat_eq, nat_le, nat_lt, All, eq-eqb, ne_eqb, lt-ltb}
+use Rattle.std.proofs.Common.{rules, ◌≡◌, ◌≢◌, ℕ, suc, zero, ◌+◌, ◌-◌, ◌*◌, ◌/◌, ◌%◌, ◌^◌, ◌<◌, ◌≤◌, max, min, Bool, true, false, cond, not, ◌&&◌, ◌||◌, List, [], ◌∷◌, ◌++◌, length, map, set, get_or, refl, ap, sym, ◌∙◌, subst, arith, inl, inr, nat_eq, nat_le, nat_lt, All, eq-eqb, ne_eqb, lt-ltb}
 use Rattle.std.specs.Int.{bit_at, w64}
 use Rattle.std.specs.Prelude.{bit_and, bit_or, bit_xor, count_ones, count_by, sum_by, if◌then◌else◌}
 use Rattle.std.specs.List.{range_with_len}
@@ -16,7 +16,8 @@ use Rattle.std.proofs.lemmas.Bool.{cases_lt}
 use Rattle.std.specs.Bool.{Decides}
 use Rattle.std.specs.Cmp.{booleans_Decides}
 use Rattle.std.proofs.lemmas.Slice.Eq.{slice_eq-Decides}
-use Rattle.thp_model.specs.Sets.{set_of, has, set_size, one_alone, same_set}
+use Rattle.thp_model.specs.Sets.{set_of, has, set_size, one_alone, some_below, same_set}
+use Rattle.thp_model.proofs.Below.{some_no, some_none}
 use Rattle.thp_model.specs.Words.{in_words, words_of, words_are, AreWords, get_or-set_of, length-set_of}
 
 -- a list of 512 truths is the set of a test that agrees with it
@@ -401,3 +402,25 @@ same_words ws vs s t e f a b r d =
       λ same. d.1 (sym (words_back ws s e a) ∙ ap words_of same ∙ words_back vs t f b),
     )
     (same_set-Decides s t)
+
+-- eight empty words
+zeros_AreWords : AreWords (0 ∷ 0 ∷ 0 ∷ 0 ∷ 0 ∷ 0 ∷ 0 ∷ 0 ∷ [])
+zeros_AreWords = search rules
+
+-- a test for eight empty words is one for the empty set
+pub same_none : (ws : List ℕ) (t : List Bool) → set_of (in_words ws) ≡ t → AreWords ws → (r : Bool) → Decides r (ws ≡ 0 ∷ 0 ∷ 0 ∷ 0 ∷ 0 ∷ 0 ∷ 0 ∷ 0 ∷ []) → r ≡ same_set t (set_of (λ i. false))
+same_none ws t e a r d = same_words ws (0 ∷ 0 ∷ 0 ∷ 0 ∷ 0 ∷ 0 ∷ 0 ∷ 0 ∷ []) t (set_of (λ i. false)) e none_set a zeros_AreWords r d
+
+-- a set that no test finds a number in is the empty one
+pub empty_has_none : (ws : List ℕ) (t : List Bool) (r : Bool) → set_of (in_words ws) ≡ t → r ≡ same_set t (set_of (λ i. false)) → r ≡ not (some_below 512 (has t))
+empty_has_none ws t r e tells =
+    same_from_decides {P = t ≡ set_of (λ i. false)} r (not (some_below 512 (has t))) (
+      λ y. (same_set-Decides t (set_of (λ i. false))).0 (sym tells ∙ y),
+      λ same. tells ∙ (same_set-Decides t (set_of (λ i. false))).1 same,
+    ) (
+      λ y. set_of_is t (λ i. false) (sym (ap length e) ∙ length-set_of (in_words ws)) (some_none 512 (has t) (flipped (some_below 512 (has t)) y)),
+      λ same. ap not (some_no 512 (has t) (λ i below. ap (λ s. has s i) same ∙ get_or-set_of (λ j. false) i below)),
+    ) where
+      flipped : (b : Bool) → not b ≡ true → b ≡ false
+      flipped true f = sym f
+      flipped false f = refl

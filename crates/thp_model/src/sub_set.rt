@@ -2,7 +2,7 @@
 ghost use Rattle.std.specs.Prelude.{◌≡◌, ℕ, ◌+◌, ◌-◌, ◌*◌, ◌/◌, ◌%◌, ◌^◌, ◌<◌, ◌≤◌, not, ◌&&◌, ◌||◌, IsTrue, ◌↔◌, min, nat_eq, nat_lt, slice_set, length, true, false, if◌then◌else◌};
 ghost use Rattle.std.specs.Int.{bit_at};
 ghost use Rattle.thp_model.specs.Limits.{max_order, max_subpages};
-ghost use Rattle.thp_model.specs.Sets.{has, set_of, set_size, covers, one_alone, same_set, same_set-equiv, same_set-partial_equiv};
+ghost use Rattle.thp_model.specs.Sets.{has, set_of, set_size, covers, one_alone, some_below, same_set, same_set-equiv, same_set-partial_equiv};
 
 use crate::limits::MAX_SUBPAGES;
 use std::marker::Model;
@@ -85,9 +85,10 @@ impl SubSet {
 
     /// Whether the set has no subpage.
     pub fn is_empty(&self) -> bool
-        ensures { IsTrue result ↔ (self.now ≡ set_of (λ i. false)) }
+        ensures empty { IsTrue result ↔ (self.now ≡ set_of (λ i. false)) }
+        ensures none { result ≡ not (some_below max_subpages (has self.now)) }
     {
-        *self == SubSet::empty()
+        self.words == [0; 8]
     }
 
     /// Whether subpage `i` is in the set.

@@ -1,0 +1,121 @@
+//! Bit planes, and the carries and borrows that ripple through them.
+ghost use Rattle.std.specs.Prelude.{◌≡◌, ℕ, ◌+◌, ◌<◌, ◌≤◌, ◌^◌, ◌&&◌, true, cond, nat_eq};
+ghost use Rattle.thp_model.specs.Limits.{max_subpages};
+ghost use Rattle.thp_model.specs.Sets.{has};
+ghost use Rattle.thp_planes.specs.Tallies.{tally};
+
+use crate::subpages::Subpages;
+use thp_model::SubSet;
+
+// How many planes there are: a count has 16 bits.
+pub(crate) const PLANES: usize = 16;
+
+// The bits of 512 counts.
+#[derive(Drop)]
+pub(crate) struct Planes {
+    // How many planes count. What stands in the others means nothing.
+    pub(crate) used: usize,
+    // Plane k has the subpages whose count has bit k.
+    pub(crate) sets: [SubSet; PLANES],
+}
+
+impl Planes {
+    // All counts are 0.
+    pub(crate) fn none() -> Planes
+        ensures used { result.used ≡ 0 }
+        ensures counts { (i : ℕ) → tally result i ≡ 0 }
+    {
+        Planes {
+            used: 0,
+            sets: [SubSet::empty(); PLANES],
+        }
+    }
+
+    // Adds `2 ^ from` to the count of each of these subpages: a carry that ripples up from plane `from`.
+    #[inline(always)]
+    pub(crate) fn add<S: Subpages>(&mut self, subpages: S, from: usize)
+        requires most { self.old.used ≤ 16 }
+        requires from { from ≤ self.old.used }
+        requires small { (i : ℕ) → i < max_subpages → S.chosen subpages i ≡ true → tally self.old i + 2 ^ from ≤ 65535 }
+        ensures counts { (i : ℕ) → i < max_subpages → tally self.new i ≡ tally self.old i + cond (S.chosen subpages i) (2 ^ from) 0 }
+        ensures most { self.new.used ≤ 16 }
+        ensures least { self.old.used ≤ self.new.used }
+    {
+        let mut carry = subpages;
+        for k in from..PLANES {
+            if carry.is_empty() {
+                return;
+            }
+            if k == self.used {
+                self.open(carry.to_set());
+                return;
+            }
+            let next = carry.within(&self.sets[k]);
+            carry.turn(&mut self.sets[k]);
+            carry = next;
+        }
+    }
+
+    // One plane more counts. What stood in it meant nothing.
+    #[inline(never)]
+    fn open(&mut self, set: SubSet)
+        requires { self.old.used < 16 }
+        ensures used { self.new.used ≡ self.old.used + 1 }
+        ensures counts { (i : ℕ) → tally self.new i ≡ tally self.old i + cond (has set i) (2 ^ self.old.used) 0 }
+    {
+        self.sets[self.used] = set;
+        self.used += 1;
+    }
+
+    // At least `wanted` planes count, with the same counts.
+    pub(crate) fn widen(&mut self, wanted: usize)
+        requires most { self.old.used ≤ 16 }
+        requires wanted { wanted ≤ 16 }
+        ensures counts { (i : ℕ) → tally self.new i ≡ tally self.old i }
+        ensures most { self.new.used ≤ 16 }
+        ensures least { wanted ≤ self.new.used }
+    {
+        while self.used < wanted {
+            self.open(SubSet::empty());
+        }
+    }
+
+    // Takes one from the count of each of these subpages: a borrow that ripples up from the lowest plane.
+    #[inline(always)]
+    pub(crate) fn take<S: Subpages>(&mut self, subpages: S)
+        requires most { self.old.used ≤ 16 }
+        requires positive { (i : ℕ) → i < max_subpages → S.chosen subpages i ≡ true → 1 ≤ tally self.old i }
+        ensures counts { (i : ℕ) → i < max_subpages → tally self.new i + cond (S.chosen subpages i) 1 0 ≡ tally self.old i }
+        ensures used { self.new.used ≡ self.old.used }
+    {
+        let mut borrow = subpages;
+        for k in 0..self.used {
+            if borrow.is_empty() {
+                return;
+            }
+            borrow.turn(&mut self.sets[k]);
+            borrow = borrow.within(&self.sets[k]);
+        }
+    }
+
+    // Those of these subpages whose count is `n`, a number that has no more bits than there are planes that count.
+    #[inline(always)]
+    pub(crate) fn with_count<S: Subpages>(&self, subpages: S, n: u16) -> S
+        requires most { self.now.used ≤ 16 }
+        requires fits { n < 2 ^ self.now.used }
+        ensures { (i : ℕ) → i < max_subpages → S.chosen result i ≡ (S.chosen subpages i && nat_eq (tally self.now i) n) }
+    {
+        let mut left = subpages;
+        for k in 0..self.used {
+            if left.is_empty() {
+                return left;
+            }
+            left = if (n >> k) & 1 == 1 {
+                left.within(&self.sets[k])
+            } else {
+                left.outside(&self.sets[k])
+            };
+        }
+        left
+    }
+}
