@@ -18,6 +18,13 @@ worth planes i k = cond (has (plane planes k) i) (2 ^ k) 0
 pub at_plane : (planes : List (List Bool)) (k : ℕ) (s : List Bool) → k < length planes → get_or planes k s ≡ plane planes k
 at_plane planes k s inside = get_or_default planes k s [] inside
 
+-- a subpage of a plane that was turned
+pub turned_at : (planes : List (List Bool)) (k i : ℕ) (s t : List Bool) (chosen : ℕ → Bool) → k < length planes → i < 512 → t ≡ set_of (λ j. one_alone (has (get_or planes k s) j) (chosen j)) →
+    has t i ≡ one_alone (has (plane planes k) i) (chosen i)
+turned_at planes k i s t chosen inside below e =
+    ap (λ u. has u i) e ∙ get_or-set_of (λ j. one_alone (has (get_or planes k s) j) (chosen j)) i below
+    ∙ ap (λ u. one_alone (has u i) (chosen i)) (at_plane planes k s inside)
+
 -- no plane counts nothing
 pub no_planes : (planes : List (List Bool)) (i : ℕ) → count_in planes 0 i ≡ 0
 unfolding count_in sum_below

@@ -1,13 +1,13 @@
 -- Which subpages are chosen.
-use Rattle.std.proofs.Common.{◌≡◌, ℕ, suc, zero, ◌+◌, ◌-◌, ◌*◌, ◌^◌, ◌/◌, ◌%◌, ◌<◌, ◌≤◌, subst, Bool, true, false, not, cond, ◌&&◌, List, nat_eq, refl, ap, sym, ◌∙◌, arith}
+use Rattle.std.proofs.Common.{◌≡◌, ◌≢◌, ne_eqb, ℕ, suc, zero, ◌+◌, ◌-◌, ◌*◌, ◌^◌, ◌/◌, ◌%◌, ◌<◌, ◌≤◌, subst, Bool, true, false, not, cond, ◌&&◌, List, nat_eq, refl, ap, sym, ◌∙◌, arith}
 use Rattle.std.specs.Int.{bit_at}
 use Rattle.std.specs.Prelude.{bit_and}
 use Rattle.std.proofs.lemmas.Bool.Decides.{nat_tests}
 use Rattle.std.proofs.lemmas.Nat.{mod-pow-add, mod_below}
-use Rattle.std.proofs.Math.Nat.{mod-eq_of_lt}
+use Rattle.std.proofs.Math.Nat.{mod-eq_of_lt, div-eq_of_lt, mod-le}
 use Rattle.std.proofs.lemmas.Nat.Bits.{bit_at-lt, shr_and_one}
 use Rattle.thp_model.specs.Sets.{has, some_below}
-use Rattle.thp_model.proofs.Below.{some_none}
+use Rattle.thp_model.proofs.Below.{some_none, some_no}
 use Rattle.thp_planes.specs.Planes.{plane, count_in}
 use Rattle.thp_planes.proofs.Carries.{no_planes, one_more, counts_below}
 
@@ -104,3 +104,29 @@ with_bit left bit read here e f = ap (λ b. left && b) (e ∙ sym (ap (λ b. con
 
 pub without_bit : (left bit read here : Bool) → read ≡ here → bit ≡ false → (left && not read) ≡ (left && cond bit here (not here))
 without_bit left bit read here e f = ap (λ b. left && b) (ap not e ∙ sym (ap (λ b. cond b here (not here)) f))
+
+-- no count is as large as a number that has more bits than there are planes
+pub none_as_large : (planes : List (List Bool)) (n m : ℕ) (chosen : ℕ → Bool) → (n / 2 ^ m ≢ 0) → some_below 512 (λ i. chosen i && nat_eq (count_in planes m i) n) ≡ false
+none_as_large planes n m chosen large =
+    some_no 512 (λ i. chosen i && nat_eq (count_in planes m i) n) (λ i below. go (chosen i) (count_in planes m i) (2 ^ m) (counts_below planes m i) large) where
+      go : (b : Bool) (v p : ℕ) → v < p → (n / p ≢ 0) → (b && nat_eq v n) ≡ false
+      go true v p h f = ne_eqb v n (λ e. let same : v ≡ n = e in f (below n p (omega arith))) where
+        below : (n p : ℕ) → n < p → n / p ≡ 0
+        below n p h = div-eq_of_lt h
+      go false v p h f = refl
+
+-- one bit more of the number that is added
+pub added_bit : (chosen : Bool) (new old before n k : ℕ) → before ≡ old + cond chosen (n % 2 ^ k) 0 → new ≡ before + cond chosen (cond (nat_eq (bit_at n k) 1) (2 ^ k) 0) 0 →
+    new ≡ old + cond chosen (n % 2 ^ (k + 1)) 0
+added_bit true new old before n k e f = omega (arith, e, f, bits_of n k)
+added_bit false new old before n k e f = omega (arith, e, f)
+
+-- a bit that isn't set adds nothing
+pub nothing : (m : ℕ) (chosen : Bool) → m ≡ m + cond chosen 0 0
+nothing m true = omega arith
+nothing m false = omega arith
+
+-- a bit of a number that fits has room
+pub room_for_bit : (before old n k : ℕ) (chosen : Bool) → chosen ≡ true → nat_eq (bit_at n k) 1 ≡ true → before ≡ old + cond chosen (n % 2 ^ k) 0 → old + n ≤ 65535 → before + 2 ^ k ≤ 65535
+room_for_bit before old n k chosen holds bit e small =
+    omega (arith, e ∙ ap (λ b. old + cond b (n % 2 ^ k) 0) holds, bits_of n k ∙ ap (λ b. n % 2 ^ k + cond b (2 ^ k) 0) bit, mod-le n (2 ^ (k + 1)))

@@ -11,6 +11,7 @@ use Rattle.std.proofs.Math.Nat.{mul_comm, suc-mul, one-le-pow}
 use Rattle.thp_model.specs.Sets.{set_of, has, covers, one_alone, some_below}
 use Rattle.thp_model.specs.Words.{get_or-set_of}
 use Rattle.thp_model.proofs.Below.{some_yes, some_no}
+use Rattle.thp_model.proofs.WordLemmas.{set_of-ext}
 use Rattle.thp_planes.specs.OneWords.{in_word}
 
 -- a bit of both, a bit of the first alone, and a bit of one of the two alone
@@ -60,11 +61,11 @@ word_outside set at bits word i fits tells =
     ]
 
 -- a set with that word written
-pub word_turned : (old new : List Bool) (at bits word i : ℕ) → i < 512 → ((j : ℕ) → j / 64 ≡ at → nat_eq (bit_at word (j % 64)) 1 ≡ has old j) →
-    new ≡ set_of (λ j. if nat_eq (j / 64) at then nat_eq (bit_at (bit_xor word bits) (j % 64)) 1 else has old j) → has new i ≡ one_alone (has old i) (in_word at bits i)
-word_turned old new at bits word i below tells written =
-    ap (λ s. has s i) written ∙ get_or-set_of (λ j. if nat_eq (j / 64) at then nat_eq (bit_at (bit_xor word bits) (j % 64)) 1 else has old j) i below
-    ∙ elim (eqb_tells (i / 64) at) as (λ _. (if nat_eq (i / 64) at then nat_eq (bit_at (bit_xor word bits) (i % 64)) 1 else has old i) ≡ one_alone (has old i) (in_word at bits i)) [
+pub word_turned : (old new : List Bool) (at bits word : ℕ) → ((j : ℕ) → j / 64 ≡ at → nat_eq (bit_at word (j % 64)) 1 ≡ has old j) →
+    new ≡ set_of (λ j. if nat_eq (j / 64) at then nat_eq (bit_at (bit_xor word bits) (j % 64)) 1 else has old j) → new ≡ set_of (λ i. one_alone (has old i) (in_word at bits i))
+word_turned old new at bits word tells written =
+    written ∙ set_of-ext _ _
+    (λ i below. elim (eqb_tells (i / 64) at) as (λ _. (if nat_eq (i / 64) at then nat_eq (bit_at (bit_xor word bits) (i % 64)) 1 else has old i) ≡ one_alone (has old i) (in_word at bits i)) [
       | inl y ↦
           ap (λ b. if b then nat_eq (bit_at (bit_xor word bits) (i % 64)) 1 else has old i) y.0
           ∙ ap (λ n. nat_eq n 1) (bit_at_xor word bits (i % 64)) ∙ one_of _ _ (bit_at-lt word (i % 64)) (bit_at-lt bits (i % 64))
@@ -74,7 +75,7 @@ word_turned old new at bits word i below tells written =
           ap (λ b. if b then nat_eq (bit_at (bit_xor word bits) (i % 64)) 1 else has old i) y.0
           ∙ alone (has old i)
           ∙ sym (ap (λ b. one_alone (has old i) (b && nat_eq (bit_at bits (i % 64)) 1)) y.0)
-    ] where
+    ]) where
       alone : (b : Bool) → b ≡ one_alone b false
       alone true = refl
       alone false = refl

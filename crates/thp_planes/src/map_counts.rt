@@ -1,11 +1,11 @@
 //! A page's own map counts, seen as 512 numbers.
-ghost use Rattle.std.specs.Prelude.{◌≡◌, ℕ, ◌+◌, ◌<◌, ◌≤◌, true, cond, nat_eq, nat_lt, replicate, slice_index};
+ghost use Rattle.std.specs.Prelude.{◌≡◌, ℕ, ◌+◌, ◌<◌, ◌≤◌, ◌&&◌, true, cond, nat_eq, nat_lt, replicate, slice_index};
 ghost use Rattle.thp_model.specs.Limits.{max_subpages};
 ghost use Rattle.thp_model.specs.Sets.{covers, has, set_of, some_below};
 ghost use Rattle.thp_planes.specs.Ranges.{some_count};
 
 use crate::one_word::OneWord;
-use crate::planes::{PLANES, Planes};
+use crate::planes::Planes;
 use crate::subpages::Subpages;
 use std::marker::Model;
 use thp_model::SubSet;
@@ -98,18 +98,7 @@ impl MapCounts {
         requires { first + count ≤ max_subpages }
         ensures { result ≡ some_count self.now first count (λ m. nat_eq m n) }
     {
-        // A number with more bits than there are planes is no count.
-        u32::from(n) >> self.planes.used == 0 && self.has_small_count(first, count, n)
-    }
-
-    // The same of a number that has no more bits than there are planes.
-    fn has_small_count(&self, first: usize, count: usize, n: u16) -> bool
-        requires inside { first + count ≤ max_subpages }
-        requires fits { n < 2 ^ self.now.planes.used }
-        ensures { result ≡ some_count self.now first count (λ m. nat_eq m n) }
-    {
-        let range = SubSet::range(first as u32, count as u32);
-        !self.planes.with_count(range, n).is_empty()
+        self.planes.has_count(first, count, n)
     }
 
     /// Adds `n` to the count of each subpage of the set.
@@ -117,12 +106,7 @@ impl MapCounts {
         requires { (i : ℕ) → i < max_subpages → has subpages i ≡ true → slice_index self.old i + n ≤ 65535 }
         ensures { (i : ℕ) → i < max_subpages → slice_index self.new i ≡ slice_index self.old i + cond (has subpages i) n 0 }
     {
-        for k in 0..PLANES {
-            if (n >> k) & 1 == 1 {
-                self.planes.widen(k);
-                self.planes.add(subpages, k);
-            }
-        }
+        self.planes.add_number(subpages, n);
         if n > 0 {
             self.mapped = self.mapped.union(subpages);
         }
@@ -133,7 +117,7 @@ impl MapCounts {
     pub fn map(&mut self, first: usize, count: usize)
         requires inside { first + count ≤ max_subpages }
         requires small { (i : ℕ) → covers first count i ≡ true → slice_index self.old i < 65535 }
-        ensures { (i : ℕ) → slice_index self.new i ≡ slice_index self.old i + cond (covers first count i) 1 0 }
+        ensures { (i : ℕ) → i < max_subpages → slice_index self.new i ≡ slice_index self.old i + cond (covers first count i) 1 0 }
     {
         if OneWord::holds(first, count) {
             self.map_each(OneWord::range(first, count));
@@ -157,7 +141,7 @@ impl MapCounts {
     pub fn unmap(&mut self, first: usize, count: usize) -> bool
         requires inside { first + count ≤ max_subpages }
         requires positive { (i : ℕ) → covers first count i ≡ true → 1 ≤ slice_index self.old i }
-        ensures taken { (i : ℕ) → slice_index self.old i ≡ slice_index self.new i + cond (covers first count i) 1 0 }
+        ensures taken { (i : ℕ) → i < max_subpages → slice_index self.old i ≡ slice_index self.new i + cond (covers first count i) 1 0 }
         ensures unmapped { result ≡ some_count self.old first count (λ n. nat_eq n 1) }
     {
         if OneWord::holds(first, count) {

@@ -1,7 +1,7 @@
 //! Bit planes, and the carries and borrows that ripple through them.
 ghost use Rattle.std.specs.Prelude.{◌≡◌, ℕ, ◌+◌, ◌<◌, ◌≤◌, ◌^◌, ◌&&◌, true, cond, nat_eq};
 ghost use Rattle.thp_model.specs.Limits.{max_subpages};
-ghost use Rattle.thp_model.specs.Sets.{has};
+ghost use Rattle.thp_model.specs.Sets.{covers, has, some_below};
 ghost use Rattle.thp_planes.specs.Tallies.{tally};
 
 use crate::subpages::Subpages;
@@ -117,5 +117,43 @@ impl Planes {
             };
         }
         left
+    }
+
+    // Whether the count of one of the subpages of a range is `n`.
+    #[inline(always)]
+    pub(crate) fn has_count(&self, first: usize, count: usize, n: u16) -> bool
+        requires most { self.now.used ≤ 16 }
+        requires inside { first + count ≤ max_subpages }
+        ensures { result ≡ some_below max_subpages (λ i. covers first count i && nat_eq (tally self.now i) n) }
+    {
+        // A number with more bits than there are planes is no count.
+        u32::from(n) >> self.used == 0 && self.has_small_count(first, count, n)
+    }
+
+    // The same of a number that has no more bits than there are planes that count.
+    #[inline(never)]
+    fn has_small_count(&self, first: usize, count: usize, n: u16) -> bool
+        requires most { self.now.used ≤ 16 }
+        requires inside { first + count ≤ max_subpages }
+        requires fits { n < 2 ^ self.now.used }
+        ensures { result ≡ some_below max_subpages (λ i. covers first count i && nat_eq (tally self.now i) n) }
+    {
+        let range = SubSet::range(first as u32, count as u32);
+        !self.with_count(range, n).is_empty()
+    }
+
+    // Adds `n` to the count of each subpage of a set, bit by bit.
+    pub(crate) fn add_number(&mut self, subpages: SubSet, n: u16)
+        requires most { self.old.used ≤ 16 }
+        requires small { (i : ℕ) → i < max_subpages → has subpages i ≡ true → tally self.old i + n ≤ 65535 }
+        ensures counts { (i : ℕ) → i < max_subpages → tally self.new i ≡ tally self.old i + cond (has subpages i) n 0 }
+        ensures most { self.new.used ≤ 16 }
+    {
+        for k in 0..PLANES {
+            if (n >> k) & 1 == 1 {
+                self.widen(k);
+                self.add(subpages, k);
+            }
+        }
     }
 }

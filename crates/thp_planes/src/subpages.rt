@@ -1,7 +1,7 @@
 //! The subpages that one call counts up or down.
 ghost use Rattle.std.specs.Prelude.{◌≡◌, ℕ, ◌<◌, Bool, not, ◌&&◌};
 ghost use Rattle.thp_model.specs.Limits.{max_subpages};
-ghost use Rattle.thp_model.specs.Sets.{has, one_alone, some_below};
+ghost use Rattle.thp_model.specs.Sets.{has, set_of, one_alone, some_below};
 
 use thp_model::SubSet;
 
@@ -20,7 +20,7 @@ pub(crate) trait Subpages: Copy {
 
     /// Takes those of them that are in the set out of it, and puts the others of them in.
     fn turn(&self, set: &mut SubSet)
-        ensures { (i : ℕ) → i < max_subpages → has set.new i ≡ one_alone (has set.old i) (chosen self.now i) };
+        ensures { set.new ≡ set_of (λ i. one_alone (has set.old i) (chosen self.now i)) };
 
     /// Whether there is none.
     fn is_empty(&self) -> bool

@@ -1,8 +1,8 @@
 use Rattle.std.proofs.Common.{ℕ, ◌^◌, ap, sym, ◌∙◌, arith, ◌≡◌, ◌&&◌, cond, ◌+◌}
 use Rattle.std.proofs.Math.Pow.{pow_mono}
-use Rattle.thp_model.specs.Sets.{has, one_alone}
+use Rattle.thp_model.specs.Sets.{has}
 use Rattle.thp_planes.specs.Tallies.{tally}
-use Rattle.thp_planes.proofs.Carries.{carried, ends_without, no_carry_out, counts_below, at_plane}
+use Rattle.thp_planes.proofs.Carries.{carried, ends_without, no_carry_out, counts_below, at_plane, turned_at}
 use Rattle.thp_planes.proofs.Chosen.{none_chosen}
 use Rattle.thp_planes.proofs.planes.Planes.add.Goals as goal
 
@@ -17,7 +17,7 @@ loop-k-preserved g c = record {
   counts = λ i below.
       carried c.loop-k.self.sets c.loop-k.self.used c.loop-k.k i _ (g.S.Subpages.chosen c.loop-k.carry i) (g.S.Subpages.chosen c.within-next.result i) _
       (omega arith) (omega arith)
-      (c.turn.ensures i below ∙ ap (λ s. one_alone (has s i) (g.S.Subpages.chosen c.loop-k.carry i)) (at_plane c.loop-k.self.sets c.loop-k.k _ (omega arith)))
+      (turned_at c.loop-k.self.sets c.loop-k.k i _ _ (g.S.Subpages.chosen c.loop-k.carry) (omega arith) below c.turn.ensures)
       (c.within-next.ensures i below ∙ ap (λ s. g.S.Subpages.chosen c.loop-k.carry i && has s i) (at_plane c.loop-k.self.sets c.loop-k.k _ (omega arith)))
       (c.loop-k.invariant.counts i below);
 }

@@ -1,8 +1,8 @@
 use Rattle.std.proofs.Common.{ℕ, ◌^◌, ap, sym, ◌∙◌, arith, ◌≡◌, ◌&&◌, cond, ◌+◌}
 use Rattle.std.proofs.lemmas.List.{get_or-set_same}
-use Rattle.thp_model.specs.Sets.{has, one_alone}
+use Rattle.thp_model.specs.Sets.{has}
 use Rattle.thp_planes.specs.Tallies.{tally}
-use Rattle.thp_planes.proofs.Carries.{borrowed, ends_even, no_borrow_out, counts_below, at_plane}
+use Rattle.thp_planes.proofs.Carries.{borrowed, ends_even, no_borrow_out, counts_below, at_plane, turned_at}
 use Rattle.thp_planes.proofs.Chosen.{none_chosen}
 use Rattle.thp_planes.proofs.planes.Planes.take.Goals as goal
 
@@ -16,7 +16,7 @@ loop-k-preserved g c = record {
   counts = λ i below.
       borrowed c.loop-k.self.sets c.loop-k.self.used c.loop-k.k i _ (g.S.Subpages.chosen c.loop-k.borrow i) (g.S.Subpages.chosen c.within-borrow.result i) _ _
       (omega arith) (omega arith)
-      (c.turn.ensures i below ∙ ap (λ s. one_alone (has s i) (g.S.Subpages.chosen c.loop-k.borrow i)) (at_plane c.loop-k.self.sets c.loop-k.k _ (omega arith)))
+      (turned_at c.loop-k.self.sets c.loop-k.k i _ _ (g.S.Subpages.chosen c.loop-k.borrow) (omega arith) below c.turn.ensures)
       (c.within-borrow.ensures i below ∙ ap (λ s. g.S.Subpages.chosen c.loop-k.borrow i && has s i) (get_or-set_same c.loop-k.self.sets c.loop-k.k _ _ (omega arith)))
       (c.loop-k.invariant.counts i below);
 }
