@@ -1,6 +1,5 @@
 -- What the fields of a page's own map counts stand for, and keep.
-use Rattle.std.specs.Prelude.{◌≡◌, ◌≤◌, ◌<◌, ℕ, List, nat_lt}
-use Rattle.thp_model.specs.Limits.{max_subpages}
+use Rattle.std.specs.Prelude.{◌≡◌, ◌≤◌, ℕ, List, nat_lt}
 use Rattle.thp_model.specs.Sets.{set_of}
 use Rattle.thp_planes.specs.Planes.{counts_in, count_in}
 use Rattle.thp_planes.specs.declared.map_counts.MapCounts.TheInside.{Inside}

@@ -86,9 +86,13 @@ impl MapCounts {
         ensures { result ≡ some_count self.now first count (λ n. nat_eq n 0) }
     {
         if OneWord::holds(first, count) {
-            !OneWord::range(first, count).outside(&self.mapped).is_empty()
+            !OneWord::range(first, count)
+                .outside(&self.mapped)
+                .is_empty()
         } else {
-            !SubSet::range(first as u32, count as u32).outside(&self.mapped).is_empty()
+            !SubSet::range(first as u32, count as u32)
+                .outside(&self.mapped)
+                .is_empty()
         }
     }
 

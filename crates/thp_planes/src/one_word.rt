@@ -21,10 +21,11 @@ impl OneWord {
     // Whether a range has a subpage and stands in one word.
     #[inline(always)]
     pub(crate) fn holds(first: usize, count: usize) -> bool
+        requires { first + count ≤ max_subpages }
         ensures some { result ≡ true → 0 < count }
         ensures one { result ≡ true → first % 64 + count ≤ 64 }
     {
-        count != 0 && count <= 64 && first % 64 + count <= 64
+        count != 0 && first % 64 + count <= 64
     }
 
     // The subpages of such a range.

@@ -1,4 +1,4 @@
-use Rattle.std.proofs.Common.{refl, sym, ◌∙◌, ◌+◌, arith}
+use Rattle.std.proofs.Common.{refl, ◌+◌, arith}
 use Rattle.thp_model.specs.Refusals as call
 use Rattle.thp_model.specs.Pages.{PageState}
 use Rattle.thp_page.specs.PageView.{state_of}

@@ -2,7 +2,7 @@ use Rattle.std.proofs.Common.{◌≡◌, ◌+◌, ◌<◌, ◌≤◌, ◌&&◌, 
 use Rattle.thp_model.specs.Sets.{covers}
 use Rattle.thp_model.specs.Words.{length-set_of}
 use Rattle.thp_model.specs.Refusals as call
-use Rattle.thp_model.specs.Pages.{PageState, size, own_at, has_use, drops_use, partly_after, page_refusal, RangeUnmapped, IsPage}
+use Rattle.thp_model.specs.Pages.{PageState, own_at, has_use, drops_use, partly_after, page_refusal, RangeUnmapped, IsPage}
 use Rattle.thp_page.specs.declared.page.Page.TheInside.{Inside}
 use Rattle.thp_page.specs.PageView.{state_of, IsKept}
 use Rattle.thp_page.specs.Changes.{IsChange}

@@ -1,4 +1,4 @@
-use Rattle.std.proofs.Common.{◌-◌, ◌≤◌, refl, sym, ◌∙◌, arith, subst}
+use Rattle.std.proofs.Common.{◌-◌, ◌≤◌, refl, arith, subst}
 use Rattle.thp_model.specs.Refusals as call
 use Rattle.thp_model.specs.Pages.{PageState, Pinned}
 use Rattle.thp_page.specs.PageView.{state_of}

@@ -1,4 +1,4 @@
-use Rattle.std.proofs.Common.{List, Bool, sym, ◌∙◌, arith, subst, refl}
+use Rattle.std.proofs.Common.{List, Bool, arith, subst, refl}
 use Rattle.thp_model.specs.Refusals as call
 use Rattle.thp_model.specs.Pages.{PageState, RangeWritten}
 use Rattle.thp_page.specs.PageView.{state_of}

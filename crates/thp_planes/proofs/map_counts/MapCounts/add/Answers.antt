@@ -1,4 +1,4 @@
-use Rattle.std.proofs.Common.{◌≡◌, refl, ℕ, ◌∙◌, ◌+◌, ◌||◌, ap, sym, arith, cond, nat_lt}
+use Rattle.std.proofs.Common.{refl, ◌∙◌, ◌+◌, ap, sym, arith, cond}
 use Rattle.thp_model.specs.Sets.{has}
 use Rattle.thp_model.proofs.WordLemmas.{set_of-ext}
 use Rattle.thp_planes.proofs.Seen.{seen_at, count_at, mapped_at, mapped_any, mapped_same}

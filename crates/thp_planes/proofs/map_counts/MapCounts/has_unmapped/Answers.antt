@@ -1,4 +1,4 @@
-use Rattle.std.proofs.Common.{◌≡◌, ℕ, ◌∙◌, ◌&&◌, not, ap, sym, Bool, nat_eq, slice_index}
+use Rattle.std.proofs.Common.{◌∙◌, ◌&&◌, not, ap, sym, nat_eq, slice_index}
 use Rattle.thp_model.specs.Sets.{has, covers}
 use Rattle.thp_model.specs.Words.{get_or-set_of}
 use Rattle.thp_planes.specs.OneWords.{in_word}

@@ -1,4 +1,4 @@
-use Rattle.std.proofs.Common.{◌≡◌, ◌∙◌, ◌+◌, ap, sym, cond, slice_index}
+use Rattle.std.proofs.Common.{◌∙◌, ◌+◌, ap, sym, cond, slice_index}
 use Rattle.thp_model.specs.Sets.{has, covers}
 use Rattle.thp_model.specs.Words.{get_or-set_of}
 use Rattle.thp_planes.proofs.map_counts.MapCounts.map.Goals as goal

@@ -1,7 +1,6 @@
-use Rattle.std.proofs.Common.{◌≡◌, ℕ, ◌∙◌, ◌+◌, ◌&&◌, not, ap, sym, arith, List, Bool, cond, nat_lt, get_or}
-use Rattle.thp_model.specs.Sets.{has, one_alone}
+use Rattle.std.proofs.Common.{◌∙◌, ◌+◌, ap, sym, arith, cond}
+use Rattle.thp_model.specs.Sets.{has}
 use Rattle.thp_model.proofs.WordLemmas.{set_of-ext}
-use Rattle.thp_planes.specs.Planes.{count_in}
 use Rattle.thp_planes.proofs.Seen.{seen_at, count_at, mapped_at, mapped_more}
 use Rattle.thp_planes.proofs.map_counts.MapCounts.map_each.Goals as goal
 

@@ -1,7 +1,6 @@
-use Rattle.std.proofs.Common.{◌≡◌, ℕ, ◌∙◌, ap, List, Bool, arith, sym}
-use Rattle.thp_model.specs.Sets.{set_of}
-use Rattle.thp_planes.specs.Planes.{counts_in, count_in}
-use Rattle.thp_planes.proofs.Seen.{none_counted, none_mapped, none_mapped_in}
+use Rattle.std.proofs.Common.{◌∙◌, ap, arith}
+use Rattle.thp_planes.specs.Planes.{counts_in}
+use Rattle.thp_planes.proofs.Seen.{none_counted, none_mapped_in}
 use Rattle.thp_planes.proofs.map_counts.MapCounts.none.Goals as goal
 
 pub invariant_of-result : goal.invariant_of-result

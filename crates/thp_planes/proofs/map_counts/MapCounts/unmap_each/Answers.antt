@@ -1,8 +1,7 @@
-use Rattle.std.proofs.Common.{◌≡◌, ℕ, ◌∙◌, ◌+◌, ◌&&◌, not, ap, sym, arith, List, Bool, cond, nat_lt, nat_eq, get_or, slice_index}
+use Rattle.std.proofs.Common.{◌∙◌, ◌+◌, ◌&&◌, ap, sym, arith, cond, nat_eq, slice_index}
 use Rattle.std.proofs.Math.Nat.{one-le-pow}
 use Rattle.thp_model.specs.Sets.{has}
 use Rattle.thp_model.proofs.WordLemmas.{set_of-ext}
-use Rattle.thp_planes.specs.Planes.{count_in}
 use Rattle.thp_planes.proofs.Seen.{seen_at, count_at, mapped_at, mapped_less, was_one, some_found}
 use Rattle.thp_planes.proofs.map_counts.MapCounts.unmap_each.Goals as goal
 

@@ -1,4 +1,4 @@
-use Rattle.std.proofs.Common.{ℕ, ◌^◌, ap, sym, ◌∙◌, arith, ◌≡◌, ◌&&◌, cond, ◌+◌}
+use Rattle.std.proofs.Common.{◌^◌, ap, sym, ◌∙◌, arith, ◌≡◌, ◌&&◌, cond, ◌+◌}
 use Rattle.std.proofs.Math.Pow.{pow_mono}
 use Rattle.thp_model.specs.Sets.{has}
 use Rattle.thp_planes.specs.Tallies.{tally}

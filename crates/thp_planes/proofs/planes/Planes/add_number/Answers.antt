@@ -1,6 +1,5 @@
-use Rattle.std.proofs.Common.{◌≡◌, ℕ, ◌∙◌, ◌+◌, ◌^◌, ◌%◌, ap, sym, arith, cond, eq-eqb, ne_eqb, true}
-use Rattle.std.specs.Int.{bit_at}
-use Rattle.std.proofs.Math.Nat.{mod-le, mod-eq_of_lt}
+use Rattle.std.proofs.Common.{◌≡◌, ◌∙◌, ◌+◌, ◌^◌, ◌%◌, ap, sym, arith, cond, eq-eqb, ne_eqb}
+use Rattle.std.proofs.Math.Nat.{mod-eq_of_lt}
 use Rattle.thp_model.specs.Sets.{has}
 use Rattle.thp_planes.specs.declared.planes.Planes.{Planes}
 use Rattle.thp_planes.specs.Tallies.{tally}

@@ -1,4 +1,4 @@
-use Rattle.std.proofs.Common.{◌≡◌, ℕ, ◌∙◌, ◌^◌, ◌/◌, ap, sym, ne_eqb}
+use Rattle.std.proofs.Common.{◌∙◌, ◌^◌, ◌/◌, ap, sym, ne_eqb}
 use Rattle.thp_model.specs.Sets.{covers}
 use Rattle.thp_planes.proofs.Chosen.{none_as_large}
 use Rattle.thp_planes.proofs.planes.Planes.has_count.Goals as goal

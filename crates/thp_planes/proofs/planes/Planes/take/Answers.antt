@@ -1,8 +1,8 @@
-use Rattle.std.proofs.Common.{ℕ, ◌^◌, ap, sym, ◌∙◌, arith, ◌≡◌, ◌&&◌, cond, ◌+◌}
+use Rattle.std.proofs.Common.{◌^◌, ap, ◌∙◌, arith, ◌≡◌, ◌&&◌, cond, ◌+◌}
 use Rattle.std.proofs.lemmas.List.{get_or-set_same}
 use Rattle.thp_model.specs.Sets.{has}
 use Rattle.thp_planes.specs.Tallies.{tally}
-use Rattle.thp_planes.proofs.Carries.{borrowed, ends_even, no_borrow_out, counts_below, at_plane, turned_at}
+use Rattle.thp_planes.proofs.Carries.{borrowed, ends_even, no_borrow_out, counts_below, turned_at}
 use Rattle.thp_planes.proofs.Chosen.{none_chosen}
 use Rattle.thp_planes.proofs.planes.Planes.take.Goals as goal
 

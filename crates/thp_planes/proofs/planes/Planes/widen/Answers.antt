@@ -1,6 +1,4 @@
-use Rattle.std.proofs.Common.{◌∙◌, arith, ◌+◌, ◌^◌, cond, ap, ◌≡◌, ℕ, false, List}
-use Rattle.thp_model.specs.Sets.{has, set_of}
-use Rattle.thp_planes.specs.Tallies.{tally}
+use Rattle.std.proofs.Common.{◌∙◌, arith}
 use Rattle.thp_planes.proofs.Carries.{adds_nothing}
 use Rattle.thp_planes.proofs.planes.Planes.widen.Goals as goal
 
