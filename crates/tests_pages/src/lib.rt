@@ -9,6 +9,8 @@ mod counting;
 #[cfg(test)]
 mod links;
 #[cfg(test)]
+mod own_counts;
+#[cfg(test)]
 mod page_rows;
 #[cfg(test)]
 mod sets;

@@ -40,24 +40,20 @@ fn sets_of_two(rt: HostRuntime) {
     assert!(rt; one != low);
 }
 
+// A range that begins within a word and ends within another, seen word by word, and one word of it written.
 #[test]
-fn subpages_with_a_count(rt: HostRuntime) {
-    let mut counts = [0; 512];
-    counts[0] = 7;
-    counts[63] = 7;
-    counts[64] = 7;
-    counts[200] = 7;
-    counts[511] = 7;
-    let sevens = SubSet::with_count(&counts, 0, 512, 7);
-    let ends = SubSet::range(0, 1).union(SubSet::range(511, 1));
-    let inner = SubSet::range(63, 2).union(SubSet::range(200, 1));
-    assert!(rt; sevens == ends.union(inner));
-    assert!(rt; SubSet::with_count(&counts, 0, 512, 0) == SubSet::full(9).difference(sevens));
-    assert!(rt; SubSet::with_count(&counts, 1, 510, 7) == inner);
-    assert!(rt; SubSet::with_count(&counts, 64, 1, 7) == SubSet::range(64, 1));
-    assert!(rt; SubSet::with_count(&counts, 70, 10, 0) == SubSet::range(70, 10));
-    assert!(rt; SubSet::with_count(&counts, 65, 135, 7).is_empty());
-    assert!(rt; SubSet::with_count(&counts, 512, 0, 7).is_empty());
+fn sets_word_by_word(rt: HostRuntime) {
+    let range = SubSet::range(60, 70);
+    assert!(rt; range.word(0) == 0xf000_0000_0000_0000);
+    assert!(rt; range.word(1) == u64::MAX);
+    assert!(rt; range.word(2) == 3);
+    assert!(rt; range.word(3) == 0);
+    let mut written = range;
+    written.set_word(1, 0);
+    assert!(rt; written == SubSet::range(60, 4).union(SubSet::range(128, 2)));
+    assert!(rt; range.intersection(SubSet::range(0, 64)) == SubSet::range(60, 4));
+    assert!(rt; range.symmetric_difference(written) == SubSet::range(64, 64));
+    assert!(rt; range.symmetric_difference(range).is_empty());
 }
 
 #[test]

@@ -38,5 +38,5 @@ pub mod Requests
 pub mod WorkedRows
 pub mod WordLemmas
 mod WordMarks
-mod WordCounts
+mod WordSpans
 pub mod Narrowing

@@ -1,12 +1,12 @@
 -- Sets as words.
-use Rattle.std.proofs.Common.{◌≡◌, ◌≢◌, ℕ, suc, zero, ◌+◌, ◌-◌, ◌*◌, ◌/◌, ◌%◌, ◌^◌, ◌<◌, ◌≤◌, max, min, Bool, true, false, cond, not, ◌&&◌, ◌||◌, List, [], ◌∷◌, ◌++◌, length, map, set, get_or, refl, ap, sym, ◌∙◌, subst, arith, inl, inr, nat_eq, nat_le, nat_lt, All, eq-eqb, ne_eqb, lt-ltb}
+use Rattle.std.proofs.Common.{rules, ◌≡◌, ◌≢◌, ℕ, suc, zero, ◌+◌, ◌-◌, ◌*◌, ◌/◌, ◌%◌, ◌^◌, ◌<◌, ◌≤◌, max, min, Bool, true, false, cond, not, ◌&&◌, ◌||◌, List, [], ◌∷◌, ◌++◌, length, map, set, get_or, refl, ap, sym, ◌∙◌, subst, arith, inl, inr, nat_eq, nat_le, nat_lt, All, eq-eqb, ne_eqb, lt-ltb}
 use Rattle.std.specs.Int.{bit_at, w64}
-use Rattle.std.specs.Prelude.{bit_and, bit_or, count_ones, count_by, sum_by}
+use Rattle.std.specs.Prelude.{bit_and, bit_or, bit_xor, count_ones, count_by, sum_by, if◌then◌else◌}
 use Rattle.std.specs.List.{range_with_len}
 use Rattle.std.proofs.lemmas.List.{same_lists, length-append, get_or_append_left, get_or-append_right, length-set, get_or-set_same, get_or-set_other, get_or_default}
 use Rattle.std.proofs.lemmas.List.FromFn.{get_or-map-range_with_len}
-use Rattle.std.proofs.lemmas.Nat.Bits.{shr_and_one, bit_at_or, bit_at_set_same, bit_at_set_other, bit_at-lt, bit_at_lowest, bit_at-suc, bit_at_ones, bit_at_ones_above, bit_at_and, bit_at_not}
-use Rattle.std.proofs.lemmas.Nat.{or_lt, one_shl, pow_below, and_le_l}
+use Rattle.std.proofs.lemmas.Nat.Bits.{shr_and_one, bit_at_or, bit_at_set_same, bit_at_set_other, bit_at-lt, bit_at_lowest, bit_at-suc, bit_at_ones, bit_at_ones_above, bit_at_and, bit_at_not, bit_at_xor}
+use Rattle.std.proofs.lemmas.Nat.{or_lt, xor_lt, one_shl, pow_below, and_le_l}
 use Rattle.std.proofs.lemmas.Bool.Decides.{eqb_tells, nat_tests, same_from_decides}
 use lib.Count.{ones, ones_step}
 use Rattle.std.proofs.lemmas.List.Sums.{sum_by-append, sum_by-cons}
@@ -16,7 +16,8 @@ use Rattle.std.proofs.lemmas.Bool.{cases_lt}
 use Rattle.std.specs.Bool.{Decides}
 use Rattle.std.specs.Cmp.{booleans_Decides}
 use Rattle.std.proofs.lemmas.Slice.Eq.{slice_eq-Decides}
-use Rattle.thp_model.specs.Sets.{set_of, has, set_size, covers, same_set}
+use Rattle.thp_model.specs.Sets.{set_of, has, set_size, one_alone, some_below, same_set}
+use Rattle.thp_model.proofs.Below.{some_no, some_none}
 use Rattle.thp_model.specs.Words.{in_words, words_of, words_are, AreWords, get_or-set_of, length-set_of}
 
 -- a list of 512 truths is the set of a test that agrees with it
@@ -194,17 +195,6 @@ below_words n a b c d e f g h u v w x y z s t =
     let same : a ∷ b ∷ c ∷ d ∷ e ∷ f ∷ g ∷ h ∷ [] ≡ map (ones_below n) (range_with_len 0 8) = cc in
     ap (λ ws. set_of (in_words ws)) same ∙ below_all n
 
--- a range is what is below its end without what is below its start
-pub range_is : (first count : ℕ) → set_of (λ i. has (set_of (λ j. nat_lt j (first + count))) i && not (has (set_of (λ j. nat_lt j first)) i)) ≡ set_of (covers first count)
-range_is first count =
-    set_of-ext _ _
-    (λ i h.
-    ap (λ b. b && not (has (set_of (λ j. nat_lt j first)) i)) (get_or-set_of (λ j. nat_lt j (first + count)) i h)
-    ∙ ap (λ b. nat_lt i (first + count) && not b) (get_or-set_of (λ j. nat_lt j first) i h)
-    ∙ go i) where
-      go : (i : ℕ) → (nat_lt i (first + count) && not (nat_lt i first)) ≡ (nat_le first i && nat_lt i (first + count))
-      go i = grind (arith, nat_tests)
-
 -- the bits of the first that aren't of the second
 abbrev pub without_words : List ℕ → List ℕ → List ℕ
 without_words ws vs = map (λ k. bit_and (get_or ws k 0) (18446744073709551615 - get_or vs k 0)) (range_with_len 0 8)
@@ -234,6 +224,91 @@ without_words-set_of ws vs v =
     ∙ neither_bit _ _ (bit_at-lt (get_or ws (i / 64) 0) (i % 64)) (bit_at-lt (get_or vs (i / 64) 0) (i % 64))
     ∙ sym (ap (λ b. b && not (in_words vs i)) (get_or-set_of (in_words ws) i h))
     ∙ sym (ap (λ b. has (set_of (in_words ws)) i && not b) (get_or-set_of (in_words vs) i h)))
+
+-- the bits of both
+abbrev pub and_words : List ℕ → List ℕ → List ℕ
+and_words ws vs = map (λ k. bit_and (get_or ws k 0) (get_or vs k 0)) (range_with_len 0 8)
+
+-- they are words
+pub and_words-AreWords : (ws vs : List ℕ) → AreWords ws → AreWords (and_words ws vs)
+and_words-AreWords ws vs a = record {
+  eight = refl;
+  fit = λ k d h.
+      rw (get_or-map-range_with_len (λ k. bit_and (get_or ws k 0) (get_or vs k 0)) 0 8 k k d h (omega arith))
+      (omega (arith, and_le_l (get_or ws k 0) (get_or vs k 0), at_least ws a k 0 h));
+}
+
+-- a bit of both
+common_bit : (a b : ℕ) → a < 2 → b < 2 → nat_eq (min a b) 1 ≡ (nat_eq a 1 && nat_eq b 1)
+common_bit a b f g = grind (arith, nat_tests)
+
+-- they are the set of the numbers of both
+pub and_words-set_of : (ws vs : List ℕ) → set_of (in_words (and_words ws vs)) ≡ set_of (λ i. has (set_of (in_words ws)) i && has (set_of (in_words vs)) i)
+unfolding in_words
+and_words-set_of ws vs =
+    set_of-ext _ _
+    (λ i h.
+    ap (λ x. nat_eq (bit_at x (i % 64)) 1) (get_or-map-range_with_len (λ k. bit_and (get_or ws k 0) (get_or vs k 0)) 0 8 (i / 64) (i / 64) 0 (omega arith) (omega arith))
+    ∙ ap (λ n. nat_eq n 1) (bit_at_and (get_or ws (i / 64) 0) (get_or vs (i / 64) 0) (i % 64))
+    ∙ common_bit _ _ (bit_at-lt (get_or ws (i / 64) 0) (i % 64)) (bit_at-lt (get_or vs (i / 64) 0) (i % 64))
+    ∙ sym (ap (λ b. b && in_words vs i) (get_or-set_of (in_words ws) i h))
+    ∙ sym (ap (λ b. has (set_of (in_words ws)) i && b) (get_or-set_of (in_words vs) i h)))
+
+-- the bits of one alone
+abbrev pub xor_words : List ℕ → List ℕ → List ℕ
+xor_words ws vs = map (λ k. bit_xor (get_or ws k 0) (get_or vs k 0)) (range_with_len 0 8)
+
+-- they are words
+pub xor_words-AreWords : (ws vs : List ℕ) → AreWords ws → AreWords vs → AreWords (xor_words ws vs)
+xor_words-AreWords ws vs a b = record {
+  eight = refl;
+  fit = λ k d h.
+      rw (get_or-map-range_with_len (λ k. bit_xor (get_or ws k 0) (get_or vs k 0)) 0 8 k k d h (omega arith)) (xor_lt 64 _ _ (at_least ws a k 0 h) (at_least vs b k 0 h));
+}
+
+-- a bit of one alone
+odd_bit : (a b : ℕ) → a < 2 → b < 2 → nat_eq ((a + b) % 2) 1 ≡ one_alone (nat_eq a 1) (nat_eq b 1)
+odd_bit zero zero f g = refl
+odd_bit zero (suc zero) f g = refl
+odd_bit (suc zero) zero f g = refl
+odd_bit (suc zero) (suc zero) f g = refl
+odd_bit (suc (suc a)) b f g = absurd (omega arith)
+odd_bit a (suc (suc b)) f g = absurd (omega arith)
+
+-- they are the set of the numbers of one alone
+pub xor_words-set_of : (ws vs : List ℕ) → set_of (in_words (xor_words ws vs)) ≡ set_of (λ i. one_alone (has (set_of (in_words ws)) i) (has (set_of (in_words vs)) i))
+unfolding in_words
+xor_words-set_of ws vs =
+    set_of-ext _ _
+    (λ i h.
+    ap (λ x. nat_eq (bit_at x (i % 64)) 1) (get_or-map-range_with_len (λ k. bit_xor (get_or ws k 0) (get_or vs k 0)) 0 8 (i / 64) (i / 64) 0 (omega arith) (omega arith))
+    ∙ ap (λ n. nat_eq n 1) (bit_at_xor (get_or ws (i / 64) 0) (get_or vs (i / 64) 0) (i % 64))
+    ∙ odd_bit _ _ (bit_at-lt (get_or ws (i / 64) 0) (i % 64)) (bit_at-lt (get_or vs (i / 64) 0) (i % 64))
+    ∙ sym (ap (λ b. one_alone b (in_words vs i)) (get_or-set_of (in_words ws) i h))
+    ∙ sym (ap (λ b. one_alone (has (set_of (in_words ws)) i) b) (get_or-set_of (in_words vs) i h)))
+
+-- what a word tells of its numbers
+pub word_tells : (ws : List ℕ) (t : List Bool) (k i : ℕ) → set_of (in_words ws) ≡ t → k < 8 → i / 64 ≡ k → nat_eq (bit_at (get_or ws k 0) (i % 64)) 1 ≡ has t i
+unfolding in_words
+word_tells ws t k i e h at =
+    ap (λ q. nat_eq (bit_at (get_or ws q 0) (i % 64)) 1) (sym at) ∙ sym (get_or-set_of (in_words ws) i (omega arith)) ∙ ap (λ s. has s i) e
+
+-- a word written tells its numbers, and the others are as they were
+pub word_written : (ws : List ℕ) (t : List Bool) (k w : ℕ) → set_of (in_words ws) ≡ t → length ws ≡ 8 → k < 8 →
+    set_of (in_words (set ws k w)) ≡ set_of (λ i. if nat_eq (i / 64) k then nat_eq (bit_at w (i % 64)) 1 else has t i)
+unfolding in_words
+word_written ws t k w e eight h =
+    set_of-ext _ _
+    (λ i below.
+    elim (eqb_tells (i / 64) k) [
+      | inl y ↦
+          ap (λ x. nat_eq (bit_at x (i % 64)) 1) (ap (λ q. get_or (set ws k w) q 0) y.1 ∙ get_or-set_same ws k w 0 (omega arith))
+          ∙ sym (ap (λ b. if b then nat_eq (bit_at w (i % 64)) 1 else has t i) y.0)
+      | inr y ↦
+          ap (λ x. nat_eq (bit_at x (i % 64)) 1) (get_or-set_other ws k (i / 64) w 0 y.1)
+          ∙ sym (get_or-set_of (in_words ws) i below) ∙ ap (λ s. has s i) e
+          ∙ sym (ap (λ b. if b then nat_eq (bit_at w (i % 64)) 1 else has t i) y.0)
+    ])
 
 -- the lowest n bits of a word
 bits_from : ℕ → ℕ → List Bool
@@ -327,3 +402,25 @@ same_words ws vs s t e f a b r d =
       λ same. d.1 (sym (words_back ws s e a) ∙ ap words_of same ∙ words_back vs t f b),
     )
     (same_set-Decides s t)
+
+-- eight empty words
+zeros_AreWords : AreWords (0 ∷ 0 ∷ 0 ∷ 0 ∷ 0 ∷ 0 ∷ 0 ∷ 0 ∷ [])
+zeros_AreWords = search rules
+
+-- a test for eight empty words is one for the empty set
+pub same_none : (ws : List ℕ) (t : List Bool) → set_of (in_words ws) ≡ t → AreWords ws → (r : Bool) → Decides r (ws ≡ 0 ∷ 0 ∷ 0 ∷ 0 ∷ 0 ∷ 0 ∷ 0 ∷ 0 ∷ []) → r ≡ same_set t (set_of (λ i. false))
+same_none ws t e a r d = same_words ws (0 ∷ 0 ∷ 0 ∷ 0 ∷ 0 ∷ 0 ∷ 0 ∷ 0 ∷ []) t (set_of (λ i. false)) e none_set a zeros_AreWords r d
+
+-- a set that no test finds a number in is the empty one
+pub empty_has_none : (ws : List ℕ) (t : List Bool) (r : Bool) → set_of (in_words ws) ≡ t → r ≡ same_set t (set_of (λ i. false)) → r ≡ not (some_below 512 (has t))
+empty_has_none ws t r e tells =
+    same_from_decides {P = t ≡ set_of (λ i. false)} r (not (some_below 512 (has t))) (
+      λ y. (same_set-Decides t (set_of (λ i. false))).0 (sym tells ∙ y),
+      λ same. tells ∙ (same_set-Decides t (set_of (λ i. false))).1 same,
+    ) (
+      λ y. set_of_is t (λ i. false) (sym (ap length e) ∙ length-set_of (in_words ws)) (some_none 512 (has t) (flipped (some_below 512 (has t)) y)),
+      λ same. ap not (some_no 512 (has t) (λ i below. ap (λ s. has s i) same ∙ get_or-set_of (λ j. false) i below)),
+    ) where
+      flipped : (b : Bool) → not b ≡ true → b ≡ false
+      flipped true f = sym f
+      flipped false f = refl

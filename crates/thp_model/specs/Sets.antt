@@ -1,5 +1,5 @@
 -- Sets of subpages, as lists of 512 truth values: subpage i is in the set where the i-th is true.
-use Rattle.std.specs.Prelude.{ℕ, zero, suc, Bool, false, ◌&&◌, ◌+◌, nat_le, nat_lt, cond, List, map, slice_index_or}
+use Rattle.std.specs.Prelude.{ℕ, zero, suc, Bool, false, not, ◌&&◌, ◌||◌, ◌+◌, nat_le, nat_lt, cond, List, map, slice_index_or}
 use Rattle.std.specs.List.{range_with_len, count_by, list_any, list_all}
 use Rattle.std.specs.Cmp.{IsEquivalence, IsPartialEquivalence, bool_eq_equiv, partial_equiv_from_equiv}
 use Rattle.std.specs.Cmp.Lexicographic.{pointwise}
@@ -22,6 +22,10 @@ set_size set = count_by (λ b. b) set
 -- the range of `count` subpages from `first` on covers i
 abbrev pub covers : ℕ → ℕ → ℕ → Bool
 covers first count i = nat_le first i && nat_lt i (first + count)
+
+-- one of two truths holds without the other
+abbrev pub one_alone : Bool → Bool → Bool
+one_alone a b = (a && not b) || (b && not a)
 
 -- some number below n passes the test
 unfoldable pub some_below : ℕ → (ℕ → Bool) → Bool

@@ -1,12 +1,11 @@
 //! A set of subpages of one page.
-ghost use Rattle.std.specs.Prelude.{◌≡◌, ℕ, ◌+◌, ◌-◌, ◌*◌, ◌^◌, ◌<◌, ◌≤◌, not, ◌&&◌, ◌||◌, IsTrue, ◌↔◌, min, nat_eq, nat_lt, slice_index, slice_set, length, true, false, if◌then◌else◌};
+ghost use Rattle.std.specs.Prelude.{◌≡◌, ℕ, ◌+◌, ◌-◌, ◌*◌, ◌/◌, ◌%◌, ◌^◌, ◌<◌, ◌≤◌, not, ◌&&◌, ◌||◌, IsTrue, ◌↔◌, min, nat_eq, nat_lt, slice_set, length, true, false, if◌then◌else◌};
 ghost use Rattle.std.specs.Int.{bit_at};
 ghost use Rattle.thp_model.specs.Limits.{max_order, max_subpages};
-ghost use Rattle.thp_model.specs.Sets.{has, set_of, set_size, covers, same_set, same_set-equiv, same_set-partial_equiv};
+ghost use Rattle.thp_model.specs.Sets.{has, set_of, set_size, covers, one_alone, some_below, same_set, same_set-equiv, same_set-partial_equiv};
 
 use crate::limits::MAX_SUBPAGES;
 use std::marker::Model;
-use std::simd::prelude::*;
 
 /// A set of subpages: numbers below 512, which contracts see as a list of 512 truth values.
 #[derive(Clone, Copy, Debug)]
@@ -69,14 +68,6 @@ impl SubSet {
         requires { first + count ≤ max_subpages }
         ensures { result ≡ set_of (covers first count) }
     {
-        SubSet::below(first + count).difference(SubSet::below(first))
-    }
-
-    /// Of the `count` subpages from `first` on, those whose map count is `n`.
-    pub fn with_count(counts: &[u16; MAX_SUBPAGES], first: u32, count: u32, n: u16) -> SubSet
-        requires { first + count ≤ max_subpages }
-        ensures { result ≡ set_of (λ i. covers first count i && nat_eq (slice_index counts.now i) n) }
-    {
         if count == 0 {
             return SubSet::empty();
         }
@@ -84,7 +75,7 @@ impl SubSet {
         let (start, last) = (first / 64, (end - 1) / 64);
         let mut words = [0; 8];
         for k in start..last + 1 {
-            words[k as usize] = equal_bits(counts, k, n);
+            words[k as usize] = u64::MAX;
         }
         // no word between the first and the last has a subpage outside the range
         words[start as usize] &= !word_below(first, start);
@@ -94,9 +85,10 @@ impl SubSet {
 
     /// Whether the set has no subpage.
     pub fn is_empty(&self) -> bool
-        ensures { IsTrue result ↔ (self.now ≡ set_of (λ i. false)) }
+        ensures empty { IsTrue result ↔ (self.now ≡ set_of (λ i. false)) }
+        ensures none { result ≡ not (some_below max_subpages (has self.now)) }
     {
-        *self == SubSet::empty()
+        self.words == [0; 8]
     }
 
     /// Whether subpage `i` is in the set.
@@ -153,6 +145,60 @@ impl SubSet {
                 a[7] & !b[7],
             ],
         }
+    }
+
+    /// The subpages of both sets.
+    pub fn intersection(self, other: SubSet) -> SubSet
+        ensures { result ≡ set_of (λ i. has self i && has other i) }
+    {
+        let (a, b) = (self.words, other.words);
+        SubSet {
+            words: [
+                a[0] & b[0],
+                a[1] & b[1],
+                a[2] & b[2],
+                a[3] & b[3],
+                a[4] & b[4],
+                a[5] & b[5],
+                a[6] & b[6],
+                a[7] & b[7],
+            ],
+        }
+    }
+
+    /// The subpages of one of the sets that aren't in the other.
+    pub fn symmetric_difference(self, other: SubSet) -> SubSet
+        ensures { result ≡ set_of (λ i. one_alone (has self i) (has other i)) }
+    {
+        let (a, b) = (self.words, other.words);
+        SubSet {
+            words: [
+                a[0] ^ b[0],
+                a[1] ^ b[1],
+                a[2] ^ b[2],
+                a[3] ^ b[3],
+                a[4] ^ b[4],
+                a[5] ^ b[5],
+                a[6] ^ b[6],
+                a[7] ^ b[7],
+            ],
+        }
+    }
+
+    /// Which of the 64 subpages from `64 * at` on are in the set: bit k is set where subpage `64 * at + k` is.
+    pub fn word(&self, at: usize) -> u64
+        requires { at < 8 }
+        ensures { (i : ℕ) → i / 64 ≡ at → nat_eq (bit_at result (i % 64)) 1 ≡ has self.now i }
+    {
+        self.words[at]
+    }
+
+    /// Puts those of the 64 subpages from `64 * at` on into the set whose bits are set, and takes the others of them out.
+    pub fn set_word(&mut self, at: usize, word: u64)
+        requires { at < 8 }
+        ensures { self.new ≡ set_of (λ i. if nat_eq (i / 64) at then nat_eq (bit_at word (i % 64)) 1 else has self.old i) }
+    {
+        self.words[at] = word;
     }
 
     /// How many subpages the set has.
@@ -235,16 +281,6 @@ fn marks(word: u64, is_in: bool) -> u64
     ensures { result ≡ (if is_in then word else 18446744073709551615 - word) }
 {
     if is_in { word } else { !word }
-}
-
-// word k of the set of the numbers whose count is n, by one compare of 64 counts
-fn equal_bits(counts: &[u16; MAX_SUBPAGES], k: u32, n: u16) -> u64
-    requires { k < 8 }
-    ensures { (r : ℕ) → r < 64 → (nat_eq (bit_at result r) 1) ≡ nat_eq (slice_index counts.now (64 * k + r)) n }
-{
-    u16x64::from_slice(&counts[64 * k as usize..])
-        .simd_eq(u16x64::splat(n))
-        .to_bitmask()
 }
 
 // word k of the set of the numbers below n: so many ones

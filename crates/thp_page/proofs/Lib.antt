@@ -1,12 +1,11 @@
 pub mod SomeBelow
 pub mod SubSets
 pub mod RangeLemmas
-pub mod RangeCounts
 pub mod PageSizes
 pub mod PageRefusals
 pub mod PageChanges
 pub mod PageUse
-pub mod MappedCounts
+pub mod Behind
 pub mod ZeroSets
 pub mod Chains
 pub mod Buckets

@@ -1,5 +1,5 @@
 -- What the calls of a page make of it.
-use Rattle.std.proofs.Common.{◌≡◌, ℕ, zero, suc, ◌+◌, ◌^◌, ◌<◌, ◌≤◌, Bool, true, false, ◌&&◌, cond, nat_lt, replicate, get_or, None, refl, ap, ap₂, sym, ◌∙◌, arith, lt-ltb}
+use Rattle.std.proofs.Common.{◌≡◌, ℕ, zero, suc, ◌+◌, ◌^◌, ◌<◌, ◌≤◌, Bool, true, false, ◌&&◌, cond, nat_lt, replicate, get_or, None, refl, ap, ap₂, sym, ◌∙◌, arith, lt-ltb, subst, List}
 use Rattle.thp_model.specs.Sets.{covers, has, set_of}
 use Rattle.thp_model.specs.Words.{get_or-set_of}
 use Rattle.thp_model.specs.Refusals.{most}
@@ -7,7 +7,7 @@ use Rattle.thp_model.specs.Refusals as call
 use Rattle.thp_model.specs.Pages.{PageState, size, own_at, total_at, has_use, partly_after, zero_set, page_refusal, IsPage, IsFresh, KeepsCounts, WholeMapped, WholeUnmapped, RangeMapped, RangeUnmapped, PmdSplit, Pinned, PageSplit}
 use Rattle.thp_page.specs.Fresh.{fresh_page}
 use Rattle.thp_page.specs.declared.page.Page.TheInside.{Inside}
-use Rattle.thp_page.specs.PageView.{state_of, IsKept}
+use Rattle.thp_page.specs.PageView.{state_of, IsKept, NothingBehind}
 use Rattle.thp_page.proofs.SubSets.{set_of-ext}
 use Rattle.thp_page.proofs.PageSizes.{same_size, size_most}
 use Rattle.thp_page.proofs.PageRefusals.{map_whole_allowed, unmap_whole_allowed, map_sub_allowed, split_pmd_allowed, pin_allowed, unpin_allowed}
@@ -185,7 +185,7 @@ pub kept_partly : (p : Inside) (b : Bool) → IsKept p → IsKept (record p { pa
 unfolding size
 kept_partly p b k = record {
   page = IsPage-partly (state_of p) b k.page;
-  mapped = k.mapped;
+  behind = k.behind;
   zero_inside = k.zero_inside;
 }
 
@@ -203,3 +203,14 @@ zero_inside-fresh_page order = zero_inside-test (fresh_page order) (λ i. nat_lt
   twice : (b : Bool) → b ≡ (b && b)
   twice true = refl
   twice false = refl
+
+-- a new page with the counts and the set that the code makes
+pub fresh_made : (order : ℕ) (own : List ℕ) (all : List Bool) → own ≡ replicate 512 0 → all ≡ set_of (λ i. nat_lt i (2 ^ order)) → record (fresh_page order) { own = own; zero = all } ≡ fresh_page order
+fresh_made order own all e f = ap₂ (λ (o : List ℕ) (z : List Bool). record (fresh_page order) { own = o; zero = z }) e f
+
+pub fresh_kept : (order : ℕ) (p : Inside) → 2 ≤ order → order ≤ 9 → state_of p ≡ fresh_page order → IsKept p
+fresh_kept order p least most same = record {
+  page = subst (λ (t : PageState). IsPage t) (sym same) (IsPage-fresh_page order least most);
+  behind = subst (λ (t : PageState). NothingBehind t) (sym same) (λ i above short. (fresh_page_is_fresh order most).own i);
+  zero_inside = subst (λ (t : PageState). t.zero ≡ zero_set t) (sym same) (zero_inside-fresh_page order);
+}

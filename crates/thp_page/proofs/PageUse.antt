@@ -2,15 +2,14 @@
 use Rattle.std.proofs.Common.{◌≡◌, ◌≢◌, ℕ, ◌+◌, ◌^◌, ◌<◌, ◌≤◌, Bool, true, false, not, ◌&&◌, ◌||◌, cond, nat_eq, nat_lt, List, refl, ap, ap₂, sym, ◌∙◌, arith, inl, inr}
 use Rattle.std.proofs.lemmas.Bool.Decides.{nat_tests}
 use Rattle.std.proofs.lemmas.Bool.{cases_lt}
-use Rattle.thp_model.specs.Sets.{covers, set_of, has, count_below}
+use Rattle.thp_model.specs.Sets.{covers, set_of, has, some_below}
 use Rattle.thp_model.specs.Words.{get_or-set_of}
 use Rattle.thp_model.specs.Pages.{PageState, size, own_at, total_at, holds, used_set, has_use, drops_use, gives_frames, zero_at, zero_set, WholeUnmapped, RangeUnmapped, PageSplit, Pinned}
 use Rattle.thp_page.specs.Changes.{IsChange, split_set}
-use Rattle.thp_page.specs.PageView.{mapped_count}
-use Rattle.thp_page.specs.Ranges.{count_in_range}
+use Rattle.thp_page.specs.PageView.{NothingBehind}
+use Rattle.thp_planes.specs.Ranges.{some_count}
 use Rattle.thp_model.proofs.Below.{some_yes, some_no, some_below-ext}
-use Rattle.thp_page.proofs.RangeCounts.{some_below-count}
-use Rattle.thp_page.proofs.MappedCounts.{mapped_or_not}
+use Rattle.thp_page.proofs.Behind.{mapped_inside}
 use Rattle.thp_page.proofs.SubSets.{set_of-ext}
 use Rattle.thp_page.proofs.PageSizes.{size_least, size_most, range_test, same_size}
 
@@ -22,25 +21,19 @@ has_use-mapped t least mapped =
       go w x h = grind (arith, nat_tests)
 
 -- another is where a subpage has a mapping of its own
-pub has_use-unmapped : (t : PageState) → t.whole ≡ 0 → has_use t ≡ nat_lt 0 (mapped_count t)
+pub has_use-unmapped : (t : PageState) → t.whole ≡ 0 → has_use t ≡ some_below (size t) (λ i. nat_lt 0 (own_at t i))
 has_use-unmapped t unmapped =
-    some_below-ext (size t) (λ i. nat_lt 0 (total_at t i)) (λ i. nat_lt 0 (own_at t i)) (λ i below. go t.whole (own_at t i) unmapped)
-    ∙ some_below-count (size t) (λ i. nat_lt 0 (own_at t i)) where
+    some_below-ext (size t) (λ i. nat_lt 0 (total_at t i)) (λ i. nat_lt 0 (own_at t i)) (λ i below. go t.whole (own_at t i) unmapped) where
       go : (w x : ℕ) → w ≡ 0 → nat_lt 0 (w + x) ≡ nat_lt 0 x
       go w x h = grind (arith, nat_tests)
 
 -- the last whole mapping goes: a subpage goes out of use where not each has a mapping of its own
-pub drops_use-last : (t u : PageState) → WholeUnmapped t u → t.whole ≡ 1 → drops_use t u ≡ nat_lt (mapped_count t) (size t)
+pub drops_use-last : (t u : PageState) → WholeUnmapped t u → t.whole ≡ 1 → drops_use t u ≡ some_below (size t) (λ i. nat_eq (own_at t i) 0)
 drops_use-last t u r last =
     some_below-ext (size t) (λ i. nat_lt 0 (total_at t i) && nat_eq (total_at u i) 0) (λ i. nat_eq (own_at t i) 0)
-    (λ i below. go t.whole u.whole (own_at t i) (own_at u i) last r.whole (sym (r.own i below)))
-    ∙ some_below-count (size t) (λ i. nat_eq (own_at t i) 0)
-    ∙ rest (count_below (size t) (λ i. nat_eq (own_at t i) 0)) (mapped_count t) (size t) (mapped_or_not t) where
+    (λ i below. go t.whole u.whole (own_at t i) (own_at u i) last r.whole (sym (r.own i below))) where
       go : (w v x y : ℕ) → w ≡ 1 → w ≡ v + 1 → x ≡ y → (nat_lt 0 (w + x) && nat_eq (v + y) 0) ≡ nat_eq x 0
       go w v x y e f g = grind (arith, nat_tests)
-
-      rest : (m k n : ℕ) → n ≡ k + m → nat_lt 0 m ≡ nat_lt k n
-      rest m k n e = grind (arith, nat_tests)
 
 -- a whole mapping is left: no subpage goes out of use
 pub drops_use-mapped : (t u : PageState) → 0 < u.whole → drops_use t u ≡ false
@@ -51,12 +44,11 @@ drops_use-mapped t u mapped =
 
 -- no whole mapping, and one mapping of each subpage of a range goes: those that had just one go out of use
 pub drops_use-range : (t u : PageState) (first count : ℕ) → t.order ≤ 9 → RangeUnmapped first count t u → first + count ≤ size t → t.whole ≡ 0 →
-    drops_use t u ≡ nat_lt 0 (count_in_range t.own first count (λ x. nat_eq x 1))
+    drops_use t u ≡ some_count t.own first count (λ x. nat_eq x 1)
 drops_use-range t u first count most r inside unmapped =
     some_below-ext (size t) (λ i. nat_lt 0 (total_at t i) && nat_eq (total_at u i) 0) (λ i. covers first count i && nat_eq (own_at t i) 1)
     (λ i below. go t.whole u.whole (own_at t i) (own_at u i) (covers first count i) unmapped (sym r.whole) (r.own i below))
-    ∙ range_test (size t) first count (λ i. nat_eq (own_at t i) 1) inside (size_most t most)
-    ∙ some_below-count 512 (λ i. covers first count i && nat_eq (own_at t i) 1) where
+    ∙ range_test (size t) first count (λ i. nat_eq (own_at t i) 1) inside (size_most t most) where
       go : (w v x y : ℕ) (b : Bool) → w ≡ 0 → w ≡ v → x ≡ y + cond b 1 0 → (nat_lt 0 (w + x) && nat_eq (v + y) 0) ≡ (b && nat_eq x 1)
       go w v x y true e f g = grind (arith, nat_tests)
       go w v x y false e f g = grind (arith, nat_tests)
@@ -145,13 +137,28 @@ split_set-zeros t unused is inside =
       go true false z e = refl
       go false b z e = e
 
+-- the subpages of a range that have no mapping of their own
+pub bare_set : (t : PageState) (first count : ℕ) (range mapped : List Bool) → range ≡ set_of (covers first count) → mapped ≡ set_of (λ i. nat_lt 0 (own_at t i)) →
+    set_of (λ i. has range i && not (has mapped i)) ≡ set_of (λ i. covers first count i && nat_eq (own_at t i) 0)
+bare_set t first count range mapped e f =
+    set_of-ext (λ i. has range i && not (has mapped i)) (λ i. covers first count i && nat_eq (own_at t i) 0)
+    (λ i short.
+    ap₂ (λ a b. a && not b) (ap (λ s. has s i) e ∙ get_or-set_of (covers first count) i short) (ap (λ s. has s i) f ∙ get_or-set_of (λ j. nat_lt 0 (own_at t j)) i short)
+    ∙ go (covers first count i) (own_at t i)) where
+      go : (b : Bool) (x : ℕ) → (b && not (nat_lt 0 x)) ≡ (b && nat_eq x 0)
+      go b x = grind (arith, nat_tests)
+
 -- the subpages that aren't in use: those without mappings of their own where the page isn't mapped whole, else none
-pub unused_set-unmapped : (t : PageState) (n : ℕ) → n ≡ size t → t.whole ≡ 0 → set_of (λ i. covers 0 n i && nat_eq (own_at t i) 0) ≡ unused_set t
-unused_set-unmapped t n long unmapped =
-    set_of-ext (λ i. covers 0 n i && nat_eq (own_at t i) 0) (λ i. nat_lt i (size t) && not (nat_lt 0 (total_at t i)))
-    (λ i short. go i n (size t) t.whole (own_at t i) long unmapped) where
-      go : (i n m w x : ℕ) → n ≡ m → w ≡ 0 → (covers 0 n i && nat_eq x 0) ≡ (nat_lt i m && not (nat_lt 0 (w + x)))
-      go i n m w x long e = grind (arith, nat_tests)
+pub unused_set-unmapped : (t : PageState) (all mapped : List Bool) → t.whole ≡ 0 → all ≡ set_of (λ i. nat_lt i (2 ^ t.order)) → mapped ≡ set_of (λ i. nat_lt 0 (own_at t i)) →
+    set_of (λ i. has all i && not (has mapped i)) ≡ unused_set t
+unfolding size
+unused_set-unmapped t all mapped unmapped e f =
+    set_of-ext (λ i. has all i && not (has mapped i)) (λ i. nat_lt i (size t) && not (nat_lt 0 (total_at t i)))
+    (λ i short.
+    ap₂ (λ a b. a && not b) (ap (λ s. has s i) e ∙ get_or-set_of (λ j. nat_lt j (2 ^ t.order)) i short) (ap (λ s. has s i) f ∙ get_or-set_of (λ j. nat_lt 0 (own_at t j)) i short)
+    ∙ go (nat_lt i (2 ^ t.order)) t.whole (own_at t i) unmapped) where
+      go : (b : Bool) (w x : ℕ) → w ≡ 0 → (b && not (nat_lt 0 x)) ≡ (b && not (nat_lt 0 (w + x)))
+      go b w x e = grind (arith, nat_tests)
 
 pub unused_set-mapped : (t : PageState) → t.whole ≢ 0 → set_of (λ i. false) ≡ unused_set t
 unused_set-mapped t mapped =
@@ -168,17 +175,13 @@ used_set-mapped t mapped =
       go b w x h = grind (arith, nat_tests)
 
 -- the subpages of another page that are in use are those that have a mapping of their own
-pub used_set-unmapped : (t : PageState) (n : ℕ) (all bare : List Bool) → n ≡ size t → t.whole ≡ 0 → all ≡ set_of (λ i. nat_lt i (2 ^ t.order)) →
-    bare ≡ set_of (λ i. covers 0 n i && nat_eq (own_at t i) 0) → set_of (λ i. has all i && not (has bare i)) ≡ used_set t
-unfolding size
-used_set-unmapped t n all bare long unmapped e f =
-    set_of-ext (λ i. has all i && not (has bare i)) (λ i. nat_lt i (size t) && nat_lt 0 (total_at t i))
-    (λ i below.
-    ap₂ (λ a b. a && not b) (ap (λ s. has s i) e ∙ get_or-set_of (λ j. nat_lt j (2 ^ t.order)) i below)
-    (ap (λ s. has s i) f ∙ get_or-set_of (λ j. covers 0 n j && nat_eq (own_at t j) 0) i below)
-    ∙ go i n (2 ^ t.order) t.whole (own_at t i) long unmapped) where
-      go : (i n m w x : ℕ) → n ≡ m → w ≡ 0 → (nat_lt i m && not (covers 0 n i && nat_eq x 0)) ≡ (nat_lt i m && nat_lt 0 (w + x))
-      go i n m w x long e = grind (arith, nat_tests)
+pub used_set-unmapped : (t : PageState) (mapped : List Bool) → NothingBehind t → t.whole ≡ 0 → mapped ≡ set_of (λ i. nat_lt 0 (own_at t i)) → mapped ≡ used_set t
+used_set-unmapped t mapped none unmapped e =
+    e
+    ∙ set_of-ext (λ i. nat_lt 0 (own_at t i)) (λ i. nat_lt i (size t) && nat_lt 0 (total_at t i))
+    (λ i short. mapped_inside t i none short ∙ go (nat_lt i (size t)) t.whole (own_at t i) unmapped) where
+      go : (b : Bool) (w x : ℕ) → w ≡ 0 → (b && nat_lt 0 x) ≡ (b && nat_lt 0 (w + x))
+      go b w x e = grind (arith, nat_tests)
 
 same_sizes : (a b : PageState) → a.order ≡ b.order → size a ≡ size b
 unfolding size

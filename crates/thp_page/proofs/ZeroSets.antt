@@ -1,17 +1,13 @@
 -- The zero-filled subpages of a page, as a set.
-use Rattle.std.proofs.Common.{◌≡◌, ℕ, ◌+◌, ◌-◌, ◌≤◌, ◌<◌, ◌^◌, Bool, true, false, not, ◌&&◌, ◌||◌, cond, nat_eq, nat_lt, IsTrue, List, refl, ap, ap₂, sym, ◌∙◌, arith, inl, inr}
-use Rattle.std.specs.Prelude.{◌↔◌}
+use Rattle.std.proofs.Common.{◌≡◌, ℕ, ◌+◌, ◌-◌, ◌≤◌, ◌<◌, ◌^◌, Bool, true, false, not, ◌&&◌, ◌||◌, cond, nat_eq, nat_lt, List, refl, ap, ap₂, sym, ◌∙◌, arith}
 use Rattle.std.proofs.lemmas.Bool.Decides.{nat_tests}
-use Rattle.std.proofs.lemmas.Bool.{cases_lt}
 use Rattle.thp_model.specs.Sets.{covers, set_of, has, set_size, some_below, count_below}
 use Rattle.thp_model.specs.Words.{get_or-set_of}
 use Rattle.thp_model.specs.Pages.{PageState, size, own_at, zero_at, holds, zero_set, zero_count, some_in_range, RangeWritten, RangeZeroed}
-use Rattle.thp_model.proofs.Below.{some_no, some_none}
-use Rattle.thp_model.proofs.SumsBelow.{set_size-set_of, sum_below-stop}
-use Rattle.thp_page.proofs.SubSets.{set_of-ext}
+use Rattle.thp_model.proofs.Below.{some_no, some_none, some_below-ext}
+use Rattle.thp_model.proofs.SumsBelow.{set_size-set_of, sum_below-ext, sum_below-stop}
 use Rattle.thp_page.proofs.SomeBelow.{same_if_false}
-use Rattle.thp_page.proofs.RangeCounts.{count_below-ext}
-use Rattle.thp_page.proofs.PageSizes.{size_most}
+use Rattle.thp_page.proofs.PageSizes.{size_most, range_test}
 use Rattle.thp_page.proofs.RangeLemmas.{covers_true}
 use Rattle.thp_page.proofs.PageChanges.{zero_inside-test}
 
@@ -21,7 +17,7 @@ set_size-zeros t most inside =
     ap set_size inside ∙ set_size-set_of (λ i. nat_lt i (size t) && zero_at t i)
     ∙ ap (λ m. count_below m (λ i. nat_lt i (size t) && zero_at t i)) (back (size t) (size_most t most))
     ∙ sum_below-stop (512 - size t) (size t) (λ i. cond (nat_lt i (size t) && zero_at t i) 1 0) (λ i above. behind i (size t) (zero_at t i) above)
-    ∙ count_below-ext (size t) (λ i. nat_lt i (size t) && zero_at t i) (zero_at t) (λ i below. there i (size t) (zero_at t i) below) where
+    ∙ sum_below-ext (size t) (λ i. cond (nat_lt i (size t) && zero_at t i) 1 0) (λ i. cond (zero_at t i) 1 0) (λ i below. ap (λ b. cond b 1 0) (there i (size t) (zero_at t i) below)) where
       back : (n : ℕ) → n ≤ 512 → 512 ≡ 512 - n + n
       back n h = omega arith
 
@@ -31,49 +27,26 @@ set_size-zeros t most inside =
       there : (i n : ℕ) (b : Bool) → i < n → (nat_lt i n && b) ≡ b
       there i n b h = grind (arith, nat_tests)
 
--- a subpage of a range is zero-filled where taking the others out leaves one
-pub some_zero : (t : PageState) (first count : ℕ) (range others rest : List Bool) (empty : Bool) → first + count ≤ size t → size t ≤ 512 →
-    range ≡ set_of (covers first count) → others ≡ set_of (λ i. has t.zero i && not (has range i)) → rest ≡ set_of (λ i. has t.zero i && not (has others i)) →
-    (IsTrue empty ↔ (rest ≡ set_of (λ i. false))) → not empty ≡ some_in_range t first count (zero_at t)
-some_zero t first count range others rest empty inside most is_range is_others is_rest told =
-    by empty told where
-      -- what is left at i
-      left : (i : ℕ) → i < 512 → has rest i ≡ (covers first count i && zero_at t i)
-      left i short =
-          ap (λ s. has s i) is_rest ∙ get_or-set_of (λ j. has t.zero j && not (has others j)) i short
-          ∙ ap (λ b. zero_at t i && not b) (ap (λ s. has s i) is_others ∙ get_or-set_of (λ j. has t.zero j && not (has range j)) i short)
-          ∙ ap (λ b. zero_at t i && not (zero_at t i && not b)) (ap (λ s. has s i) is_range ∙ get_or-set_of (covers first count) i short)
-          ∙ go (zero_at t i) (covers first count i) where
-            go : (z b : Bool) → (z && not (z && not b)) ≡ (b && z)
-            go true true = refl
-            go true false = refl
-            go false true = refl
-            go false false = refl
+-- a subpage of a range is zero-filled where the range has one in common with them
+pub some_zero : (t : PageState) (first count : ℕ) (range common : List Bool) (empty : Bool) → first + count ≤ size t → size t ≤ 512 →
+    range ≡ set_of (covers first count) → common ≡ set_of (λ i. has t.zero i && has range i) → empty ≡ not (some_below 512 (has common)) → not empty ≡ some_in_range t first count (zero_at t)
+some_zero t first count range common empty inside most is_range is_common told =
+    ap not told ∙ twice (some_below 512 (has common))
+    ∙ some_below-ext 512 (has common) (λ i. covers first count i && zero_at t i)
+    (λ i short.
+    ap (λ s. has s i) is_common ∙ get_or-set_of (λ j. has t.zero j && has range j) i short
+    ∙ ap (λ b. zero_at t i && b) (ap (λ s. has s i) is_range ∙ get_or-set_of (covers first count) i short)
+    ∙ turn (zero_at t i) (covers first count i))
+    ∙ sym (range_test (size t) first count (zero_at t) inside most) where
+      twice : (b : Bool) → not (not b) ≡ b
+      twice true = refl
+      twice false = refl
 
-      none : some_in_range t first count (zero_at t) ≡ false → rest ≡ set_of (λ i. false)
-      none failing =
-          is_rest
-          ∙ set_of-ext (λ i. has t.zero i && not (has others i)) (λ i. false)
-          (λ i short.
-          sym (ap (λ s. has s i) is_rest ∙ get_or-set_of (λ j. has t.zero j && not (has others j)) i short)
-          ∙ left i short
-          ∙ elim (cases_lt i (size t)) [
-            | inl below ↦ some_none (size t) (λ j. covers first count j && zero_at t j) failing i below
-            | inr above ↦ outside i (size t) first count (zero_at t i) above inside
-          ]) where
-            outside : (i n first count : ℕ) (z : Bool) → n ≤ i → first + count ≤ n → (covers first count i && z) ≡ false
-            outside i n first count z above inside = grind (arith, nat_tests)
-
-      never : (b : Bool) → (b ≡ false → IsTrue false) → true ≡ b
-      never true f = refl
-      never false f = sym (f refl)
-
-      by : (empty : Bool) → (IsTrue empty ↔ (rest ≡ set_of (λ i. false))) → not empty ≡ some_in_range t first count (zero_at t)
-      by true told =
-          sym (some_no (size t) (λ i. covers first count i && zero_at t i)
-          (λ i below. let short : i < 512 = omega arith in
-          sym (left i short) ∙ ap (λ s. has s i) (told.0 refl) ∙ get_or-set_of (λ j. false) i short))
-      by false told = never (some_in_range t first count (zero_at t)) (λ failing. told.1 (none failing))
+      turn : (a b : Bool) → (a && b) ≡ (b && a)
+      turn true true = refl
+      turn true false = refl
+      turn false true = refl
+      turn false false = refl
 
 -- one of two tests passes somewhere where one of them does, or a third that says just that
 either : (n : ℕ) (f g h : ℕ → Bool) (a : Bool) → ((i : ℕ) → i < n → h i ≡ ((a && f i) || g i)) → ((a && some_below n f) || some_below n g) ≡ some_below n h

@@ -1,4 +1,3 @@
-pub mod Ranges
 pub mod Fresh
 pub mod PageView
 pub mod Changes

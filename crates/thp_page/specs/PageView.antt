@@ -1,6 +1,6 @@
 -- A page as contracts see it, and what its fields keep.
-use Rattle.std.specs.Prelude.{◌≡◌, ℕ, nat_lt}
-use Rattle.thp_model.specs.Sets.{count_below}
+use Rattle.std.specs.Prelude.{◌≡◌, ◌<◌, ◌≤◌, ℕ}
+use Rattle.thp_model.specs.Limits.{max_subpages}
 use Rattle.thp_model.specs.Pages.{PageState, IsPage, size, own_at, zero_set}
 use Rattle.thp_page.specs.declared.page.Page.TheInside.{Inside}
 
@@ -17,13 +17,12 @@ state_of p = record {
   gave_zero = p.gave_zero;
 }
 
--- how many subpages have a mapping of their own
-abbrev pub mapped_count : PageState → ℕ
-mapped_count t = count_below (size t) (λ i. nat_lt 0 (own_at t i))
+-- no subpage behind the page's last has a mapping of its own
+abbrev pub NothingBehind : PageState → Type 0
+NothingBehind t = (i : ℕ) → size t ≤ i → i < max_subpages → own_at t i ≡ 0
 
--- the fields stand for a page, the number beside them counts its mapped subpages, and no more than its subpages are
--- zero-filled
+-- the fields stand for a page, and nothing behind its last subpage is mapped or zero-filled
 pub record IsKept (p : Inside) : Type 0 where
   pub page : IsPage (state_of p)
-  pub mapped : p.mapped ≡ mapped_count (state_of p)
+  pub behind : NothingBehind (state_of p)
   pub zero_inside : p.zero ≡ zero_set (state_of p)

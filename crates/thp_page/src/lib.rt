@@ -2,7 +2,6 @@
 #![tactic(auto)]
 
 pub mod bridge;
-mod counts;
 mod page;
 mod page_numbers;
 mod page_table;

@@ -8,9 +8,9 @@ ghost use Rattle.thp_page.specs.Fresh.{fresh_page};
 
 mod calls;
 
-use crate::counts::{add_to_range, range_has_count, subpages_with_count};
 use std::marker::Model;
-use thp_model::{MAX_SUBPAGES, SubSet};
+use thp_model::SubSet;
+use thp_planes::MapCounts;
 
 /// What an unmap did to the use of its page.
 #[derive(Clone, Copy, PartialEq, Eq, Debug)]
@@ -57,12 +57,10 @@ pub struct Page {
     partly: bool,
     // The split gave back the frames of the zero-filled subpages too.
     gave_zero: bool,
-    // How many subpages a PTE entry maps. It saves a pass over the counts.
-    mapped: u16,
     // The zero-filled subpages.
     zero: SubSet,
     // How often a PTE entry maps each subpage. No call looks behind the page's last subpage.
-    own: [u16; MAX_SUBPAGES],
+    own: MapCounts,
 }
 
 impl Model for Page {
@@ -94,10 +92,26 @@ impl Page {
             split: false,
             partly: false,
             gave_zero: false,
-            mapped: 0,
             zero: SubSet::full(order),
-            own: [0; MAX_SUBPAGES],
+            own: MapCounts::none(),
         }
+    }
+
+    // Makes a page of another life one that was just allocated. The counts are dropped where they stand.
+    pub(crate) fn renew(&mut self, order: u32)
+        requires least { min_order ≤ order }
+        requires most { order ≤ max_order }
+        ensures fresh { IsFresh order self.new }
+        ensures state { self.new ≡ fresh_page order }
+    {
+        self.order = order;
+        self.whole = 1;
+        self.pins = 0;
+        self.split = false;
+        self.partly = false;
+        self.gave_zero = false;
+        self.zero = SubSet::full(order);
+        self.own.clear();
     }
 
     /// Splits the page into base pages, each with all its mappings as its own, and answers the subpages whose frames that
@@ -110,14 +124,13 @@ impl Page {
         ensures given { result ≡ split_set give_zero self.old }
         ensures released { result ≡ gives_frames self.old self.new }
     {
-        let subpages = self.subpages();
-        let (mapped, unused) = if self.whole == 0 {
-            (self.mapped, subpages_with_count(&self.own, 0, subpages, 0))
+        let subpages = SubSet::full(self.order);
+        let unused = if self.whole == 0 {
+            subpages.difference(self.own.mapped())
         } else {
-            (subpages as u16, SubSet::empty())
+            SubSet::empty()
         };
-        add_to_range(&mut self.own, 0, subpages, self.whole);
-        self.mapped = mapped;
+        self.own.add(subpages, self.whole);
         self.whole = 0;
         self.split = true;
         self.gave_zero = give_zero;
@@ -141,25 +154,24 @@ impl Page {
         ensures { result ≡ (nat_lt i (size self.now) && nat_lt 0 (total_at self.now i)) }
     {
         let i = i as usize;
-        i < self.subpages() && (self.whole > 0 || self.own[i] > 0)
+        i < self.subpages() && (self.whole > 0 || self.own.is_mapped(i))
     }
 
     /// Whether some subpage is in use.
     pub fn has_use(&self) -> bool
         ensures { result ≡ has_use self.now }
     {
-        self.whole > 0 || self.mapped > 0
+        self.whole > 0 || self.own.has_mapped()
     }
 
     /// The subpages in use.
     pub fn in_use_set(&self) -> SubSet
         ensures { result ≡ used_set self.now }
     {
-        let all = SubSet::full(self.order);
         if self.whole > 0 {
-            all
+            SubSet::full(self.order)
         } else {
-            all.difference(subpages_with_count(&self.own, 0, self.subpages(), 0))
+            self.own.mapped()
         }
     }
 
@@ -226,6 +238,7 @@ impl Page {
     }
 
     // Whether a range has no subpage, or one that the page hasn't.
+    #[inline(always)]
     fn is_bad_range(&self, first: u16, count: u16) -> bool
         ensures { result ≡ (nat_eq count 0 || nat_lt (size self.now) (first + count)) }
     {
@@ -234,11 +247,12 @@ impl Page {
     }
 
     // Whether a subpage of the range is mapped as often as one can be.
+    #[inline(always)]
     fn has_total_at_limit(&self, first: usize, count: usize) -> bool
         requires { first + count ≤ size self.now }
         ensures { result ≡ some_in_range self.now first count (λ i. nat_eq (total_at self.now i) most) }
     {
-        range_has_count(&self.own, first, count, u16::MAX - self.whole)
+        self.own.has_count(first, count, u16::MAX - self.whole)
     }
 
     // Whether the frame of a subpage of the range was given back.
@@ -252,11 +266,12 @@ impl Page {
     }
 
     // Whether a subpage of the range has no mapping of its own.
+    #[inline(always)]
     fn has_unmapped(&self, first: usize, count: usize) -> bool
         requires { first + count ≤ size self.now }
         ensures { result ≡ some_in_range self.now first count (λ i. nat_eq (own_at self.now i) 0) }
     {
-        range_has_count(&self.own, first, count, 0)
+        self.own.has_unmapped(first, count)
     }
 
     // Whether a subpage of the range is zero-filled.
@@ -265,8 +280,8 @@ impl Page {
         ensures { result ≡ some_in_range self.now first count (zero_at self.now) }
     {
         let zero = self.zero;
-        let others = zero.difference(SubSet::range(first as u32, count as u32));
-        !zero.difference(others).is_empty()
+        let range = SubSet::range(first as u32, count as u32);
+        !zero.intersection(range).is_empty()
     }
 
     // Whether a subpage of the range isn't in use.

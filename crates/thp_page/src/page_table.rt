@@ -132,7 +132,7 @@ impl PageTable {
     {
         let descriptor = &mut self.descriptors[block as usize];
         descriptor.standing = Standing::Nowhere;
-        descriptor.page = Page::fresh(self.order);
+        descriptor.page.renew(self.order);
         self.numbers.place(block, id);
     }
 

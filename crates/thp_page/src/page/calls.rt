@@ -7,7 +7,6 @@ ghost use Rattle.thp_model.specs.PageCalls.{gain_call, Gains, loss_call, Loses, 
 ghost use Rattle.thp_model.specs.Refusals as call;
 
 use super::{Change, Page};
-use crate::counts::{map_range, subpages_with_count, unmap_range};
 use thp_model::{Gain, Loss, PageCall, Refusal, SubSet, narrowed};
 
 impl Page {
@@ -246,7 +245,7 @@ impl Page {
         ensures counts { WholeUnmapped self.old self.new }
         ensures change { IsChange self.old self.new result }
     {
-        let unused = self.whole == 1 && (self.mapped as usize) < self.subpages();
+        let unused = self.whole == 1 && self.own.has_unmapped(0, self.subpages());
         self.whole -= 1;
         let used_left = self.has_use();
         self.partly |= unused && used_left;
@@ -298,7 +297,7 @@ impl Page {
         requires { page_refusal self.old (call.map_sub 0 first count) ≡ None }
         ensures { RangeMapped first count self.old self.new }
     {
-        self.mapped += map_range(&mut self.own, first as usize, count as usize);
+        self.own.map(first as usize, count as usize);
     }
 
     // `unmap_sub`, or why it is refused.
@@ -341,12 +340,12 @@ impl Page {
         ensures change { IsChange self.old self.new result }
     {
         let (first, count) = (first as usize, count as usize);
-        let gone = unmap_range(&mut self.own, first, count);
-        self.mapped -= gone;
-        let unused = self.whole == 0 && gone > 0;
+        let unmapped = self.own.unmap(first, count);
+        let unused = self.whole == 0 && unmapped;
         let used_left = self.has_use();
         let released = if self.split {
-            self.without_given(subpages_with_count(&self.own, first, count, 0))
+            let range = SubSet::range(first as u32, count as u32);
+            self.without_given(range.difference(self.own.mapped()))
         } else {
             SubSet::empty()
         };
@@ -390,7 +389,7 @@ impl Page {
     {
         let subpages = self.subpages();
         self.whole -= 1;
-        self.mapped += map_range(&mut self.own, 0, subpages);
+        self.own.map(0, subpages);
     }
 
     // `pin`, or why it is refused.

@@ -1,13 +1,12 @@
-use Rattle.std.proofs.Common.{◌≡◌, ◌+◌, ◌-◌, ◌≤◌, ℕ, List, cond, get_or, nat_eq, refl, ap, ap₂, sym, ◌∙◌, arith, subst}
+use Rattle.std.proofs.Common.{◌≡◌, ◌+◌, ◌-◌, ◌<◌, ◌≤◌, ℕ, List, cond, get_or, refl, ap, sym, ◌∙◌, arith, subst}
 use Rattle.thp_model.specs.Sets.{covers}
 use Rattle.thp_model.specs.Refusals as call
 use Rattle.thp_model.specs.Pages.{PageState, size, own_at, PmdSplit}
-use Rattle.thp_page.specs.PageView.{state_of, mapped_count}
-use Rattle.thp_page.specs.Ranges.{count_in_range}
+use Rattle.thp_page.specs.PageView.{state_of}
 use Rattle.thp_page.proofs.RangeLemmas.{covers_inside, covers_true}
 use Rattle.thp_page.proofs.PageSizes.{size_most}
 use Rattle.thp_page.proofs.PageRefusals.{allowed_as, split_pmd_allowed}
-use Rattle.thp_page.proofs.MappedCounts.{mapped_count-map, mapped_count_le}
+use Rattle.thp_page.proofs.Behind.{behind-map}
 use Rattle.thp_page.proofs.PageChanges.{IsPage-split_pmd, zero_inside-same}
 use Rattle.thp_page.proofs.page.Page.do_split_pmd.Goals as goal
 
@@ -15,48 +14,29 @@ use Rattle.thp_page.proofs.page.Page.do_split_pmd.Goals as goal
 remade : PageState → List ℕ → PageState
 remade s own = record s { whole = s.whole - 1; own = own }
 
-made : (s : PageState) (own : List ℕ) (n : ℕ) → 1 ≤ s.whole → n ≡ size s → ((i : ℕ) → get_or own i 0 ≡ own_at s i + cond (covers 0 n i) 1 0) → PmdSplit s (remade s own)
+made : (s : PageState) (own : List ℕ) (n : ℕ) → s.order ≤ 9 → 1 ≤ s.whole → n ≡ size s → ((i : ℕ) → i < 512 → get_or own i 0 ≡ own_at s i + cond (covers 0 n i) 1 0) → PmdSplit s (remade s own)
 unfolding remade
-made s own n mapped long added = record {
+made s own n most mapped long added = record {
   order = refl;
   whole = omega arith;
-  own = λ i below. added i ∙ ap (λ b. own_at s i + cond b 1 0) (covers_inside 0 n i (omega arith) (omega arith));
+  own = λ i below. added i (omega (arith, below, size_most s most)) ∙ ap (λ b. own_at s i + cond b 1 0) (covers_inside 0 n i (omega arith) (omega arith));
   pins = refl;
   split = refl;
   partly = refl;
   kept = record { zero = refl; gave_zero = refl };
 }
 
-counted : (s : PageState) (own : List ℕ) (n m joined : ℕ) → s.order ≤ 9 → n ≡ size s → ((i : ℕ) → get_or own i 0 ≡ own_at s i + cond (covers 0 n i) 1 0) →
-    m ≡ mapped_count s → joined ≡ count_in_range s.own 0 n (λ x. nat_eq x 0) → m + joined ≡ mapped_count (remade s own)
-unfolding remade
-counted s own n m joined most long added e f =
-    ap₂ (λ a b. a + b) e f ∙ sym (mapped_count-map s (remade s own) 0 n most refl (omega arith) (λ i below. added i))
-
 pub overflow_sub-self : goal.overflow_sub-self
 overflow_sub-self c =
     let s : PageState = state_of c.self.inside in
     (split_pmd_allowed s 0 (allowed_as s _ (call.split_pmd 0) c.self.view_is c.requires)).1
 
-pub map_range-requires-clause-small : goal.map_range-requires-clause-small
-map_range-requires-clause-small c =
+pub map-requires-clause-small : goal.map-requires-clause-small
+map-requires-clause-small c =
     let s : PageState = state_of c.self.inside in
     let facts = split_pmd_allowed s 0 (allowed_as s _ (call.split_pmd 0) c.self.view_is c.requires) in
     λ i covered. let at = covers_true 0 c.subpages-subpages.result i covered in
     omega (arith, facts.1, c.self.invariant.page.bounded i (omega (arith, at.1, c.subpages-subpages.ensures.size, ap size c.self.view_is)))
-
-pub overflow_add-self : goal.overflow_add-self
-unfolding remade
-overflow_add-self c =
-    let s : PageState = state_of c.self.inside in
-    let t : PageState = remade s c.map_range.new.own in
-    let long = c.subpages-subpages.ensures.size ∙ ap size (sym c.self.view_is) in
-    omega (
-      arith,
-      counted s c.map_range.new.own _ _ _ c.self.invariant.page.most_order long c.map_range.ensures.added c.self.invariant.mapped c.map_range.ensures.zeros,
-      mapped_count_le t,
-      size_most t c.self.invariant.page.most_order,
-    )
 
 pub invariant_of-self : goal.invariant_of-self
 unfolding remade
@@ -66,10 +46,10 @@ invariant_of-self c =
     let long = c.subpages-subpages.ensures.size ∙ ap size (sym c.self.view_is) in
     record {
       page =
-          IsPage-split_pmd s (remade s c.map_range.new.own) 0 c.self.invariant.page allowed
-          (made s c.map_range.new.own _ (split_pmd_allowed s 0 allowed).1 long c.map_range.ensures.added);
-      mapped = counted s c.map_range.new.own _ _ _ c.self.invariant.page.most_order long c.map_range.ensures.added c.self.invariant.mapped c.map_range.ensures.zeros;
-      zero_inside = zero_inside-same s (remade s c.map_range.new.own) refl refl c.self.invariant.zero_inside;
+          IsPage-split_pmd s (remade s c.map.new.self) 0 c.self.invariant.page allowed
+          (made s c.map.new.self _ c.self.invariant.page.most_order (split_pmd_allowed s 0 allowed).1 long c.map.ensures);
+      behind = behind-map s (remade s c.map.new.self) 0 c.subpages-subpages.result refl (omega (arith, long)) c.map.ensures c.self.invariant.behind;
+      zero_inside = zero_inside-same s (remade s c.map.new.self) refl refl c.self.invariant.zero_inside;
     }
 
 pub returns : goal.returns
@@ -77,6 +57,6 @@ unfolding remade
 returns c =
     let s : PageState = state_of c.self.inside in
     let allowed = allowed_as s _ (call.split_pmd 0) c.self.view_is c.requires in
-    let P : PageState → Type 0 = λ t. PmdSplit t (remade s c.map_range.new.own) in
+    let P : PageState → Type 0 = λ t. PmdSplit t (remade s c.map.new.self) in
     subst P c.self.view_is
-    (made s c.map_range.new.own _ (split_pmd_allowed s 0 allowed).1 (c.subpages-subpages.ensures.size ∙ ap size (sym c.self.view_is)) c.map_range.ensures.added)
+    (made s c.map.new.self _ c.self.invariant.page.most_order (split_pmd_allowed s 0 allowed).1 (c.subpages-subpages.ensures.size ∙ ap size (sym c.self.view_is)) c.map.ensures)

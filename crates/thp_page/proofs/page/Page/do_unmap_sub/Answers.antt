@@ -1,17 +1,16 @@
-use Rattle.std.proofs.Common.{◌≡◌, ◌+◌, ◌-◌, ◌≤◌, ◌&&◌, ◌||◌, ℕ, Bool, false, List, cond, get_or, length, nat_eq, nat_lt, None, refl, ap, ap₂, sym, ◌∙◌, arith, subst, ne_eqb}
+use Rattle.std.proofs.Common.{◌≡◌, ◌+◌, ◌<◌, ◌≤◌, ◌&&◌, ◌||◌, ℕ, Bool, false, List, cond, get_or, length, None, refl, ap, ap₂, sym, ◌∙◌, arith, subst, ne_eqb}
 use Rattle.thp_model.specs.Sets.{covers}
 use Rattle.thp_model.specs.Words.{length-set_of}
 use Rattle.thp_model.specs.Refusals as call
-use Rattle.thp_model.specs.Pages.{PageState, size, own_at, has_use, drops_use, partly_after, page_refusal, RangeUnmapped, IsPage}
+use Rattle.thp_model.specs.Pages.{PageState, own_at, has_use, drops_use, partly_after, page_refusal, RangeUnmapped, IsPage}
 use Rattle.thp_page.specs.declared.page.Page.TheInside.{Inside}
-use Rattle.thp_page.specs.PageView.{state_of, mapped_count, IsKept}
+use Rattle.thp_page.specs.PageView.{state_of, IsKept}
 use Rattle.thp_page.specs.Changes.{IsChange}
-use Rattle.thp_page.specs.Ranges.{count_in_range}
 use Rattle.thp_page.proofs.PageSizes.{size_most}
 use Rattle.thp_page.proofs.PageRefusals.{allowed_as, unmap_sub_allowed}
-use Rattle.thp_page.proofs.MappedCounts.{mapped_count-unmap}
+use Rattle.thp_page.proofs.Behind.{behind-unmap}
 use Rattle.thp_page.proofs.PageChanges.{IsPage-unmap_sub, IsPage-partly, has_use-partly, partly_after-partly, kept_partly, zero_inside-same}
-use Rattle.thp_page.proofs.PageUse.{drops_use-range, drops_use-mapped, gives_frames-range, gives_frames-unsplit}
+use Rattle.thp_page.proofs.PageUse.{drops_use-range, drops_use-mapped, gives_frames-range, gives_frames-unsplit, bare_set}
 use Rattle.thp_page.proofs.page.Page.do_unmap_sub.Goals.{then-self-eq0, else-self-eq0, then-unused, else-unused, then-self, else-self}
 use Rattle.thp_page.proofs.page.Page.do_unmap_sub.Goals as goal
 
@@ -23,13 +22,13 @@ with_own s own = record s { own = own }
 after : PageState → List ℕ → Bool → PageState
 after s own partly = record s { own = own; partly = partly }
 
-made : (s : PageState) (own : List ℕ) (first count : ℕ) (partly : Bool) → ((i : ℕ) → own_at s i ≡ get_or own i 0 + cond (covers first count i) 1 0) →
+made : (s : PageState) (own : List ℕ) (first count : ℕ) (partly : Bool) → s.order ≤ 9 → ((i : ℕ) → i < 512 → own_at s i ≡ get_or own i 0 + cond (covers first count i) 1 0) →
     partly ≡ partly_after s (with_own s own) → RangeUnmapped first count s (after s own partly)
 unfolding with_own after
-made s own first count partly taken e = record {
+made s own first count partly most taken e = record {
   order = refl;
   whole = refl;
-  own = λ i below. taken i;
+  own = λ i below. taken i (omega (arith, below, size_most s most));
   pins = refl;
   split = refl;
   partly = e ∙ sym (partly_after-partly s (with_own s own) partly);
@@ -39,66 +38,51 @@ made s own first count partly taken e = record {
 inside : (s : PageState) (first count : ℕ) → IsPage s → page_refusal s (call.unmap_sub 0 first count) ≡ None → first + count ≤ 512
 inside s first count page e = omega (arith, (unmap_sub_allowed s 0 first count e).0, size_most s page.most_order)
 
-counted : (s : PageState) (own : List ℕ) (first count m ones : ℕ) → s.order ≤ 9 → first + count ≤ size s →
-    ((i : ℕ) → own_at s i ≡ get_or own i 0 + cond (covers first count i) 1 0) →
-    m ≡ mapped_count s → ones ≡ count_in_range s.own first count (λ x. nat_eq x 1) → m ≡ mapped_count (with_own s own) + ones
-unfolding with_own
-counted s own first count m ones most inside taken e f =
-    e ∙ mapped_count-unmap s (with_own s own) first count most refl inside (λ i below. taken i) ∙ ap (λ n. mapped_count (with_own s own) + n) (sym f)
-
-pub unmap_range-gone-requires-clause-inside : goal.unmap_range-gone-requires-clause-inside
-unmap_range-gone-requires-clause-inside c =
+pub unmap-unmapped-requires-clause-inside : goal.unmap-unmapped-requires-clause-inside
+unmap-unmapped-requires-clause-inside c =
     let s : PageState = state_of c.self.inside in
     inside s c.args.first c.args.count c.self.invariant.page (allowed_as s _ (call.unmap_sub 0 c.args.first c.args.count) c.self.view_is c.requires)
 
-pub unmap_range-gone-requires-clause-positive : goal.unmap_range-gone-requires-clause-positive
-unmap_range-gone-requires-clause-positive c =
+pub unmap-unmapped-requires-clause-positive : goal.unmap-unmapped-requires-clause-positive
+unmap-unmapped-requires-clause-positive c =
     let s : PageState = state_of c.self.inside in
     (unmap_sub_allowed s 0 c.args.first c.args.count (allowed_as s _ (call.unmap_sub 0 c.args.first c.args.count) c.self.view_is c.requires)).1
 
-pub overflow_sub-self : goal.overflow_sub-self
-overflow_sub-self c =
-    let s : PageState = state_of c.self.inside in
-    let facts = unmap_sub_allowed s 0 c.args.first c.args.count (allowed_as s _ (call.unmap_sub 0 c.args.first c.args.count) c.self.view_is c.requires) in
-    omega (arith, counted s c.unmap_range-gone.new.own c.args.first c.args.count _ _ c.self.invariant.page.most_order facts.0 c.unmap_range-gone.ensures.taken c.self.invariant.mapped c.unmap_range-gone.ensures.ones)
-
 pub without_given-released-requires : goal.without_given-released-requires
-without_given-released-requires c = ap length c.subpages_with_count.ensures ∙ length-set_of _
+without_given-released-requires c = ap length c.difference.ensures ∙ length-set_of _
 
-pub subpages_with_count-requires : goal.subpages_with_count-requires
-subpages_with_count-requires c =
+pub range-range-requires : goal.range-range-requires
+range-range-requires c =
     let s : PageState = state_of c.self.inside in
     inside s c.args.first c.args.count c.self.invariant.page (allowed_as s _ (call.unmap_sub 0 c.args.first c.args.count) c.self.view_is c.requires)
 
-kept : (p : Inside) (own : List ℕ) (first count m ones : ℕ) → IsKept p → page_refusal (state_of p) (call.unmap_sub 0 first count) ≡ None →
-    ((i : ℕ) → own_at (state_of p) i ≡ get_or own i 0 + cond (covers first count i) 1 0) → ones ≡ count_in_range p.own first count (λ x. nat_eq x 1) → m ≡ p.mapped - ones →
-    IsKept (record p { own = own; mapped = m })
+kept : (p : Inside) (own : List ℕ) (first count : ℕ) → IsKept p → page_refusal (state_of p) (call.unmap_sub 0 first count) ≡ None →
+    ((i : ℕ) → i < 512 → own_at (state_of p) i ≡ get_or own i 0 + cond (covers first count i) 1 0) → IsKept (record p { own = own })
 unfolding with_own after
-kept p own first count m ones k allowed taken e f =
+kept p own first count k allowed taken =
     let s : PageState = state_of p in
     let partly : Bool = partly_after s (with_own s own) in
-    let facts = unmap_sub_allowed s 0 first count allowed in
     record {
-      page = IsPage-partly (after s own partly) s.partly (IsPage-unmap_sub s (after s own partly) first count k.page (made s own first count partly taken refl));
-      mapped = omega (arith, counted s own first count _ _ k.page.most_order facts.0 taken k.mapped e);
+      page = IsPage-partly (after s own partly) s.partly (IsPage-unmap_sub s (after s own partly) first count k.page (made s own first count partly k.page.most_order taken refl));
+      behind = behind-unmap s (with_own s own) first count refl taken k.behind;
       zero_inside = zero_inside-same s (with_own s own) refl refl k.zero_inside;
     }
 
 pub invariant_of-self : goal.invariant_of-self
 invariant_of-self c =
-    kept c.self.inside c.unmap_range-gone.new.own c.args.first c.args.count _ _ c.self.invariant (allowed_as (state_of c.self.inside) _ (call.unmap_sub 0 c.args.first c.args.count) c.self.view_is c.requires)
-    c.unmap_range-gone.ensures.taken c.unmap_range-gone.ensures.ones refl
+    kept c.self.inside c.unmap-unmapped.new.self c.args.first c.args.count c.self.invariant (allowed_as (state_of c.self.inside) _ (call.unmap_sub 0 c.args.first c.args.count) c.self.view_is c.requires)
+    c.unmap-unmapped.ensures.taken
 
 pub invariant_of-self-then-self : goal.invariant_of-self-then-self
 invariant_of-self-then-self c =
-    kept c.self.inside c.unmap_range-gone.new.own c.args.first c.args.count _ _ c.self.invariant (allowed_as (state_of c.self.inside) _ (call.unmap_sub 0 c.args.first c.args.count) c.self.view_is c.requires)
-    c.unmap_range-gone.ensures.taken c.unmap_range-gone.ensures.ones refl
+    kept c.self.inside c.unmap-unmapped.new.self c.args.first c.args.count c.self.invariant (allowed_as (state_of c.self.inside) _ (call.unmap_sub 0 c.args.first c.args.count) c.self.view_is c.requires)
+    c.unmap-unmapped.ensures.taken
 
 pub invariant_of-self-2 : goal.invariant_of-self-2
 invariant_of-self-2 c =
-    kept_partly (record c.self.inside { own = c.unmap_range-gone.new.own; mapped = c.self.inside.mapped - c.unmap_range-gone.result }) (c.self.inside.partly || c.if-unused.self)
-    (kept c.self.inside c.unmap_range-gone.new.own c.args.first c.args.count _ _ c.self.invariant (allowed_as (state_of c.self.inside) _ (call.unmap_sub 0 c.args.first c.args.count) c.self.view_is c.requires)
-    c.unmap_range-gone.ensures.taken c.unmap_range-gone.ensures.ones refl)
+    kept_partly (record c.self.inside { own = c.unmap-unmapped.new.self }) (c.self.inside.partly || c.if-unused.self)
+    (kept c.self.inside c.unmap-unmapped.new.self c.args.first c.args.count c.self.invariant (allowed_as (state_of c.self.inside) _ (call.unmap_sub 0 c.args.first c.args.count) c.self.view_is c.requires)
+    c.unmap-unmapped.ensures.taken)
 
 not_both : (a b : Bool) → a ≡ false → a ≡ (a && b)
 not_both a b e = cc
@@ -114,15 +98,15 @@ returns c =
     let s : PageState = state_of c.self.inside in
     let first : ℕ = c.args.first in
     let count : ℕ = c.args.count in
-    let own : List ℕ = c.unmap_range-gone.new.own in
+    let own : List ℕ = c.unmap-unmapped.new.self in
     let partly : Bool = s.partly || c.if-unused.self in
     let inside = (unmap_sub_allowed s 0 first count (allowed_as s _ (call.unmap_sub 0 first count) c.self.view_is c.requires)).0 in
     let before : Bool = partly_after s (with_own s own) in
     let unused : c.if-self-eq0.unused ≡ drops_use s (with_own s own) =
     elim c.if-self-eq0.branch [
       | then-self-eq0 w ↦
-          w.unused-is ∙ ap (λ n. nat_lt 0 n) c.unmap_range-gone.ensures.ones
-          ∙ sym (drops_use-range s (after s own before) first count c.self.invariant.page.most_order (made s own first count before c.unmap_range-gone.ensures.taken refl) inside w.if-self-eq0.true)
+          w.unused-is ∙ c.unmap-unmapped.ensures.unmapped
+          ∙ sym (drops_use-range s (after s own before) first count c.self.invariant.page.most_order (made s own first count before c.self.invariant.page.most_order c.unmap-unmapped.ensures.taken refl) inside w.if-self-eq0.true)
       | else-self-eq0 w ↦ w.unused-is ∙ ne_eqb s.whole 0 w.if-self-eq0.false ∙ sym (drops_use-mapped s (with_own s own) (omega arith))
     ] in
     let joined : c.if-unused.self ≡ (c.if-self-eq0.unused && c.has_use-used_left.result) =
@@ -131,7 +115,7 @@ returns c =
       | else-unused w ↦ w.self-is ∙ not_both c.if-self-eq0.unused c.has_use-used_left.result w.if-unused.false
     ] in
     let r : RangeUnmapped first count s (after s own partly) =
-    made s own first count partly c.unmap_range-gone.ensures.taken (told s own _ _ c.if-unused.self unused c.has_use-used_left.ensures joined) in
+    made s own first count partly c.self.invariant.page.most_order c.unmap-unmapped.ensures.taken (told s own _ _ c.if-unused.self unused c.has_use-used_left.ensures joined) in
     let Q : PageState → Type 0 = λ t. RangeUnmapped first count t (after s own partly) in
     let P : PageState → Type 0 = λ t. IsChange t (after s own partly) (record { unused = c.if-self-eq0.unused; used_left = c.has_use-used_left.result; released = c.if-self.released }) in
     record {
@@ -143,7 +127,8 @@ returns c =
             elim c.if-self.branch [
               | then-self w ↦
                   w.released-is ∙ w.without_given-released.ensures
-                  ∙ sym (gives_frames-range s (after s own partly) first count _ r inside w.if-self.true (c.self.invariant.page.no_whole w.if-self.true) w.subpages_with_count.ensures)
+                  ∙ sym (gives_frames-range s (after s own partly) first count _ r inside w.if-self.true (c.self.invariant.page.no_whole w.if-self.true)
+                  (w.difference.ensures ∙ bare_set (after s own partly) first count w.range-range.result w.mapped.result w.range-range.ensures w.mapped.ensures))
               | else-self w ↦ w.released-is ∙ w.empty-released.ensures ∙ sym (gives_frames-unsplit s (after s own partly) refl w.if-self.false w.if-self.false)
             ];
       });

@@ -1,11 +1,13 @@
-use Rattle.std.proofs.Common.{◌≡◌, ◌≢◌, ◌-◌, ◌<◌, ◌≤◌, ◌&&◌, ◌||◌, ℕ, Bool, false, nat_lt, None, refl, ap, ap₂, sym, ◌∙◌, arith, subst, ne_eqb}
+use Rattle.std.proofs.Common.{◌≡◌, ◌≢◌, ◌-◌, ◌<◌, ◌≤◌, ◌&&◌, ◌||◌, ℕ, Bool, false, nat_eq, None, refl, ap, ap₂, sym, ◌∙◌, arith, subst, ne_eqb}
+use Rattle.thp_model.specs.Sets.{covers, some_below}
 use Rattle.thp_model.specs.Refusals as call
-use Rattle.thp_model.specs.Pages.{PageState, size, has_use, drops_use, partly_after, page_refusal, WholeUnmapped}
+use Rattle.thp_model.specs.Pages.{PageState, size, own_at, has_use, drops_use, partly_after, page_refusal, WholeUnmapped}
 use Rattle.thp_page.specs.declared.page.Page.TheInside.{Inside}
 use Rattle.thp_page.specs.PageView.{state_of, IsKept}
 use Rattle.thp_page.specs.Changes.{IsChange}
+use Rattle.thp_page.proofs.PageSizes.{size_most, whole_test}
 use Rattle.thp_page.proofs.PageRefusals.{allowed_as, unmap_whole_allowed}
-use Rattle.thp_page.proofs.MappedCounts.{mapped_count-same}
+use Rattle.thp_page.proofs.Behind.{behind-same}
 use Rattle.thp_page.proofs.PageChanges.{IsPage-unmap_whole, IsPage-partly, has_use-partly, partly_after-partly, kept_partly, zero_inside-same}
 use Rattle.thp_page.proofs.PageUse.{drops_use-last, drops_use-mapped, gives_frames-unsplit}
 use Rattle.thp_page.proofs.page.Page.do_unmap_whole.Goals.{then-self-eq1, else-self-eq1, then-unused, else-unused}
@@ -38,7 +40,7 @@ kept p k allowed =
     let partly : Bool = partly_after s (less s) in
     record {
       page = IsPage-partly (after s partly) s.partly (IsPage-unmap_whole s (after s partly) 0 k.page allowed (unmapped s partly (unmap_whole_allowed s 0 allowed).1 refl));
-      mapped = k.mapped ∙ sym (mapped_count-same s (less s) refl (λ i below. refl));
+      behind = behind-same s (less s) refl (λ i. refl) k.behind;
       zero_inside = zero_inside-same s (less s) refl refl k.zero_inside;
     }
 
@@ -71,7 +73,9 @@ returns c =
     let unused : c.if-self-eq1.unused ≡ drops_use s (less s) =
     elim c.if-self-eq1.branch [
       | then-self-eq1 w ↦
-          w.unused-is ∙ ap₂ (λ m n. nat_lt m n) c.self.invariant.mapped (w.subpages.ensures.size ∙ ap size (sym c.self.view_is))
+          w.unused-is ∙ w.has_unmapped-unused.ensures
+          ∙ ap (λ n. some_below 512 (λ i. covers 0 n i && nat_eq (own_at s i) 0)) (w.subpages.ensures.size ∙ ap size (sym c.self.view_is))
+          ∙ sym (whole_test (size s) (λ i. nat_eq (own_at s i) 0) (size_most s c.self.invariant.page.most_order))
           ∙ sym (drops_use-last s (after s (partly_after s (less s))) (unmapped s (partly_after s (less s)) facts.1 refl) w.if-self-eq1.true)
       | else-self-eq1 w ↦ w.unused-is ∙ ne_eqb s.whole 1 w.if-self-eq1.false ∙ sym (drops_use-mapped s (less s) (more s.whole facts.1 w.if-self-eq1.false))
     ] in

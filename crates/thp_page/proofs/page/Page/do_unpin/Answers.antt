@@ -1,9 +1,9 @@
-use Rattle.std.proofs.Common.{◌-◌, ◌≤◌, refl, sym, ◌∙◌, arith, subst}
+use Rattle.std.proofs.Common.{◌-◌, ◌≤◌, refl, arith, subst}
 use Rattle.thp_model.specs.Refusals as call
 use Rattle.thp_model.specs.Pages.{PageState, Pinned}
 use Rattle.thp_page.specs.PageView.{state_of}
 use Rattle.thp_page.proofs.PageRefusals.{allowed_as, unpin_allowed}
-use Rattle.thp_page.proofs.MappedCounts.{mapped_count-same}
+use Rattle.thp_page.proofs.Behind.{behind-same}
 use Rattle.thp_page.proofs.PageChanges.{IsPage-unpin, zero_inside-same}
 use Rattle.thp_page.proofs.page.Page.do_unpin.Goals as goal
 
@@ -27,7 +27,7 @@ invariant_of-self c =
     let allowed = allowed_as s _ (call.unpin 0) c.self.view_is c.requires in
     record {
       page = IsPage-unpin s (less s) 0 c.self.invariant.page allowed (pinned s (unpin_allowed s 0 allowed).1);
-      mapped = c.self.invariant.mapped ∙ sym (mapped_count-same s (less s) refl (λ i below. refl));
+      behind = behind-same s (less s) refl (λ i. refl) c.self.invariant.behind;
       zero_inside = zero_inside-same s (less s) refl refl c.self.invariant.zero_inside;
     }
 

@@ -1,10 +1,10 @@
-use Rattle.std.proofs.Common.{List, Bool, sym, ◌∙◌, arith, subst, refl}
+use Rattle.std.proofs.Common.{List, Bool, arith, subst, refl}
 use Rattle.thp_model.specs.Refusals as call
 use Rattle.thp_model.specs.Pages.{PageState, RangeZeroed}
 use Rattle.thp_page.specs.PageView.{state_of}
 use Rattle.thp_page.proofs.PageSizes.{size_most}
 use Rattle.thp_page.proofs.PageRefusals.{allowed_as, zero_fill_allowed}
-use Rattle.thp_page.proofs.MappedCounts.{mapped_count-same}
+use Rattle.thp_page.proofs.Behind.{behind-same}
 use Rattle.thp_page.proofs.PageChanges.{IsPage-counts}
 use Rattle.thp_page.proofs.ZeroSets.{zeroed, zeroed_inside}
 use Rattle.thp_page.proofs.page.Page.do_zero.Goals as goal
@@ -21,7 +21,7 @@ invariant_of-self c =
     let r = zeroed s c.args.first c.args.count c.range.result new c.self.invariant.page.most_order c.range.ensures c.union-self-inside.ensures in
     record {
       page = IsPage-counts s (record s { zero = new }) c.self.invariant.page r.kept;
-      mapped = c.self.invariant.mapped ∙ sym (mapped_count-same s (record s { zero = new }) refl (λ i below. refl));
+      behind = behind-same s (record s { zero = new }) refl (λ i. refl) c.self.invariant.behind;
       zero_inside =
           zeroed_inside s c.args.first c.args.count c.range.result new c.self.invariant.zero_inside
           (zero_fill_allowed s 0 c.args.first c.args.count (allowed_as s _ (call.zero_fill 0 c.args.first c.args.count) c.self.view_is c.requires)) c.range.ensures c.union-self-inside.ensures;

@@ -1,7 +1,8 @@
-use Rattle.std.proofs.Common.{ap, sym, ◌∙◌, arith, nat_lt}
+use Rattle.std.proofs.Common.{ap, sym, ◌∙◌, arith}
 use Rattle.std.proofs.lemmas.Bool.Decides.{nat_tests}
 use Rattle.thp_model.specs.Pages.{PageState, has_use}
 use Rattle.thp_page.specs.PageView.{state_of}
+use Rattle.thp_page.proofs.Behind.{some_inside}
 use Rattle.thp_page.proofs.PageUse.{has_use-mapped, has_use-unmapped}
 use Rattle.thp_page.proofs.page.Page.has_use.Goals as goal
 
@@ -13,4 +14,4 @@ returns-then-self-gt0 c =
 pub returns-else-self-gt0 : goal.returns-else-self-gt0
 returns-else-self-gt0 c =
     let s : PageState = state_of c.self.inside in
-    ap (λ n. nat_lt 0 n) c.self.invariant.mapped ∙ sym (has_use-unmapped s (omega arith)) ∙ ap has_use c.self.view_is
+    c.has_mapped.ensures ∙ some_inside s c.self.invariant.page.most_order c.self.invariant.behind ∙ sym (has_use-unmapped s (omega arith)) ∙ ap has_use c.self.view_is

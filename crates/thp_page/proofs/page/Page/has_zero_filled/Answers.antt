@@ -11,12 +11,12 @@ overflow_cast-first c = omega (arith, size_most (state_of c.self.inside) c.self.
 pub overflow_cast-count : goal.overflow_cast-count
 overflow_cast-count c = omega (arith, size_most (state_of c.self.inside) c.self.invariant.page.most_order, ap size c.self.view_is)
 
-pub range-requires : goal.range-requires
-range-requires c = omega (arith, size_most (state_of c.self.inside) c.self.invariant.page.most_order, ap size c.self.view_is)
+pub range-range-requires : goal.range-range-requires
+range-range-requires c = omega (arith, size_most (state_of c.self.inside) c.self.invariant.page.most_order, ap size c.self.view_is)
 
 pub returns : goal.returns
 returns c =
     let s : PageState = state_of c.self.inside in
-    some_zero s c.args.first c.args.count c.range.result c.difference-others.result c.difference.result c.is_empty.result
-    (omega (arith, ap size c.self.view_is)) (size_most s c.self.invariant.page.most_order) c.range.ensures c.difference-others.ensures c.difference.ensures c.is_empty.ensures
+    some_zero s c.args.first c.args.count c.range-range.result c.intersection.result c.is_empty.result
+    (omega (arith, ap size c.self.view_is)) (size_most s c.self.invariant.page.most_order) c.range-range.ensures c.intersection.ensures c.is_empty.ensures.none
     ∙ ap (λ t. some_in_range t c.args.first c.args.count (zero_at t)) c.self.view_is

@@ -1,11 +1,12 @@
-use Rattle.std.proofs.Common.{◌≡◌, ◌+◌, ◌<◌, ℕ, Bool, true, List, cond, get_or, refl, ap, sym, ◌∙◌, arith, subst}
-use Rattle.thp_model.specs.Sets.{covers}
+use Rattle.std.proofs.Common.{◌≡◌, ◌+◌, ◌^◌, ◌<◌, ◌≤◌, ℕ, Bool, nat_lt, true, List, cond, get_or, refl, ap, sym, ◌∙◌, arith, subst}
+use Rattle.std.proofs.Math.Pow.{pow_mono}
+use Rattle.std.proofs.lemmas.Bool.Decides.{nat_tests}
+use Rattle.thp_model.specs.Sets.{has, set_of}
+use Rattle.thp_model.specs.Words.{get_or-set_of}
 use Rattle.thp_model.specs.Pages.{PageState, size, own_at, gives_frames, PageSplit}
 use Rattle.thp_page.specs.Changes.{split_set}
-use Rattle.thp_page.specs.PageView.{state_of, mapped_count}
-use Rattle.thp_page.proofs.RangeLemmas.{covers_inside}
-use Rattle.thp_page.proofs.PageSizes.{same_size}
-use Rattle.thp_page.proofs.MappedCounts.{mapped_count-same, mapped_count-all}
+use Rattle.thp_page.specs.PageView.{state_of}
+use Rattle.thp_page.proofs.Behind.{behind-split}
 use Rattle.thp_page.proofs.PageChanges.{IsPage-split, zero_inside-same}
 use Rattle.thp_page.proofs.PageUse.{unused_set, split_set-none, split_set-zeros, gives_frames-split, unused_set-unmapped, unused_set-mapped}
 use Rattle.thp_page.proofs.page.Page.split.Goals.{then-self-eq0, else-self-eq0, then-give_zero, else-give_zero}
@@ -15,45 +16,39 @@ use Rattle.thp_page.proofs.page.Page.split.Goals as goal
 divided : Bool → PageState → List ℕ → PageState
 divided give s own = record s { whole = 0; own = own; split = true; gave_zero = give }
 
-made : (give : Bool) (s : PageState) (own : List ℕ) (n : ℕ) → n ≡ size s → ((i : ℕ) → get_or own i 0 ≡ own_at s i + cond (covers 0 n i) s.whole 0) → PageSplit give s (divided give s own)
-unfolding divided
-made give s own n long added = record {
+made : (give : Bool) (s : PageState) (own : List ℕ) (all : List Bool) → s.order ≤ 9 → all ≡ set_of (λ i. nat_lt i (2 ^ s.order)) →
+    ((i : ℕ) → i < 512 → get_or own i 0 ≡ own_at s i + cond (has all i) s.whole 0) → PageSplit give s (divided give s own)
+unfolding divided size
+made give s own all most is added = record {
   order = refl;
   whole = refl;
-  own = λ i below. (let all : cond {A = ℕ} (covers 0 n i) s.whole 0 ≡ s.whole = ap (λ b. cond {A = ℕ} b s.whole 0) (covers_inside 0 n i (omega arith) (omega arith)) in omega (arith, added i, all));
+  own = λ i below. added i (short i below) ∙ ap (λ b. own_at s i + cond b s.whole 0) (ap (λ t. has t i) is ∙ get_or-set_of (λ j. nat_lt j (2 ^ s.order)) i (short i below) ∙ inside i (2 ^ s.order) below) ∙ turn (own_at s i) s.whole;
   pins = refl;
   split = refl;
   zero = refl;
   partly = refl;
   gave_zero = refl;
-}
+} where
+  short : (i : ℕ) → i < 2 ^ s.order → i < 512
+  short i below = omega (arith, below, pow_mono {i = s.order} {j = 9} most)
 
--- the number of mapped subpages stays where the page wasn't mapped whole, and else is that of all
-kept : (give : Bool) (s : PageState) (own : List ℕ) → PageSplit give s (divided give s own) → s.whole ≡ 0 → mapped_count s ≡ mapped_count (divided give s own)
-unfolding divided
-kept give s own r unmapped = sym (mapped_count-same s (divided give s own) refl (λ i below. omega (arith, r.own i below)))
+  inside : (i n : ℕ) → i < n → nat_lt i n ≡ true
+  inside i n h = grind (arith, nat_tests)
 
-all_mapped : (give : Bool) (s : PageState) (own : List ℕ) → PageSplit give s (divided give s own) → 0 < s.whole → size s ≡ mapped_count (divided give s own)
-unfolding divided
-all_mapped give s own r mapped =
-    same_size (divided give s own) s refl ∙ sym (mapped_count-all (divided give s own) (λ i below. omega (arith, r.own i (omega (arith, same_size s (divided give s own) refl)))))
+  turn : (a b : ℕ) → a + b ≡ b + a
+  turn a b = omega arith
 
 pub invariant_of-self : goal.invariant_of-self
 unfolding divided
 invariant_of-self c =
     let s : PageState = state_of c.self.inside in
     let give : Bool = c.args.give_zero in
-    let own : List ℕ = c.add_to_range.new.own in
-    let long = c.subpages-subpages.ensures.size ∙ ap size (sym c.self.view_is) in
-    let r = made give s own c.subpages-subpages.result long c.add_to_range.ensures in
+    let own : List ℕ = c.add.new.self in
+    let r = made give s own c.full-subpages.result c.self.invariant.page.most_order c.full-subpages.ensures c.add.ensures in
     let unpinned = ap (λ (t : PageState). t.pins) c.self.view_is ∙ c.requires.unpinned in
     record {
       page = IsPage-split give s (divided give s own) c.self.invariant.page unpinned r;
-      mapped =
-          elim c.if-self-eq0.branch [
-            | then-self-eq0 w ↦ ap (λ m. m.0) w.mapped-is ∙ c.self.invariant.mapped ∙ kept give s own r w.if-self-eq0.true
-            | else-self-eq0 w ↦ ap (λ m. m.0) w.mapped-is ∙ long ∙ all_mapped give s own r (omega arith)
-          ];
+      behind = behind-split s (divided give s own) c.full-subpages.result s.whole refl c.full-subpages.ensures c.add.ensures c.self.invariant.behind;
       zero_inside = zero_inside-same s (divided give s own) refl refl c.self.invariant.zero_inside;
     }
 
@@ -62,14 +57,13 @@ unfolding divided
 returns c =
     let s : PageState = state_of c.self.inside in
     let give : Bool = c.args.give_zero in
-    let own : List ℕ = c.add_to_range.new.own in
-    let long = c.subpages-subpages.ensures.size ∙ ap size (sym c.self.view_is) in
+    let own : List ℕ = c.add.new.self in
     let whole = ap (λ (t : PageState). t.split) c.self.view_is ∙ c.requires.whole in
-    let r : PageSplit give s (divided give s own) = made give s own c.subpages-subpages.result long c.add_to_range.ensures in
-    let unused : c.if-self-eq0.mapped.1 ≡ unused_set s =
+    let r : PageSplit give s (divided give s own) = made give s own c.full-subpages.result c.self.invariant.page.most_order c.full-subpages.ensures c.add.ensures in
+    let unused : c.if-self-eq0.unused ≡ unused_set s =
     elim c.if-self-eq0.branch [
-      | then-self-eq0 w ↦ ap (λ m. m.1) w.mapped-is ∙ w.subpages_with_count.ensures ∙ unused_set-unmapped s c.subpages-subpages.result long w.if-self-eq0.true
-      | else-self-eq0 w ↦ ap (λ m. m.1) w.mapped-is ∙ w.empty.ensures ∙ unused_set-mapped s w.if-self-eq0.false
+      | then-self-eq0 w ↦ w.unused-is ∙ w.difference-unused.ensures ∙ unused_set-unmapped s c.full-subpages.result w.mapped.result w.if-self-eq0.true c.full-subpages.ensures w.mapped.ensures
+      | else-self-eq0 w ↦ w.unused-is ∙ w.empty-unused.ensures ∙ unused_set-mapped s w.if-self-eq0.false
     ] in
     let given : c.if-give_zero.result ≡ split_set give s =
     elim c.if-give_zero.branch [

@@ -14,11 +14,11 @@ pub returns-clause-table : goal.returns-clause-table
 returns-clause-table c =
     let d = c.index_mut-descriptor.result.now in
     both_written c.self.inside.order c.self.inside.numbers _ c.self.inside.descriptors.items c.self.inside.accesses c.args.block c.args.id d
-    (record { link = d.link; standing = Nowhere; page = c.fresh-descriptor.result }) _ c.self.view_is c.place.ensures c.index_mut-descriptor.ensures.value refl
+    (record { link = d.link; standing = Nowhere; page = c.renew.new.self }) _ c.self.view_is c.place.ensures c.index_mut-descriptor.ensures.value refl
     ∙ ap (λ (p : PageState). with_slot c.args.self.now c.args.block (Some (record { id = c.args.id; page = p; standing = Nowhere })))
-    (c.fresh-descriptor.ensures.state ∙ ap (λ (u : Table). fresh_page u.order) c.self.view_is)
+    (c.renew.ensures.state ∙ ap (λ (u : Table). fresh_page u.order) c.self.view_is)
 
 pub returns-clause-fresh : goal.returns-clause-fresh
 returns-clause-fresh c =
     subst (λ (u : Table). IsFresh u.order (fresh_page u.order)) c.self.view_is
-    (subst (λ (p : PageState). IsFresh c.self.inside.order p) c.fresh-descriptor.ensures.state c.fresh-descriptor.ensures.fresh)
+    (subst (λ (p : PageState). IsFresh c.self.inside.order p) c.renew.ensures.state c.renew.ensures.fresh)

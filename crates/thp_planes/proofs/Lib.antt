@@ -1,0 +1,4 @@
+mod Carries
+mod Chosen
+mod WordBits
+mod Seen

@@ -1,0 +1,5 @@
+pub mod Planes
+pub mod OneWords
+pub mod Tallies
+pub mod Ranges
+pub mod MapCounts

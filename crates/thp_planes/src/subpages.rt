@@ -1,0 +1,61 @@
+//! The subpages that one call counts up or down.
+ghost use Rattle.std.specs.Prelude.{◌≡◌, ℕ, ◌<◌, Bool, not, ◌&&◌};
+ghost use Rattle.thp_model.specs.Limits.{max_subpages};
+ghost use Rattle.thp_model.specs.Sets.{has, set_of, one_alone, some_below};
+
+use thp_model::SubSet;
+
+/// Subpages of a page whose counts change together: any set of them, or some that stand in one word of a set.
+pub(crate) trait Subpages: Copy {
+    // Which subpages they are.
+    ghost chosen: { Self → ℕ → Bool };
+
+    /// Those of them that are in the set.
+    fn within(&self, set: &SubSet) -> Self
+        ensures { (i : ℕ) → i < max_subpages → chosen result i ≡ (chosen self.now i && has set.now i) };
+
+    /// Those of them that aren't in the set.
+    fn outside(&self, set: &SubSet) -> Self
+        ensures { (i : ℕ) → i < max_subpages → chosen result i ≡ (chosen self.now i && not (has set.now i)) };
+
+    /// Takes those of them that are in the set out of it, and puts the others of them in.
+    fn turn(&self, set: &mut SubSet)
+        ensures { set.new ≡ set_of (λ i. one_alone (has set.old i) (chosen self.now i)) };
+
+    /// Whether there is none.
+    fn is_empty(&self) -> bool
+        ensures { result ≡ not (some_below max_subpages (chosen self.now)) };
+
+    /// The set of them.
+    fn to_set(&self) -> SubSet
+        ensures { (i : ℕ) → i < max_subpages → has result i ≡ chosen self.now i };
+}
+
+impl Subpages for SubSet {
+    ghost chosen = { has };
+
+    #[inline(always)]
+    fn within(&self, set: &SubSet) -> SubSet {
+        self.intersection(*set)
+    }
+
+    #[inline(always)]
+    fn outside(&self, set: &SubSet) -> SubSet {
+        self.difference(*set)
+    }
+
+    #[inline(always)]
+    fn turn(&self, set: &mut SubSet) {
+        *set = set.symmetric_difference(*self);
+    }
+
+    #[inline(always)]
+    fn is_empty(&self) -> bool {
+        SubSet::is_empty(self)
+    }
+
+    #[inline(always)]
+    fn to_set(&self) -> SubSet {
+        *self
+    }
+}
