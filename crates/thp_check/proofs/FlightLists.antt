@@ -254,13 +254,13 @@ pub read_list : (ls : List (List ℕ)) (k c : ℕ) (xs ys : List ℕ) → length
 read_list ls k c xs ys size below place is = is ∙ any_default ls k ys [] (omega (arith, size)) ∙ ap (list_at ls) place
 
 -- the pair of an index, which names the index behind it
-next_at : (links : List Link) (p : ℕ) (xs : List ℕ) (k : ℕ) → Segment links p xs NIL → k < length xs → (q : ℕ) × (slice_get links (get_or xs k NIL) ≡ Some (between q (get_or xs (suc k) NIL)))
+pub next_at : (links : List Link) (p : ℕ) (xs : List ℕ) (k : ℕ) → Segment links p xs NIL → k < length xs → (q : ℕ) × (slice_get links (get_or xs k NIL) ≡ Some (between q (get_or xs (suc k) NIL)))
 next_at links p [] k s below = absurd (omega arith)
 next_at links p (x ∷ xs) zero s below = (p, s.0)
 next_at links p (x ∷ xs) (suc k) s below = next_at links x xs k s.1 (omega arith)
 
 -- an index of the list
-there_is : (xs : List ℕ) (k : ℕ) → k < length xs → Contains xs (get_or xs k NIL)
+pub there_is : (xs : List ℕ) (k : ℕ) → k < length xs → Contains xs (get_or xs k NIL)
 there_is [] k below = absurd (omega arith)
 there_is (x ∷ xs) zero below = Contains-head x xs
 there_is (x ∷ xs) (suc k) below = Contains-behind x xs (get_or xs k NIL) (there_is xs k (omega arith))

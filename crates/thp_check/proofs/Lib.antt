@@ -8,3 +8,6 @@ pub mod Reading
 pub mod Beginning
 pub mod Deciding
 pub mod FreeMarks
+pub mod Walking
+pub mod Showing
+pub mod Totals
