@@ -1,3 +1,4 @@
+pub mod Walking
 pub mod FlightLists
 pub mod PageEvents
 pub mod FlightBlocks
@@ -8,6 +9,5 @@ pub mod Reading
 pub mod Beginning
 pub mod Deciding
 pub mod FreeMarks
-pub mod Walking
 pub mod Showing
 pub mod Totals

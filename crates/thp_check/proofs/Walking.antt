@@ -6,13 +6,14 @@ use Rattle.std.proofs.lemmas.List.{take_more}
 use Rattle.std.proofs.lemmas.List.Elements.{filter-append}
 use Rattle.thp_links.specs.declared.link.Link.{Link}
 use Rattle.thp_links.specs.declared.link.TheConstants.{NIL}
-use Rattle.thp_links.specs.Standing.{Stands, between}
+use Rattle.thp_links.specs.Standing.{Stands, Segment, between}
+use Rattle.thp_links.proofs.Members.{Contains-head, Contains-behind}
 use Rattle.thp_links.proofs.OneTable.{Stands-inside}
-use Rattle.thp_check.proofs.FlightLists.{next_at, there_is}
 
 -- the whole of a list
 pub take_all : (xs : List ℕ) (k : ℕ) → length xs ≤ k → take k xs ≡ xs
-take_all [] k past = refl
+take_all [] zero past = refl
+take_all [] (suc k) past = refl
 take_all (x ∷ xs) zero past = absurd (omega arith)
 take_all (x ∷ xs) (suc k) past = ap (λ (ys : List ℕ). x ∷ ys) (take_all xs k (omega arith))
 
@@ -21,6 +22,18 @@ pub filter_more : (p : ℕ → Bool) (xs : List ℕ) (k b : ℕ) → k < length 
 filter_more p xs k b below e =
     ap (filter p) (take_more xs k NIL below) ∙ filter-append p (take k xs) (get_or xs k NIL ∷ [])
     ∙ ap (λ x. filter p (take k xs) ++ cond (p x) (x ∷ []) []) (sym e)
+
+-- the pair of an index, which names the index behind it
+pub next_at : (links : List Link) (p : ℕ) (xs : List ℕ) (k : ℕ) → Segment links p xs NIL → k < length xs → (q : ℕ) × (slice_get links (get_or xs k NIL) ≡ Some (between q (get_or xs (suc k) NIL)))
+next_at links p [] k s below = absurd (omega arith)
+next_at links p (x ∷ xs) zero s below = (p, s.0)
+next_at links p (x ∷ xs) (suc k) s below = next_at links x xs k s.1 (omega arith)
+
+-- an index of the list
+pub there_is : (xs : List ℕ) (k : ℕ) → k < length xs → Contains xs (get_or xs k NIL)
+there_is [] k below = absurd (omega arith)
+there_is (x ∷ xs) zero below = Contains-head x xs
+there_is (x ∷ xs) (suc k) below = Contains-behind x xs (get_or xs k NIL) (there_is xs k (omega arith))
 
 module _ (xs : List ℕ) (links : List Link) (stands : Stands xs links) where
   -- an index of the list is one of the table
