@@ -43,7 +43,7 @@ pub(crate) fn put_expected(
 }
 
 // What a caller could do.
-#[tactic(auto, using(crate::proofs::Pieces::two))]
+#[tactic(auto, using(crate::proofs::Joined::two))]
 fn put_this(text: &mut Vec<u8>, caller: u32, what: &What) -> Result<(), AllocError>
     ensures { OnOk result (text.new.items ≡ text.old.items ++ this caller what.now) }
 {
@@ -58,7 +58,7 @@ fn put_this(text: &mut Vec<u8>, caller: u32, what: &What) -> Result<(), AllocErr
 }
 
 // What a caller could do, or a split of a page.
-#[tactic(auto, using(crate::proofs::Pieces::two))]
+#[tactic(auto, using(crate::proofs::Joined::two))]
 fn put_this_or_a_split(
     text: &mut Vec<u8>,
     caller: u32,
@@ -72,7 +72,7 @@ fn put_this_or_a_split(
 }
 
 // A split of a page as one more choice.
-#[tactic(auto, using(crate::proofs::Pieces::two))]
+#[tactic(auto, using(crate::proofs::Joined::two))]
 fn put_split(text: &mut Vec<u8>, page: PageId) -> Result<(), AllocError>
     ensures { OnOk result (text.new.items ≡ text.old.items ++ or_a_split page) }
 {
@@ -80,7 +80,7 @@ fn put_split(text: &mut Vec<u8>, page: PageId) -> Result<(), AllocError>
 }
 
 // A page that leaves a caller's flight: it goes back, or is dropped.
-#[tactic(auto, using(crate::proofs::Pieces::two))]
+#[tactic(auto, using(crate::proofs::Joined::two))]
 fn put_return(text: &mut Vec<u8>, caller: u32, page: PageId) -> Result<(), AllocError>
     ensures { OnOk result (text.new.items ≡ text.old.items ++ (this caller (What.Back page) ++ or_this caller (What.Dropped page))) }
 {
@@ -89,7 +89,7 @@ fn put_return(text: &mut Vec<u8>, caller: u32, page: PageId) -> Result<(), Alloc
 }
 
 // What a caller could do, as one more choice.
-#[tactic(auto, using(crate::proofs::Pieces::two))]
+#[tactic(auto, using(crate::proofs::Joined::two))]
 fn put_or(text: &mut Vec<u8>, caller: u32, what: &What) -> Result<(), AllocError>
     ensures { OnOk result (text.new.items ≡ text.old.items ++ or_this caller what.now) }
 {

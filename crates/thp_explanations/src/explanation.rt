@@ -13,7 +13,7 @@ use thp_model::Event;
 /// Writes the event that stands on a line of a journal and doesn't fit for this reason, in the words of that line, then what
 /// could stand in its place, and why: three lines, or four where there are two choices. Where memory is refused a front of them
 /// may stand in the text.
-#[tactic(auto, using(crate::proofs::Pieces::whole), unfolding(crate::specs::Explanations::explanation))]
+#[tactic(auto, using(crate::proofs::Joined::whole), unfolding(crate::specs::Explanations::explanation))]
 pub fn put_explanation(
     text: &mut Vec<u8>,
     line: u64,

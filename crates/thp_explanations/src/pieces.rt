@@ -28,7 +28,7 @@ pub(crate) fn put_words(text: &mut Vec<u8>, words: &str) -> Result<(), AllocErro
 }
 
 // A number behind words, and a line feed.
-#[tactic(auto, using(crate::proofs::Pieces::two))]
+#[tactic(auto, using(crate::proofs::Joined::two))]
 pub(crate) fn put_last(text: &mut Vec<u8>, words: &str, number: u64) -> Result<(), AllocError>
     ensures { OnOk result (text.new.items ≡ text.old.items ++ ended (words.now ++ decimal number)) }
 {
@@ -37,7 +37,7 @@ pub(crate) fn put_last(text: &mut Vec<u8>, words: &str, number: u64) -> Result<(
 }
 
 // What is so of a page, and a line feed.
-#[tactic(auto, using(crate::proofs::Pieces::page_line))]
+#[tactic(auto, using(crate::proofs::Joined::page_line))]
 pub(crate) fn put_page(text: &mut Vec<u8>, page: PageId, words: &str) -> Result<(), AllocError>
     ensures { OnOk result (text.new.items ≡ text.old.items ++ ended (page_is page words.now)) }
 {
@@ -47,7 +47,7 @@ pub(crate) fn put_page(text: &mut Vec<u8>, page: PageId, words: &str) -> Result<
 }
 
 // What is so of a caller, and a line feed.
-#[tactic(auto, using(crate::proofs::Pieces::caller_line))]
+#[tactic(auto, using(crate::proofs::Joined::caller_line))]
 pub(crate) fn put_caller(text: &mut Vec<u8>, caller: u32, words: &str) -> Result<(), AllocError>
     ensures { OnOk result (text.new.items ≡ text.old.items ++ ended (caller_is caller words.now)) }
 {
@@ -57,7 +57,6 @@ pub(crate) fn put_caller(text: &mut Vec<u8>, caller: u32, words: &str) -> Result
 }
 
 // How a page stands to a caller's flight, and a line feed.
-#[tactic(auto, using(crate::proofs::Pieces::flight_line))]
 pub(crate) fn put_flight(
     text: &mut Vec<u8>,
     page: PageId,
