@@ -13,7 +13,7 @@ use Rattle.thp_links.proofs.Members.{empty_from_first, Contains-nil, Contains-he
 use Rattle.thp_links.proofs.OneTable.{Stands-kept, Stands-nil, Stands-inside}
 use Rattle.thp_model.proofs.ListPlaces.{append_none}
 use Rattle.thp_check.specs.Flights.{FlightsState, AreLinked, caller_at, list_at, blocks_in, flight_left}
-use Rattle.thp_check.proofs.Walking.{next_at, there_is, take_all, filter_more}
+use Rattle.thp_live_pages.proofs.Walking.{next_at, there_is, take_all, filter_more}
 
 -- two tests that agree on a list
 filter_agree : (p q : ℕ → Bool) (xs : List ℕ) → ((x : ℕ) → Contains xs x → p x ≡ q x) → filter p xs ≡ filter q xs

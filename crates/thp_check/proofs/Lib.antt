@@ -1,4 +1,3 @@
-pub mod Walking
 pub mod FlightLists
 pub mod PageEvents
 pub mod FlightBlocks

@@ -25,9 +25,11 @@ use Rattle.thp_page.specs.Slots.{slot_at, page_in, HoldsPage}
 use Rattle.thp_page.specs.Table.{Slot, Table}
 use Rattle.thp_live_pages.specs.Holding.{IsNode, Fills}
 use Rattle.thp_live_pages.specs.Homes.{block_of}
-use Rattle.thp_live_pages.specs.PlacesState.{AtSlot}
+use Rattle.thp_live_pages.specs.FreeChains.{Relinks}
+use Rattle.thp_live_pages.specs.PlacesState.{AtSlot, PlacesState}
 use Rattle.thp_live_pages.proofs.Admitting.{Found, found, at_home, not_live}
 use Rattle.thp_live_pages.proofs.Homing.{Homed, legal_homed, block_free, block_taken}
+use Rattle.thp_live_pages.proofs.Looking.{node_read}
 use Rattle.thp_live_pages.proofs.Relinking.{page_there}
 use Rattle.thp_check.specs.declared.node_state.NodeState.{NodeState}
 use Rattle.thp_check.specs.Meanings.{Means}
@@ -252,3 +254,18 @@ shrinks_is s = elim s.underused as (λ o. shrinks_underused (record s { underuse
 pub if_ok_then : {A E : Type 0} (r : Result A E) (P Q : A → Type 0) → ((x : A) → P x → Q x) → IfOk r P → IfOk r Q
 if_ok_then (Ok x) P Q f p = f x p
 if_ok_then (Err e) P Q f p = p
+
+-- a replay whose links were read means what it meant
+pub means_read : (s : Shape) (h : History) (r : NodeState) (p : PlacesState) (most : ℕ) → Means s h r → Relinks r.places p most → Means s h (record r { places = p })
+means_read s h r p most m same = record {
+  kept = record {
+    shape_is = m.kept.shape_is;
+    low = m.kept.low;
+    node = node_read s h r.places p most m.kept.node same;
+    flying = m.kept.flying;
+    room = m.kept.room;
+    next_is = m.kept.next_is;
+    closed_is = m.kept.closed_is;
+  };
+  taking = m.taking;
+}

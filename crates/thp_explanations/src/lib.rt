@@ -6,7 +6,9 @@
 
 mod expected;
 mod explanation;
+mod laws;
 mod pieces;
 mod reasons;
 
 pub use explanation::put_explanation;
+pub use laws::what_is_expected_fits;

@@ -1,5 +1,5 @@
 //! The table of page descriptors: for each block of a node a link pair and, where it is taken, a page.
-ghost use Rattle.std.specs.Prelude.{◌≡◌, ◌<◌, ◌≤◌, ℕ, ◌+◌, length, replicate, slice_get, IsSome, IfOk, IfSome, IfNone, Option, Some, None};
+ghost use Rattle.std.specs.Prelude.{◌≡◌, ◌<◌, ◌≤◌, ℕ, ◌+◌, length, replicate, IsSome, IfOk, IfSome, IfNone, Option, Some, None};
 ghost use Rattle.std.specs.Option.{option_map, option_copied_mut};
 ghost use Rattle.thp_model.specs.Limits.{max_order, min_order};
 ghost use Rattle.thp_model.specs.Pages.{IsFresh};
@@ -162,14 +162,6 @@ impl PageTable {
     {
         let descriptor = &mut self.descriptors[block as usize];
         descriptor.standing = standing;
-    }
-
-    /// The block behind this one in the list that goes through it, or `NIL`.
-    pub fn next(&self, block: u32) -> u32
-        requires { block < length self.now.links }
-        ensures { IfSome (slice_get self.now.links block) (λ l. result ≡ l.next) }
-    {
-        self.descriptors[block as usize].link.next
     }
 }
 

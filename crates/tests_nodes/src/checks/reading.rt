@@ -1,17 +1,24 @@
 //! What a replay tells of the events that it met.
+ghost use Rattle.std.specs.Prelude.{◌≤◌};
+
 use crate::checks::histories::{
     ONE, ZERO, alloc_in, by, close, large, pin, pinned, queued_then, split, taken, unmap, write,
 };
 use crate::checks::underused::small;
+use std::alloc::Global;
 use std::process::Abort;
 use thp_check::{Replay, Standing};
-use thp_model::{Event, Outcome, PageId, SubSet, What};
+use thp_model::{Event, Outcome, PageId, Shape, SubSet, What};
 
 const TWO: PageId = PageId(2);
 
-// The replay with these events, which fit.
-fn then(rt: &impl Abort, mut replay: Replay, events: &[Event]) -> Replay {
-    for event in events {
+// The replay of these events, which are legal on a node of this shape.
+fn replay_of(rt: &impl Abort, alloc: Global, shape: Shape, events: &[Event]) -> Replay
+    requires least { 2 ≤ shape.order }
+    requires most { shape.order ≤ 9 }
+{
+    let mut replay = Replay::new(alloc, shape).expect(rt, "memory");
+    for (_place, event) in events.iter().enumerate() {
         replay = replay.admit(event).expect(rt, "a legal event");
     }
     replay
@@ -37,17 +44,13 @@ fn replay_tells_where_pages_stand(rt: HostRuntime) {
     let alloc = rt.alloc();
     let taken_by_64 = by(64, What::Taken { page: TWO });
     let gone = unmap(PageId(3), 1, 511, Outcome::Freed, SubSet::full(9));
-    let events = queued_then(
-        &rt,
-        alloc,
-        4,
-        &[pin(TWO), gone, taken(ZERO), taken(ONE)],
-    );
-    let replay = Replay::new(alloc, large()).expect(&rt, "memory");
-    let replay = then(&rt, replay, &events);
+    let then = [pin(TWO), gone, taken(ZERO), taken(ONE), taken_by_64];
+    let events = queued_then(&rt, alloc, 4, &then[..4]);
+    let mut replay = replay_of(&rt, alloc, large(), &events);
     let queue = replay.queue(alloc).expect(&rt, "memory");
     assert!(rt; queue.as_slice() == [TWO].as_slice());
-    let replay = then(&rt, replay, &[taken_by_64]);
+    let events = queued_then(&rt, alloc, 4, &then);
+    let replay = replay_of(&rt, alloc, large(), &events);
     let mine = replay.flight(alloc, 0).expect(&rt, "memory");
     let others = replay.flight(alloc, 64).expect(&rt, "memory");
     assert!(rt; mine.as_slice() == [ZERO, ONE].as_slice());
@@ -80,8 +83,7 @@ fn replay_tells_what_events_add_up_to(rt: HostRuntime) {
         pinned(TWO),
         unmap(ONE, 0, 1, Outcome::Stays, first),
     ];
-    let replay = Replay::new(rt.alloc(), small(4)).expect(&rt, "memory");
-    let replay = then(&rt, replay, &events);
+    let replay = replay_of(&rt, rt.alloc(), small(4), &events);
     assert!(rt; (replay.frames_held(), replay.frames_given()) == (4, 8));
     let splits = (replay.thp_split_page(), replay.thp_underused_split_page());
     assert!(rt; splits == (2, 2));

@@ -19,13 +19,14 @@ use thp_live_pages::Places;
 use thp_model::PageId;
 
 impl Replay {
-    /// The pages in the deferred split queue, the oldest first.
-    pub fn queue(&self, alloc: Global) -> Result<Vec<PageId>, AllocError>
-        ensures { IfOk result (λ pages. pages.items ≡ queue self.now.shape self.now.history) }
+    /// The pages in the deferred split queue, the oldest first. The replay is lent to be changed, since each look at a link of the
+    /// queue is counted; it stays what it is.
+    pub fn queue(&mut self, alloc: Global) -> Result<Vec<PageId>, AllocError>
+        ensures pages { IfOk result (λ pages. pages.items ≡ queue self.old.shape self.old.history) }
+        ensures same { self.new ≡ self.old }
     {
-        let places = &self.state.places;
-        let blocks = queued_blocks(places, alloc)?;
-        pages_of(places, alloc, &blocks)
+        let blocks = self.state.places.queued(alloc)?;
+        pages_of(&self.state.places, alloc, &blocks)
     }
 
     /// The pages that a caller took and that are still in its batch, in the order in which it took them.
@@ -125,23 +126,6 @@ impl Replay {
     {
         self.tally.underused_split_page
     }
-}
-
-// The blocks of the pages in the queue, the oldest first.
-fn queued_blocks(places: &Places, alloc: Global) -> Result<Vec<u32>, AllocError>
-    ensures { IfOk result (λ blocks. blocks.items ≡ places.now.queue) }
-{
-    let queue = places.queue();
-    let mut blocks = Vec::with_capacity(alloc, queue.len() as usize)?;
-    let mut block = match queue.front() {
-        Some(block) => block,
-        None => return Ok(blocks),
-    };
-    for _place in 0..queue.len() {
-        blocks.push(block)?;
-        block = places.table().next(block);
-    }
-    Ok(blocks)
 }
 
 // The blocks where a page lies, ascending, of so many.
