@@ -13,6 +13,7 @@ use Rattle.thp_links.proofs.Members.{empty_from_first, Contains-nil, Contains-he
 use Rattle.thp_links.proofs.OneTable.{Stands-kept, Stands-nil, Stands-inside}
 use Rattle.thp_model.proofs.ListPlaces.{append_none}
 use Rattle.thp_check.specs.Flights.{FlightsState, AreLinked, caller_at, list_at, blocks_in, flight_left}
+use Rattle.thp_live_pages.proofs.Walking.{next_at, there_is, take_all, filter_more}
 
 -- two tests that agree on a list
 filter_agree : (p q : ℕ → Bool) (xs : List ℕ) → ((x : ℕ) → Contains xs x → p x ≡ q x) → filter p xs ≡ filter q xs
@@ -253,18 +254,6 @@ any_default (l ∷ ls) (suc k) xs ys below = any_default ls k xs ys (omega arith
 pub read_list : (ls : List (List ℕ)) (k c : ℕ) (xs ys : List ℕ) → length ls ≡ 64 → k < 64 → k ≡ c % 64 → xs ≡ get_or ls k ys → xs ≡ list_at ls (c % 64)
 read_list ls k c xs ys size below place is = is ∙ any_default ls k ys [] (omega (arith, size)) ∙ ap (list_at ls) place
 
--- the pair of an index, which names the index behind it
-next_at : (links : List Link) (p : ℕ) (xs : List ℕ) (k : ℕ) → Segment links p xs NIL → k < length xs → (q : ℕ) × (slice_get links (get_or xs k NIL) ≡ Some (between q (get_or xs (suc k) NIL)))
-next_at links p [] k s below = absurd (omega arith)
-next_at links p (x ∷ xs) zero s below = (p, s.0)
-next_at links p (x ∷ xs) (suc k) s below = next_at links x xs k s.1 (omega arith)
-
--- an index of the list
-there_is : (xs : List ℕ) (k : ℕ) → k < length xs → Contains xs (get_or xs k NIL)
-there_is [] k below = absurd (omega arith)
-there_is (x ∷ xs) zero below = Contains-head x xs
-there_is (x ∷ xs) (suc k) below = Contains-behind x xs (get_or xs k NIL) (there_is xs k (omega arith))
-
 -- no index passed the test so far: the next one does, or doesn't, or there is none
 first_found : (p : ℕ → Bool) (xs : List ℕ) (k : ℕ) → k < length xs → filter p (take k xs) ≡ [] → p (get_or xs k NIL) ≡ true → slice_get (filter p xs) 0 ≡ Some (get_or xs k NIL)
 first_found p [] k below none is = absurd (omega arith)
@@ -341,6 +330,21 @@ module _ (cs : List ℕ) (ls : List (List ℕ)) (links : List Link) (m : AreLink
       ap (λ j. filter is_its (take j its_list)) (add-one k)
       ∙ none_more is_its its_list k (omega (arith, below, ap (λ (ys : List ℕ). length ys) list_is)) passed
       (ap is_its (sym next) ∙ ne_eqb (caller_at f.callers b) c (λ e. other (sym (caller_is k b n next below is) ∙ e)))
+
+  pub kept_on : (k b n : ℕ) → b ≡ get_or its_list k NIL → k < length xs → n ≡ get_or cs b n → n ≡ c → filter is_its (take (k + 1) its_list) ≡ filter is_its (take k its_list) ++ b ∷ []
+  kept_on k b n next below is same =
+      filter_more is_its its_list k b (omega (arith, below, ap (λ (ys : List ℕ). length ys) list_is)) next
+      ∙ ap (λ y. filter is_its (take k its_list) ++ cond y (b ∷ []) []) (eq-eqb (caller_at f.callers b) c (caller_is k b n next below is ∙ same))
+
+  pub passed_by : (k b n : ℕ) → b ≡ get_or its_list k NIL → k < length xs → n ≡ get_or cs b n → n ≢ c → filter is_its (take (k + 1) its_list) ≡ filter is_its (take k its_list)
+  passed_by k b n next below is other =
+      filter_more is_its its_list k b (omega (arith, below, ap (λ (ys : List ℕ). length ys) list_is)) next
+      ∙ ap (λ y. filter is_its (take k its_list) ++ cond y (b ∷ []) []) (ne_eqb (caller_at f.callers b) c (λ e. other (sym (caller_is k b n next below is) ∙ e)))
+      ∙ append_none (filter is_its (take k its_list))
+
+  pub all_passed : (k : ℕ) → length xs ≤ k → filter is_its (take k its_list) ≡ blocks_in f c
+  unfolding blocks_in
+  all_passed k past = ap (filter is_its) (take_all its_list k (omega (arith, past, ap (λ (ys : List ℕ). length ys) list_is)))
 
   pub next_behind : (k b v : ℕ) → b ≡ get_or its_list k NIL → k < length xs → IfSome (slice_get links b) (λ l. v ≡ l.next) → v ≡ get_or its_list (k + 1) NIL
   next_behind k b v next below told =

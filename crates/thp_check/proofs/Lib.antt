@@ -8,3 +8,5 @@ pub mod Reading
 pub mod Beginning
 pub mod Deciding
 pub mod FreeMarks
+pub mod Showing
+pub mod Totals

@@ -63,6 +63,25 @@ impl Flights {
         None
     }
 
+    // The blocks of a caller's flight, in order. Pages of other callers of the same list are passed on the way.
+    pub(crate) fn blocks_of(&self, alloc: Global, caller: u32) -> Result<Vec<u32>, AllocError>
+        ensures { IfOk result (λ blocks. blocks.items ≡ blocks_in self.now caller) }
+    {
+        let list = &self.lists[list_of(caller)];
+        let mut blocks = Vec::new(alloc);
+        let mut block = match list.front() {
+            Some(block) => block,
+            None => return Ok(blocks),
+        };
+        for _place in 0..list.len() {
+            if self.callers[block as usize] == caller {
+                blocks.push(block)?;
+            }
+            block = self.links.next(block);
+        }
+        Ok(blocks)
+    }
+
     // Puts the page of a block, which is in no flight, at the end of a caller's.
     pub(crate) fn join(&mut self, caller: u32, block: u32)
         requires inside { block < length self.old.callers }

@@ -8,11 +8,15 @@
 mod checking;
 mod flights;
 mod links;
+mod live_page;
 mod misfit;
 mod node_state;
 mod replay;
+mod tally;
 
 pub use checking::check;
+pub use live_page::LivePage;
 pub use misfit::Misfit;
 pub use replay::Replay;
 pub use thp_model::CheckFault;
+pub use thp_page::Standing;

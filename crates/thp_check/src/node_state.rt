@@ -24,7 +24,7 @@ use thp_model::{Done, Event, Gain, Loss, Outcome, PageId, Refusal, Shape, SubSet
 pub(crate) struct NodeState {
     pub(crate) shape: Shape,
     pub(crate) places: Places,
-    flights: Flights,
+    pub(crate) flights: Flights,
     // how many pages were allocated: the next page's number
     pub(crate) next: u64,
     pub(crate) closed: bool,

@@ -2,7 +2,7 @@
 ghost use Rattle.std.specs.Prelude.{◌≡◌, ◌≤◌, ◌<◌, ◌+◌, ◌*◌, ◌^◌, ℕ, [], ◌∷◌, ◌++◌, length, slice_get, IfOk, IfErr, IfSome};
 ghost use Rattle.thp_model.specs.BlockLaws.{least_free};
 ghost use Rattle.thp_model.specs.Counts.{allocations, is_closed};
-ghost use Rattle.thp_model.specs.History.{History};
+ghost use Rattle.thp_model.specs.History.{History, by};
 ghost use Rattle.thp_model.specs.Legal.{Fits, IsLegal};
 ghost use Rattle.thp_model.specs.Limits.{max_order, min_order};
 ghost use Rattle.thp_model.specs.Places.{queue};
@@ -12,9 +12,13 @@ ghost use Rattle.thp_check.specs.Freeing.{free_after, taken_block, IsFreed};
 ghost use Rattle.thp_check.specs.Meanings.{Means};
 ghost use Rattle.thp_check.specs.Reasons.{Explains};
 ghost use Rattle.thp_check.specs.Replays.{with_event};
+ghost use Rattle.thp_check.specs.Totals.{IsUnsaid};
+
+mod reading;
 
 use crate::misfit::Misfit;
 use crate::node_state::NodeState;
+use crate::tally::{Tally, Unsaid};
 use std::alloc::{AllocError, Global};
 use std::marker::Model;
 use thp_least_blocks::{FreeBlocks, Past, freed_page};
@@ -29,6 +33,7 @@ pub struct Replay {
     state: Box<NodeState>,
     // the blocks where no live page lies
     free: FreeBlocks,
+    tally: Box<Tally>,
     // takes no bytes
     past: Past,
 }
@@ -37,12 +42,13 @@ impl Model for Replay {
     ghost use Rattle.thp_check.specs.Freeing.{MarksFree};
     ghost use Rattle.thp_check.specs.Meanings.{Means};
     ghost use Rattle.thp_check.specs.Replays.{Replayed};
+    ghost use Rattle.thp_check.specs.Totals.{AddsUp};
 
     ghost Value = { Replayed };
 
     ghost view = { λ r. record { shape = r.state.value.shape; history = r.past } };
 
-    ghost invariant = { λ r. Means r.state.value.shape r.past r.state.value × MarksFree r.state.value.shape r.past r.free };
+    ghost invariant = { λ r. Means r.state.value.shape r.past r.state.value × MarksFree r.state.value.shape r.past r.free × AddsUp r.state.value.shape r.past r.tally.value };
 }
 
 impl Replay {
@@ -59,6 +65,7 @@ impl Replay {
         Ok(Replay {
             state: Box::new(alloc, state)?,
             free,
+            tally: Box::new(alloc, Tally::new())?,
             past: Past::new(),
         })
     }
@@ -76,15 +83,23 @@ impl Replay {
         let Replay {
             mut state,
             mut free,
+            mut tally,
             mut past,
         } = self;
         let freed = freed_block(&state, &event.what);
+        let unsaid = unsaid_of(&state, &event.what);
         if let Err(misfit) = state.admit(event) {
             return Err(misfit);
         }
         mark(&mut free, taken_block(&event.what), freed);
+        tally.count(&event.what, unsaid);
         past.push(event);
-        Ok(Replay { state, free, past })
+        Ok(Replay {
+            state,
+            free,
+            tally,
+            past,
+        })
     }
 
     /// How many pages were allocated; the next page has this number.
@@ -135,6 +150,26 @@ fn freed_block(state: &NodeState, what: &What) -> Option<u32>
 {
     let page = freed_page(what)?;
     state.places.find(page)
+}
+
+// What an event doesn't say of the page that it splits.
+fn unsaid_of(state: &NodeState, what: &What) -> Unsaid
+    ensures { (s : Shape) (h : History) (c : ℕ) → Means s h state.now → Fits s h (by c what.now) → IsUnsaid s h what.now result }
+{
+    let none = Unsaid {
+        mappings: 0,
+        underused: false,
+    };
+    let What::Split { page, .. } = what else {
+        return none;
+    };
+    match state.places.find(*page) {
+        Some(block) => Unsaid {
+            mappings: state.places.whole(block),
+            underused: !state.places.is_partly(block),
+        },
+        None => none,
+    }
 }
 
 // The block of an allocation.

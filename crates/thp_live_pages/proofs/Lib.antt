@@ -10,3 +10,5 @@ pub mod Admitting
 pub mod ListEvents
 pub mod Closing
 pub mod Starting
+pub mod Walking
+pub mod Looking

@@ -14,5 +14,6 @@
 
 mod page_call;
 mod places;
+mod walk;
 
 pub use places::Places;

@@ -14,6 +14,7 @@ ghost use Rattle.thp_model.specs.PageCalls.{gain_call, loss_call, page_call, Gai
 ghost use Rattle.thp_live_pages.specs.PlacesState.{AtSlot, Edits, batch_of, IsElsewhere, LeavesQueue, Lost, Placed, Reduced, TakesFirst};
 
 use crate::page_call::lose_by;
+use crate::walk::blocks_of;
 use std::alloc::{AllocError, Global};
 use std::marker::Model;
 use thp_links::{FreeChain, LinkTable, Queue};
@@ -71,6 +72,15 @@ impl Places {
         ensures stands { Stands self.now.queue self.now.table.links }
     {
         &self.queue
+    }
+
+    /// The blocks of the queue, the oldest first. It reads the link pair of each, and so takes the places to change: every look
+    /// at a link is counted.
+    pub fn queued(&mut self, alloc: Global) -> Result<Vec<u32>, AllocError>
+        ensures blocks { IfOk result (λ blocks. blocks.items ≡ self.old.queue) }
+        ensures same { Relinks self.old self.new (length self.old.queue) }
+    {
+        blocks_of(&mut self.table, &self.queue, alloc)
     }
 
     /// Whether there is such a block, and no page in it.

@@ -6,10 +6,13 @@ use Rattle.thp_model.specs.History.{History}
 use Rattle.thp_model.specs.Words.{in_words}
 use Rattle.thp_live_pages.proofs.Starting.{few_events}
 use Rattle.thp_check.specs.declared.node_state.NodeState.{NodeState}
+use Rattle.thp_check.specs.declared.tally.Tally.{Tally}
 use Rattle.thp_check.specs.Freeing.{free_after, MarksFree}
 use Rattle.thp_check.specs.Meanings.{Means}
 use Rattle.thp_check.specs.Replays.{Replayed}
+use Rattle.thp_check.specs.Totals.{AddsUp, HasRoom}
 use Rattle.thp_check.proofs.FreeMarks.{freed_inside, marks_push}
+use Rattle.thp_check.proofs.Totals.{has_room, adds_push}
 use Rattle.thp_check.proofs.replay.Replay.admit.Goals as goal
 
 pub admit-requires-clause-small : goal.admit-requires-clause-small
@@ -38,5 +41,16 @@ invariant_of-result c =
     let marks : MarksFree s (i.past ++ e ∷ []) c.mark.new.free =
     marks_push s i.past e c.self.invariant.0.kept.node.legal went.0 i.free c.mark.new.free c.freed_block-freed.result c.self.invariant.1 freed c.mark.ensures.size
     (λ b. c.mark.ensures.marked b ∙ ap (λ t. free_after t c.freed_block-freed.result b (in_words i.free b)) c.taken_block.ensures) in
-    let P : Shape → History → Type 0 = λ z h. Means z h c.admit.new.self × MarksFree z h c.mark.new.free in
-    subst (λ z. P z c.push.new.self) (sym went.1.kept.shape_is) (subst (λ h. P s h) (sym c.push.ensures) (went.1, marks))
+    let said = c.unsaid_of-unsaid.ensures s i.past e.caller (subst M (sym c.deref-2.ensures) c.self.invariant.0) went.0 in
+    let adds : AddsUp s (i.past ++ e ∷ []) c.count.new.self =
+    let old : Tally → Type 0 = λ t. AddsUp s i.past t in
+    adds_push s i.past e c.unsaid_of-unsaid.result c.deref_mut-2.result.now c.count.new.self (subst old (sym c.deref_mut-2.ensures.value) c.self.invariant.2) said c.count.ensures in
+    let P : Shape → History → Type 0 = λ z h. Means z h c.admit.new.self × MarksFree z h c.mark.new.free × AddsUp z h c.count.new.self in
+    subst (λ z. P z c.push.new.self) (sym went.1.kept.shape_is) (subst (λ h. P s h) (sym c.push.ensures) (went.1, marks, adds))
+
+pub count-requires : goal.count-requires
+count-requires c =
+    let i = c.self.inside in
+    let past : length i.past ≡ length c.args.self.history = ap (λ (r : Replayed). length r.history) c.self.view_is in
+    let P : Tally → Type 0 = λ t. HasRoom t in
+    subst P (sym c.deref_mut-2.ensures.value) (has_room i.state.value.shape i.past i.tally.value c.self.invariant.0.kept.low c.self.invariant.0.kept.node.legal c.self.invariant.2 (omega (arith, past, c.requires.room)))

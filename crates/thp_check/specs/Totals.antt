@@ -1,0 +1,68 @@
+-- What the events of a history add up to, as a replay keeps it. No public clause cites this module.
+use Rattle.std.specs.Prelude.{◌≡◌, ℕ, ◌+◌, ◌*◌, ◌^◌, ◌≤◌, ◌<◌, length, List}
+use Rattle.std.specs.Int.{from_bool}
+use Rattle.thp_model.specs.declared.events.What.{What}
+use Rattle.thp_model.specs.declared.events.What.TheVariants.{UnmapWhole, UnmapSub, SplitPmd, Unpin, Split}
+use Rattle.thp_model.specs.declared.shape.Shape.{Shape}
+use Rattle.thp_model.specs.Counters.{is_page_split, is_failed_try, queues, thp_split_page, thp_split_page_failed, thp_deferred_split_page, thp_split_pmd, thp_underused_split_page, splits_underused}
+use Rattle.thp_model.specs.Counts.{whole}
+use Rattle.thp_model.specs.Frames.{frames_given}
+use Rattle.thp_model.specs.History.{History}
+use Rattle.thp_model.specs.Sets.{set_size}
+use Rattle.thp_check.specs.declared.tally.Tally.{Tally}
+use Rattle.thp_check.specs.declared.tally.Unsaid.{Unsaid}
+
+-- the numbers are those of the history
+pub record AddsUp (s : Shape) (h : History) (t : Tally) : Type 0 where
+  pub frames_given : t.frames_given ≡ frames_given h
+  pub split_page : t.split_page ≡ thp_split_page h
+  pub split_page_failed : t.split_page_failed ≡ thp_split_page_failed h
+  pub deferred_split_page : t.deferred_split_page ≡ thp_deferred_split_page h
+  pub underused_split_page : t.underused_split_page ≡ thp_underused_split_page s h
+  pub split_pmd : t.split_pmd ≡ thp_split_pmd h
+  -- each event splits one page at most, and fewer than 2 ^ 32 PMD mappings
+  pub few_underused : thp_underused_split_page s h ≤ length h
+  pub few_split_pmds : thp_split_pmd h ≤ 2 ^ 32 * length h
+
+-- the numbers have room for what an event can add to them
+pub record HasRoom (t : Tally) : Type 0 where
+  pub frames_given : t.frames_given + 2 ^ 32 < 2 ^ 128
+  pub split_page : t.split_page + 1 < 2 ^ 64
+  pub split_page_failed : t.split_page_failed + 1 < 2 ^ 64
+  pub deferred_split_page : t.deferred_split_page + 1 < 2 ^ 64
+  pub underused_split_page : t.underused_split_page + 1 < 2 ^ 64
+  pub split_pmd : t.split_pmd + 2 ^ 32 < 2 ^ 128
+
+-- how many frames an event gives back
+abbrev pub frames_of : What → ℕ
+frames_of (UnmapWhole outcome p set) = set_size set
+frames_of (UnmapSub outcome p first count set) = set_size set
+frames_of (Unpin outcome p set) = set_size set
+frames_of (Split p set) = set_size set
+frames_of w = 0
+
+-- how many PMD mappings an event splits, and how many pages that weren't partly mapped, told of what is unsaid
+abbrev pub pmds_of : What → Unsaid → ℕ
+pmds_of (SplitPmd p) u = 1
+pmds_of (Split p set) u = u.mappings
+pmds_of w u = 0
+
+abbrev pub underused_of : What → Unsaid → ℕ
+underused_of (Split p set) u = from_bool u.underused
+underused_of w u = 0
+
+-- what an event adds to the numbers
+pub record Adds (old new : Tally) (w : What) (u : Unsaid) : Type 0 where
+  pub frames_given : new.frames_given ≡ old.frames_given + frames_of w
+  pub split_page : new.split_page ≡ old.split_page + from_bool (is_page_split w)
+  pub split_page_failed : new.split_page_failed ≡ old.split_page_failed + from_bool (is_failed_try w)
+  pub deferred_split_page : new.deferred_split_page ≡ old.deferred_split_page + from_bool (queues w)
+  pub underused_split_page : new.underused_split_page ≡ old.underused_split_page + underused_of w u
+  pub split_pmd : new.split_pmd ≡ old.split_pmd + pmds_of w u
+  -- so few that their sum stays low
+  pub few_split_pmds : pmds_of w u < 2 ^ 32
+
+-- what is unsaid of a page that is split is what the history says of it
+abbrev pub IsUnsaid : Shape → History → What → Unsaid → Type 0
+IsUnsaid s h (Split p set) u = (u.mappings ≡ whole h p) × (from_bool u.underused ≡ splits_underused s h (Split p set))
+IsUnsaid s h w u = Unit {0}

@@ -1,0 +1,155 @@
+//! What a tool shows of a replay: its queue, its flights and its pages, and what its events add up to.
+ghost use Rattle.std.specs.Prelude.{◌≡◌, ℕ, length, map, slice_get, is_some, IfOk, IfSome, IsSome, Some, ◌&&◌, nat_lt};
+ghost use Rattle.std.specs.List.{filter, range_with_len};
+ghost use Rattle.thp_model.specs.Counters.{thp_split_page, thp_split_page_failed, thp_deferred_split_page, thp_split_pmd, thp_underused_split_page};
+ghost use Rattle.thp_model.specs.Counts.{is_live, is_split, is_used, pins, whole};
+ghost use Rattle.thp_model.specs.Frames.{block_in_use, frames_given, frames_held, is_held};
+ghost use Rattle.thp_model.specs.Places.{flight, queue};
+ghost use Rattle.thp_model.specs.Sets.{set_of};
+ghost use Rattle.thp_model.specs.Shapes.{subpages};
+ghost use Rattle.thp_model.specs.Underused.{is_partly_mapped, is_worth_split, is_zero_filled};
+ghost use Rattle.thp_page.specs.Slots.{slot_at};
+ghost use Rattle.thp_live_pages.specs.Homes.{block_of, standing_of};
+ghost use Rattle.thp_check.specs.Showing.{is_taken, page_at};
+
+use crate::live_page::LivePage;
+use crate::replay::Replay;
+use std::alloc::{AllocError, Global};
+use thp_live_pages::Places;
+use thp_model::PageId;
+
+impl Replay {
+    /// The pages in the deferred split queue, the oldest first. The replay is lent to be changed, since each look at a link of the
+    /// queue is counted; it stays what it is.
+    pub fn queue(&mut self, alloc: Global) -> Result<Vec<PageId>, AllocError>
+        ensures pages { IfOk result (λ pages. pages.items ≡ queue self.old.shape self.old.history) }
+        ensures same { self.new ≡ self.old }
+    {
+        let blocks = self.state.places.queued(alloc)?;
+        pages_of(&self.state.places, alloc, &blocks)
+    }
+
+    /// The pages that a caller took and that are still in its batch, in the order in which it took them.
+    pub fn flight(&self, alloc: Global, caller: u32) -> Result<Vec<PageId>, AllocError>
+        ensures { IfOk result (λ pages. pages.items ≡ flight self.now.history caller) }
+    {
+        let blocks = self.state.flights.blocks_of(alloc, caller)?;
+        pages_of(&self.state.places, alloc, &blocks)
+    }
+
+    /// The pages that live, in the order of the blocks in which they lie.
+    pub fn live_pages(&self, alloc: Global) -> Result<Vec<PageId>, AllocError>
+        ensures { IfOk result (λ pages. map (block_of self.now.history) pages.items ≡ map (λ b. Some b) (filter (block_in_use self.now.history) (range_with_len 0 self.now.shape.blocks))) }
+    {
+        let places = &self.state.places;
+        let blocks = taken_blocks(places, alloc, self.state.shape.blocks)?;
+        pages_of(places, alloc, &blocks)
+    }
+
+    /// A page as the events so far leave it; `None` where it doesn't live.
+    pub fn page(&self, page: PageId) -> Option<LivePage>
+        ensures live { is_some result ≡ is_live self.now.history page }
+        ensures block { IfSome result (λ x. block_of self.now.history page ≡ Some x.block) }
+        ensures standing { IfSome result (λ x. x.standing ≡ standing_of self.now.shape self.now.history page) }
+        ensures split { IfSome result (λ x. x.split ≡ is_split self.now.history page) }
+        ensures partly { IfSome result (λ x. x.partly_mapped ≡ is_partly_mapped self.now.shape self.now.history page) }
+        ensures worth { IfSome result (λ x. x.worth_split ≡ is_worth_split self.now.shape self.now.history page) }
+        ensures pins { IfSome result (λ x. x.pins ≡ pins self.now.history page) }
+        ensures whole { IfSome result (λ x. x.whole ≡ whole self.now.history page) }
+        ensures used { IfSome result (λ x. x.used ≡ set_of (λ i. nat_lt i (subpages self.now.shape) && is_used self.now.history page i)) }
+        ensures zero { IfSome result (λ x. x.zero_filled ≡ set_of (λ i. nat_lt i (subpages self.now.shape) && is_zero_filled self.now.history page i)) }
+        ensures held { IfSome result (λ x. x.held ≡ set_of (is_held self.now.shape self.now.history page)) }
+    {
+        let table = self.state.places.table();
+        let block = match table.block_of(page) {
+            Some(block) => block,
+            None => return None,
+        };
+        let standing = table.standing(block);
+        match table.page(block) {
+            Some((_, state)) => Some(LivePage::of(
+                state,
+                block,
+                standing,
+                self.state.shape.underused,
+            )),
+            None => unreachable!(),
+        }
+    }
+
+    /// How many frames the live pages hold.
+    pub fn frames_held(&self) -> u128
+        ensures { result ≡ frames_held self.now.shape self.now.history }
+    {
+        u128::from(self.state.shape.subpages()) * u128::from(self.state.next)
+            - self.tally.frames_given
+    }
+
+    /// How many frames were given back.
+    pub fn frames_given(&self) -> u128
+        ensures { result ≡ frames_given self.now.history }
+    {
+        self.tally.frames_given
+    }
+
+    /// How many pages were split.
+    pub fn thp_split_page(&self) -> u64
+        ensures { result ≡ thp_split_page self.now.history }
+    {
+        self.tally.split_page
+    }
+
+    /// How many tries found a page pinned.
+    pub fn thp_split_page_failed(&self) -> u64
+        ensures { result ≡ thp_split_page_failed self.now.history }
+    {
+        self.tally.split_page_failed
+    }
+
+    /// How often a page was queued; neither a put-back nor an allocation counts.
+    pub fn thp_deferred_split_page(&self) -> u64
+        ensures { result ≡ thp_deferred_split_page self.now.history }
+    {
+        self.tally.deferred_split_page
+    }
+
+    /// How many PMD mappings were split: one for each `SplitPmd`, and all that a page had when it was split itself.
+    pub fn thp_split_pmd(&self) -> u128
+        ensures { result ≡ thp_split_pmd self.now.history }
+    {
+        self.tally.split_pmd
+    }
+
+    /// How many pages were split that weren't partly mapped, but underused.
+    pub fn thp_underused_split_page(&self) -> u64
+        ensures { result ≡ thp_underused_split_page self.now.shape self.now.history }
+    {
+        self.tally.underused_split_page
+    }
+}
+
+// The blocks where a page lies, ascending, of so many.
+fn taken_blocks(places: &Places, alloc: Global, count: u32) -> Result<Vec<u32>, AllocError>
+    requires { length places.now.table.slots ≡ count }
+    ensures { IfOk result (λ blocks. blocks.items ≡ filter (is_taken places.now.table) (range_with_len 0 count)) }
+{
+    let mut blocks = Vec::new(alloc);
+    for block in 0..count {
+        if !places.is_free(block) {
+            blocks.push(block)?;
+        }
+    }
+    Ok(blocks)
+}
+
+// The numbers of the pages in these blocks, in the same order.
+fn pages_of(places: &Places, alloc: Global, blocks: &[u32]) -> Result<Vec<PageId>, AllocError>
+    requires { (k b : ℕ) → slice_get blocks.now k ≡ Some b → IsSome (slot_at places.now.table b) }
+    ensures { IfOk result (λ pages. pages.items ≡ map (page_at places.now.table) blocks.now) }
+{
+    let mut pages = Vec::with_capacity(alloc, blocks.len())?;
+    for block in blocks {
+        pages.push(places.number(*block))?;
+    }
+    Ok(pages)
+}

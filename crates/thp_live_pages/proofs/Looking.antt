@@ -1,0 +1,29 @@
+-- What stays where link pairs are only read: all but the count of accesses.
+use Rattle.std.proofs.Common.{◌≡◌, ℕ, List, Option, Some, None, length, map, get_or, ap, sym, ◌∙◌, subst}
+use Rattle.thp_links.specs.declared.link.Link.{Link}
+use Rattle.thp_links.specs.Standing.{Stands}
+use Rattle.thp_model.specs.declared.shape.Shape.{Shape}
+use Rattle.thp_model.specs.History.{History}
+use Rattle.thp_page.specs.Table.{Slot, Table}
+use Rattle.thp_live_pages.specs.FreeChains.{Relinks}
+use Rattle.thp_live_pages.specs.Holding.{Fills, IsNode}
+use Rattle.thp_live_pages.specs.Linking.{IsListed, IsLinked}
+use Rattle.thp_live_pages.specs.PlacesState.{PlacesState}
+
+-- the queue stands as it did
+pub linked_read : (t u : Table) (q : List ℕ) → IsLinked t q → u.slots ≡ t.slots → u.links ≡ t.links → IsLinked u q
+linked_read t u q m e f = record {
+  sizes = ap (λ (xs : List (Option Slot)). length xs) e ∙ m.sizes ∙ sym (ap (λ (ls : List Link). length ls) f);
+  queue_stands = let P : List Link → Type 0 = λ ls. Stands q ls in subst P (sym f) m.queue_stands;
+  listed = λ b. let P : List (Option Slot) → Type 0 = λ xs. IsListed (get_or xs b None) q b in subst P (sym e) (m.listed b);
+}
+
+-- and the table and the queue are still what the history says
+pub node_read : (s : Shape) (h : History) (old new : PlacesState) (most : ℕ) → IsNode s h old.table old.queue → Relinks old new most → IsNode s h new.table new.queue
+node_read s h old new most m r = record {
+  legal = m.legal;
+  size = ap (λ (xs : List (Option Slot)). length xs) r.slots ∙ m.size;
+  order = r.order ∙ m.order;
+  fills = λ b. let P : List (Option Slot) → Type 0 = λ xs. Fills s h b (get_or xs b None) in subst P (sym r.slots) (m.fills b);
+  queue_is = m.queue_is ∙ ap (λ (q : List ℕ). map (λ b. Some b) q) (sym r.queue_is);
+}
