@@ -231,9 +231,9 @@ pub tells_first : (nodes : List NodeJournal) (verdict : Verdict) → Says nodes 
 tells_first nodes verdict says = tells_by nodes verdict.node verdict.illegal says
 
 -- its line stands before the next line
-pub first_before : (nodes : List NodeJournal) (illegal : Option Illegal) (number : ℕ) → TellsFirst nodes illegal → All (IsNodeBefore number) nodes → IfSome illegal (λ i. i.line ≤ number)
-first_before nodes None number told each = tt
-first_before nodes (Some illegal) number told each = illegal_before nodes illegal number told each
+pub first_before : (nodes : List NodeJournal) (illegal : Option Illegal) (number most : ℕ) → TellsFirst nodes illegal → All (IsNodeBefore number) nodes → number ≤ most + 1 → IfSome illegal (λ i. i.line ≤ most + 1)
+first_before nodes None number most told each le = tt
+first_before nodes (Some illegal) number most told each le = omega (arith, illegal_before nodes illegal number told each)
 
 -- the line of what is answered is that of the first illegal event
 pub line_of_first : (nodes : List NodeJournal) (illegal : Option Illegal) → TellsFirst nodes illegal → TellsIllegal nodes (option_map (λ i. i.line) illegal)
@@ -294,7 +294,7 @@ says_admitted nodes old new next told event a placed is legal = legal_grows node
 
 -- where an event is illegal already, one more node changes nothing that is known
 still_by : (nodes : List NodeJournal) (node : Option NodeAtHand) (illegal : Option Illegal) (first_line : ℕ) (shape : Shape) → is_some illegal ≡ true → SaysBy nodes node illegal → SaysBy (nodes ++ began first_line shape ∷ []) node illegal
-still_by nodes node None first_line shape some says = absurd cc
+still_by nodes other None first_line shape some says = absurd cc
 still_by nodes None (Some illegal) first_line shape some says = illegal_begins nodes illegal first_line shape says
 still_by nodes (Some node) (Some illegal) first_line shape some says = absurd says
 
@@ -306,7 +306,7 @@ pub says_begun : (nodes : List NodeJournal) (node : Option NodeAtHand) (illegal 
     SaysBy nodes node illegal → SaysBy (nodes ++ began first_line shape ∷ []) (Some new) illegal
 says_begun nodes None None new first_line shape none same empty here says = rw here (first_begins nodes first_line shape new.replay says same empty)
 says_begun nodes (Some old) None new first_line shape none same empty here says = rw here (legal_begins nodes old.replay old.next_line first_line shape new.replay says same empty)
-says_begun nodes node (Some illegal) new first_line shape none same empty here says = absurd cc
+says_begun nodes other (Some illegal) new first_line shape none same empty here says = absurd cc
 
 -- while no node is at hand, an event leaves what is known
 pub says_nothing : (nodes : List NodeJournal) (node : Option NodeAtHand) (illegal : Option Illegal) (event : Event) → node ≡ None → SaysBy nodes node illegal → SaysBy (on_last (with_event event) nodes) node illegal

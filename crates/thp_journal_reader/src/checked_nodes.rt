@@ -55,9 +55,9 @@ impl Verdict {
 
     /// Goes on with the node at hand by an event, of which a line has told all but the block of a new page.
     fn go_on(&mut self, node: NodeAtHand, event: &Event)
-        requires none { self.old ≡ record { node = None; illegal = None } }
+        requires none { self.old.node ≡ None }
         requires room { HasRoomIn node }
-        ensures { (nodes : List NodeJournal) → (told : Event) → AreLegal nodes node.replay node.next_line → event.now ≡ event_with (least_free node.replay.shape node.replay.history) told → Says (on_last (with_event told) nodes) self.new }
+        ensures { (nodes : List NodeJournal) → (told : Event) → self.old.illegal ≡ None → AreLegal nodes node.replay node.next_line → event.now ≡ event_with (least_free node.replay.shape node.replay.history) told → Says (on_last (with_event told) nodes) self.new }
     {
         let NodeAtHand { replay, next_line } = node;
         match replay.admit(event) {
@@ -143,8 +143,8 @@ impl CheckedNodes {
     }
 
     /// The first event that isn't legal, if there is one.
-    pub(crate) fn illegal(self) -> Option<Illegal>
-        ensures { result ≡ self.verdict.illegal }
+    pub(crate) fn illegal(&self) -> Option<Illegal>
+        ensures { result ≡ self.now.verdict.illegal }
     {
         self.verdict.illegal
     }

@@ -23,6 +23,7 @@ pub struct JournalCheck {
 }
 
 impl Model for JournalCheck {
+    ghost use Rattle.std.specs.Prelude.{◌≡◌};
     ghost use Rattle.thp_journal_reader.specs.Parts.{ReadSoFar};
     ghost use Rattle.thp_text.specs.Limits.{max_input};
 

@@ -22,6 +22,7 @@ pub struct JournalReader {
 }
 
 impl Model for JournalReader {
+    ghost use Rattle.std.specs.Prelude.{◌≡◌};
     ghost use Rattle.thp_journal_reader.specs.Parts.{so_far, ReadSoFar};
     ghost use Rattle.thp_journal_reader.specs.Reading.{nodes_in, IsReading};
     ghost use Rattle.thp_text.specs.Limits.{max_input};

@@ -26,8 +26,10 @@ pub struct LongCheck {
 }
 
 impl Model for LongCheck {
+    ghost use Rattle.std.specs.Prelude.{◌≤◌};
     ghost use Rattle.thp_journal_reader.specs.Checking.{nodes_told, GoesWith};
     ghost use Rattle.thp_journal_reader.specs.Parts.{so_far, ReadSoFar};
+    ghost use Rattle.thp_text.specs.Limits.{max_counted};
 
     ghost Value = { ReadSoFar };
 

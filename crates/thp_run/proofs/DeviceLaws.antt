@@ -3,8 +3,7 @@ use Rattle.std.proofs.Common.{◌≡◌, ℕ, ◌<◌, List, [], ◌∷◌, ◌+
 use Rattle.std.proofs.lemmas.List.{append-nil, take-append-drop}
 use Rattle.std.specs.Prelude.{IfSome}
 use Rattle.std.specs.Io.KnownBytes.{Consumes, Appends, Keeps, IsAtEnd}
-use Rattle.thp_text.specs.Limits.{max_input}
-use Rattle.thp_run.specs.Devices.{IsInputOf, WritesFront}
+use Rattle.thp_run.specs.Devices.{IsFrontOf, WritesFront}
 
 -- nothing was read
 pub read_nothing : (a : Option (List ℕ)) → Consumes a a []
@@ -19,18 +18,18 @@ read_more (Some xs) (Some ys) None bytes piece h k = absurd k
 read_more (Some xs) (Some ys) (Some zs) bytes piece h k = rw (h, k) (sym (append_assoc bytes piece zs))
 
 -- all was read: one more read gave nothing
-pub read_all : (a b c : Option (List ℕ)) (bytes piece : List ℕ) → Consumes a b bytes → Consumes b c piece → length piece ≡ 0 → IsAtEnd c → IfSome a (IsInputOf bytes)
-read_all None b c bytes piece h k none end = tt
-read_all (Some xs) None c bytes piece h k none end = absurd h
-read_all (Some xs) (Some ys) None bytes piece h k none end = absurd k
-read_all (Some xs) (Some ys) (Some zs) bytes [] h k none end = record { rest = ys; front = h; all = λ le. k ∙ end }
-read_all (Some xs) (Some ys) (Some zs) bytes (b ∷ piece) h k none end = absurd (omega arith)
+pub read_all : (most : ℕ) (a b c : Option (List ℕ)) (bytes piece : List ℕ) → Consumes a b bytes → Consumes b c piece → length piece ≡ 0 → IsAtEnd c → IfSome a (IsFrontOf most bytes)
+read_all most None b c bytes piece h k none end = tt
+read_all most (Some xs) None c bytes piece h k none end = absurd h
+read_all most (Some xs) (Some ys) None bytes piece h k none end = absurd k
+read_all most (Some xs) (Some ys) (Some zs) bytes [] h k none end = record { rest = ys; front = h; all = λ le. k ∙ end }
+read_all most (Some xs) (Some ys) (Some zs) bytes (b ∷ piece) h k none end = absurd (omega arith)
 
--- more was read than an input may have
-pub read_beyond : (a b : Option (List ℕ)) (bytes : List ℕ) → Consumes a b bytes → max_input < length bytes → IfSome a (IsInputOf bytes)
-read_beyond None b bytes h lt = tt
-read_beyond (Some xs) None bytes h lt = absurd h
-read_beyond (Some xs) (Some ys) bytes h lt = record { rest = ys; front = h; all = λ le. absurd (omega arith) }
+-- more was read than is looked at
+pub read_beyond : (most : ℕ) (a b : Option (List ℕ)) (bytes : List ℕ) → Consumes a b bytes → most < length bytes → IfSome a (IsFrontOf most bytes)
+read_beyond most None b bytes h lt = tt
+read_beyond most (Some xs) None bytes h lt = absurd h
+read_beyond most (Some xs) (Some ys) bytes h lt = record { rest = ys; front = h; all = λ le. absurd (omega arith) }
 
 -- the writer took the text but for `rest`
 pub record Written (old new : Option (List ℕ)) (text rest : List ℕ) : Type 0 where

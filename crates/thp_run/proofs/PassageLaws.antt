@@ -11,16 +11,16 @@ use Rattle.thp_text.specs.Limits.{max_input}
 use Rattle.thp_text.specs.Scripts.{Fault, TellsFault, script_of}
 use Rattle.thp_text.specs.declared.fault.TextKind.TheVariants.{TooLong}
 use Rattle.thp_text.proofs.ScriptLaws.{too_long}
-use Rattle.thp_journal_reader.specs.Journals.{journals_of}
+use Rattle.thp_journal_reader.specs.Journals.{journals_within}
 use Rattle.thp_run.specs.declared.fault.RunFault.{RunFault}
 use Rattle.thp_run.specs.declared.fault.RunFault.TheVariants.{Text, OutOfMemory, Read, Write}
-use Rattle.thp_run.specs.Devices.{IsInputOf, WritesFront}
+use Rattle.thp_run.specs.Devices.{IsFrontOf, IsInputOf, WritesFront}
 use Rattle.thp_run.specs.Calls.{WritesOn}
 use Rattle.thp_run.specs.declared.calls.Call.{Call}
 use Rattle.thp_run.specs.Passages.{Ends, WritesAnswer}
 use Rattle.thp_run.specs.Programs.{IsReport, RunEnds}
 use Rattle.thp_run.specs.RunFaults.{run_fault, IsReadingFault}
-use Rattle.thp_run.specs.Verdicts.{is_legal, CheckEnds, IsVerdict}
+use Rattle.thp_run.specs.Verdicts.{is_legal, CheckEndsWithin, IsVerdictWithin}
 
 pub keeps_same : (known : Option (List ℕ)) → Keeps known known
 keeps_same None = tt
@@ -32,11 +32,11 @@ TellsOf HasFault (reading.Text line kind) = HasFault (line, kind)
 TellsOf HasFault reading.OutOfMemory = Unit {0}
 
 -- an answer, and a fault, that goes for what was read goes for the whole input
-module _ {A : Type 0} (IsAnswer : List ℕ → A → List ℕ → Type 0) (HasFault : List ℕ → Fault → Type 0)
-    (answers : (input bytes text : List ℕ) (x : A) → IsInputOf bytes input → IsAnswer bytes x text → IsAnswer input x text)
-    (faults : (input bytes : List ℕ) (fault : Fault) → IsInputOf bytes input → HasFault bytes fault → HasFault input fault)
-    (known : Option (List ℕ)) (bytes : List ℕ) (read : IfSome known (IsInputOf bytes)) where
-  fault_of_input : (o : Option (List ℕ)) → IfSome o (IsInputOf bytes) → (fault : Fault) → HasFault bytes fault → IfSome o (λ input. HasFault input fault)
+module _ (most : ℕ) {A : Type 0} (IsAnswer : List ℕ → A → List ℕ → Type 0) (HasFault : List ℕ → Fault → Type 0)
+    (answers : (input bytes text : List ℕ) (x : A) → IsFrontOf most bytes input → IsAnswer bytes x text → IsAnswer input x text)
+    (faults : (input bytes : List ℕ) (fault : Fault) → IsFrontOf most bytes input → HasFault bytes fault → HasFault input fault)
+    (known : Option (List ℕ)) (bytes : List ℕ) (read : IfSome known (IsFrontOf most bytes)) where
+  fault_of_input : (o : Option (List ℕ)) → IfSome o (IsFrontOf most bytes) → (fault : Fault) → HasFault bytes fault → IfSome o (λ input. HasFault input fault)
   fault_of_input None read fault told = tt
   fault_of_input (Some input) read fault told = faults input bytes fault read told
 
@@ -46,11 +46,11 @@ module _ {A : Type 0} (IsAnswer : List ℕ → A → List ℕ → Type 0) (HasFa
   ends_early old rf wf (reading.Text line kind) r told e f is = rw is (fault_of_input known read (line, kind) told, keeps_same old, e, f)
   ends_early old rf wf reading.OutOfMemory r told e f is = rw is (keeps_same old, e, f)
 
-  written_of_input : (o : Option (List ℕ)) → IfSome o (IsInputOf bytes) → (x : A) (text : List ℕ) (P : List ℕ → Type 0) → IsAnswer bytes x text → P text → IfSome o (λ input. (t : List ℕ) × IsAnswer input x t × P t)
+  written_of_input : (o : Option (List ℕ)) → IfSome o (IsFrontOf most bytes) → (x : A) (text : List ℕ) (P : List ℕ → Type 0) → IsAnswer bytes x text → P text → IfSome o (λ input. (t : List ℕ) × IsAnswer input x t × P t)
   written_of_input None read x text P answer p = tt
   written_of_input (Some input) read x text P answer p = (text, answers input bytes text x read answer, p)
 
-  front_of_input : (o : Option (List ℕ)) → IfSome o (IsInputOf bytes) → (x : A) (text : List ℕ) (P : List ℕ → Type 0) → IsAnswer bytes x text → P text → IfSome o (λ input. (y : A) × (t : List ℕ) × IsAnswer input y t × P t)
+  front_of_input : (o : Option (List ℕ)) → IfSome o (IsFrontOf most bytes) → (x : A) (text : List ℕ) (P : List ℕ → Type 0) → IsAnswer bytes x text → P text → IfSome o (λ input. (y : A) × (t : List ℕ) × IsAnswer input y t × P t)
   front_of_input None read x text P answer p = tt
   front_of_input (Some input) read x text P answer p = (x, text, answers input bytes text x read answer, p)
 
@@ -108,34 +108,34 @@ pub run_ends : (s : Settings) (known old new : Option (List ℕ)) (bytes text : 
     → IfSome o (λ _. Appends old new text) → IfNone o (WritesFront old new text) → IfSome o (λ _. writer_failed ≡ false) → IfNone o (writer_failed ≡ true) → reader_failed ≡ false
     → RunEnds s known old new reader_failed writer_failed (ok_or o Write)
 run_ends s known old new bytes text rf wf (Some u) read r done cut flag failed e =
-    ends_written (λ input v t. IsReport s input t) (λ input f. script_of s input ≡ Err f) (report_of_input s) (fault_of_script s) known bytes read old new rf wf u text (Ok u) r done e flag refl
+    ends_written max_input (λ input v t. IsReport s input t) (λ input f. script_of s input ≡ Err f) (report_of_input s) (fault_of_script s) known bytes read old new rf wf u text (Ok u) r done e flag refl
 run_ends s known old new bytes text rf wf None read r done cut flag failed e =
-    ends_cut (λ input v t. IsReport s input t) (λ input f. script_of s input ≡ Err f) (report_of_input s) (fault_of_script s) known bytes read old new rf wf tt text (Err Write) r cut e failed refl
+    ends_cut max_input (λ input v t. IsReport s input t) (λ input f. script_of s input ≡ Err f) (report_of_input s) (fault_of_script s) known bytes read old new rf wf tt text (Err Write) r cut e failed refl
 
 -- the script was at fault, or memory was refused
 pub run_ends_early : (s : Settings) (known old : Option (List ℕ)) (bytes : List ℕ) (reader_failed writer_failed : Bool) (fault : ReadFault) (r : Result (Unit {0}) RunFault) → IfSome known (IsInputOf bytes) → TellsFault (script_of s bytes) fault
     → reader_failed ≡ false → writer_failed ≡ false → r ≡ Err (run_fault fault) → RunEnds s known old old reader_failed writer_failed r
 run_ends_early s known old bytes rf wf fault r read told e f is =
-    ends_early (λ input v t. IsReport s input t) (λ input f. script_of s input ≡ Err f) (report_of_input s) (fault_of_script s) known bytes read old rf wf fault r (tells_of (script_of s bytes) fault told) e f is
+    ends_early max_input (λ input v t. IsReport s input t) (λ input f. script_of s input ≡ Err f) (report_of_input s) (fault_of_script s) known bytes read old rf wf fault r (tells_of (script_of s bytes) fault told) e f is
 
 -- ---- journals
 
-journal_too_long : (text : List ℕ) → max_input < length text → journals_of text ≡ Err (0, TooLong)
-unfolding journals_of
-journal_too_long text lt = rw (lt-ltb max_input (length text) lt) refl
+journal_too_long : (most : ℕ) (text : List ℕ) → most < length text → journals_within most text ≡ Err (0, TooLong)
+unfolding journals_within
+journal_too_long most text lt = rw (lt-ltb most (length text) lt) refl
 
-same_journals : (input bytes : List ℕ) → IsInputOf bytes input → journals_of bytes ≡ journals_of input
-same_journals input bytes read =
-    elim (cases_lt max_input (length bytes)) [
-      | inl more ↦ journal_too_long bytes more ∙ sym (journal_too_long input (rw read.front (omega (arith, length-append bytes read.rest))))
-      | inr less ↦ ap journals_of (sym (read.front ∙ rw (read.all less, append-nil) refl))
+same_journals : (most : ℕ) (input bytes : List ℕ) → IsFrontOf most bytes input → journals_within most bytes ≡ journals_within most input
+same_journals most input bytes read =
+    elim (cases_lt most (length bytes)) [
+      | inl more ↦ journal_too_long most bytes more ∙ sym (journal_too_long most input (rw read.front (omega (arith, length-append bytes read.rest))))
+      | inr less ↦ ap (journals_within most) (sym (read.front ∙ rw (read.all less, append-nil) refl))
     ]
 
-pub verdict_of_input : (input bytes text : List ℕ) (legal : Bool) → IsInputOf bytes input → IsVerdict bytes legal text → IsVerdict input legal text
-verdict_of_input input bytes text legal read v = record { journals = v.journals; spelled = sym (same_journals input bytes read) ∙ v.spelled; illegal = v.illegal; told = v.told; free_choice = v.free_choice; answer = v.answer; written = v.written }
+pub verdict_of_input : (most : ℕ) (input bytes text : List ℕ) (legal : Bool) → IsFrontOf most bytes input → IsVerdictWithin most bytes legal text → IsVerdictWithin most input legal text
+verdict_of_input most input bytes text legal read v = record { journals = v.journals; spelled = sym (same_journals most input bytes read) ∙ v.spelled; illegal = v.illegal; told = v.told; free_choice = v.free_choice; answer = v.answer; written = v.written }
 
-pub fault_of_journal : (input bytes : List ℕ) (fault : Fault) → IsInputOf bytes input → journals_of bytes ≡ Err fault → journals_of input ≡ Err fault
-fault_of_journal input bytes fault read told = sym (same_journals input bytes read) ∙ told
+pub fault_of_journal : (most : ℕ) (input bytes : List ℕ) (fault : Fault) → IsFrontOf most bytes input → journals_within most bytes ≡ Err fault → journals_within most input ≡ Err fault
+fault_of_journal most input bytes fault read told = sym (same_journals most input bytes read) ∙ told
 
 -- a writer that failed is told as that
 pub cut_from : (o : Option (Unit {0})) (fault : RunFault) → ok_or o Write ≡ Err fault → (o ≡ None) × (Write ≡ fault)
@@ -143,10 +143,10 @@ cut_from (Some u) fault e = absurd cc
 cut_from None fault e = (refl, cc)
 
 -- the writer took a front of the verdict
-pub check_ends_cut : (known old new : Option (List ℕ)) (bytes text : List ℕ) (reader_failed writer_failed : Bool) (illegal : Option ℕ) (o : Option (Unit {0})) (r : Result Bool RunFault) → IfSome known (IsInputOf bytes) → IsVerdict bytes (is_legal illegal) text
-    → o ≡ None → IfNone o (WritesFront old new text) → IfNone o (writer_failed ≡ true) → reader_failed ≡ false → r ≡ Err Write → CheckEnds known old new reader_failed writer_failed r
-check_ends_cut known old new bytes text rf wf illegal o r read v none cut failed e is =
-    ends_cut IsVerdict (λ input f. journals_of input ≡ Err f) verdict_of_input fault_of_journal known bytes read old new rf wf (is_legal illegal) text r v (rw none at cut) e (rw none at failed) is
+pub check_ends_cut : (most : ℕ) (known old new : Option (List ℕ)) (bytes text : List ℕ) (reader_failed writer_failed : Bool) (illegal : Option ℕ) (o : Option (Unit {0})) (r : Result Bool RunFault) → IfSome known (IsFrontOf most bytes) → IsVerdictWithin most bytes (is_legal illegal) text
+    → o ≡ None → IfNone o (WritesFront old new text) → IfNone o (writer_failed ≡ true) → reader_failed ≡ false → r ≡ Err Write → CheckEndsWithin most known old new reader_failed writer_failed r
+check_ends_cut most known old new bytes text rf wf illegal o r read v none cut failed e is =
+    ends_cut most (IsVerdictWithin most) (λ input f. journals_within most input ≡ Err f) (verdict_of_input most) (fault_of_journal most) known bytes read old new rf wf (is_legal illegal) text r v (rw none at cut) e (rw none at failed) is
 
 -- what isn't there is no line
 pub legal_is : (illegal : Option ℕ) (legal : Bool) → is_some illegal ≡ not legal → legal ≡ is_legal illegal
@@ -156,14 +156,14 @@ legal_is (Some line) true e = absurd cc
 legal_is (Some line) false e = refl
 
 -- the verdict was written
-pub check_ends_written : (known old new : Option (List ℕ)) (bytes text : List ℕ) (reader_failed writer_failed : Bool) (illegal : Option ℕ) (o : Option (Unit {0})) (u : Unit {0}) (legal : Bool) → IfSome known (IsInputOf bytes) → IsVerdict bytes (is_legal illegal) text
-    → ok_or o Write ≡ Ok u → IfSome o (λ _. Appends old new text) → IfSome o (λ _. writer_failed ≡ false) → reader_failed ≡ false → legal ≡ is_legal illegal → CheckEnds known old new reader_failed writer_failed (Ok legal)
-check_ends_written known old new bytes text rf wf illegal (Some v) u legal read verdict some done flag e is =
-    ends_written IsVerdict (λ input f. journals_of input ≡ Err f) verdict_of_input fault_of_journal known bytes read old new rf wf legal text (Ok legal) (rw is verdict) done e flag refl
-check_ends_written known old new bytes text rf wf illegal None u legal read verdict some done flag e is = absurd cc
+pub check_ends_written : (most : ℕ) (known old new : Option (List ℕ)) (bytes text : List ℕ) (reader_failed writer_failed : Bool) (illegal : Option ℕ) (o : Option (Unit {0})) (u : Unit {0}) (legal : Bool) → IfSome known (IsFrontOf most bytes) → IsVerdictWithin most bytes (is_legal illegal) text
+    → ok_or o Write ≡ Ok u → IfSome o (λ _. Appends old new text) → IfSome o (λ _. writer_failed ≡ false) → reader_failed ≡ false → legal ≡ is_legal illegal → CheckEndsWithin most known old new reader_failed writer_failed (Ok legal)
+check_ends_written most known old new bytes text rf wf illegal (Some v) u legal read verdict some done flag e is =
+    ends_written most (IsVerdictWithin most) (λ input f. journals_within most input ≡ Err f) (verdict_of_input most) (fault_of_journal most) known bytes read old new rf wf legal text (Ok legal) (rw is verdict) done e flag refl
+check_ends_written most known old new bytes text rf wf illegal None u legal read verdict some done flag e is = absurd cc
 
 -- the journal was at fault, or memory was refused
-pub check_ends_early : (known old : Option (List ℕ)) (bytes : List ℕ) (reader_failed writer_failed : Bool) (fault : ReadFault) (r : Result Bool RunFault) → IfSome known (IsInputOf bytes) → TellsFault (journals_of bytes) fault
-    → reader_failed ≡ false → writer_failed ≡ false → r ≡ Err (run_fault fault) → CheckEnds known old old reader_failed writer_failed r
-check_ends_early known old bytes rf wf fault r read told e f is =
-    ends_early IsVerdict (λ input g. journals_of input ≡ Err g) verdict_of_input fault_of_journal known bytes read old rf wf fault r (tells_of (journals_of bytes) fault told) e f is
+pub check_ends_early : (most : ℕ) (known old : Option (List ℕ)) (bytes : List ℕ) (reader_failed writer_failed : Bool) (fault : ReadFault) (r : Result Bool RunFault) → IfSome known (IsFrontOf most bytes) → TellsFault (journals_within most bytes) fault
+    → reader_failed ≡ false → writer_failed ≡ false → r ≡ Err (run_fault fault) → CheckEndsWithin most known old old reader_failed writer_failed r
+check_ends_early most known old bytes rf wf fault r read told e f is =
+    ends_early most (IsVerdictWithin most) (λ input g. journals_within most input ≡ Err g) (verdict_of_input most) (fault_of_journal most) known bytes read old rf wf fault r (tells_of (journals_within most bytes) fault told) e f is

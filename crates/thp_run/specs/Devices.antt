@@ -13,11 +13,15 @@ abbrev pub Writes : Option (List ℕ) → Option (List ℕ) → Option ℕ → L
 Writes old new result buf = MatchOption result (Appends old new [])
     (λ n. (0 < n) × (n ≤ length buf) × Appends old new (take n buf))
 
--- what was read of an input: all of it, or more of it than an input may have
-pub record IsInputOf (bytes input : List ℕ) : Type 0 where
+-- what was read of a text of which so many bytes are looked at: all of it, or more than those
+pub record IsFrontOf (most : ℕ) (bytes input : List ℕ) : Type 0 where
   pub rest : List ℕ
   pub front : input ≡ bytes ++ rest
-  pub all : length bytes ≤ max_input → rest ≡ []
+  pub all : length bytes ≤ most → rest ≡ []
+
+-- what was read of an input: all of it, or more of it than an input may have
+abbrev pub IsInputOf : List ℕ → List ℕ → Type 0
+IsInputOf = IsFrontOf max_input
 
 -- the writer took some front of the text
 pub record WritesFront (old new : Option (List ℕ)) (text : List ℕ) : Type 0 where

@@ -13,6 +13,8 @@ use Rattle.thp_run.specs.declared.ending.ProgramFault.{ProgramFault}
 use Rattle.thp_run.specs.declared.ending.ProgramFault.TheVariants.{Run, Usage, NoText, Orders, Underused}
 use Rattle.thp_run.specs.declared.ending.WordsFault.{WordsFault}
 use Rattle.thp_run.specs.declared.ending.WordsFault.TheVariants as words
+use Rattle.thp_run.specs.declared.ending.Program.{Program}
+use Rattle.thp_run.specs.declared.ending.Program.TheVariants.{Thpsplit, Thpcheck}
 use Rattle.thp_run.specs.declared.fault.RunFault.{RunFault}
 use Rattle.thp_run.specs.declared.fault.RunFault.TheVariants.{Text, OutOfMemory, Read, Write}
 use Rattle.thp_options.specs.declared.line.Line.{Line}
@@ -33,17 +35,22 @@ use Rattle.thp_run.specs.Watch.{Watch}
 abbrev pub line_of : List ℕ → List ℕ
 line_of text = text ++ (10 ∷ [])
 
+-- what a program's lines on standard error begin with: its name
+abbrev pub name_front : Program → List ℕ
+name_front Thpsplit = codes "thpsplit: "
+name_front Thpcheck = codes "thpcheck: "
+
 -- the line that tells a fault of a run: what the fault displays, behind the program's name
-unfoldable pub fault_line : RunFault → List ℕ
-fault_line fault = codes "thpsplit: " ++ fault_text fault ++ (10 ∷ [])
+unfoldable pub fault_line : Program → RunFault → List ℕ
+fault_line program fault = name_front program ++ fault_text fault ++ (10 ∷ [])
 
 -- what standard error tells: of a run's fault its line; of words that are at fault `clap`'s text
-abbrev pub told_text : ProgramFault → List ℕ
-told_text (Run fault) = fault_line fault
-told_text (Usage text) = string_bytes text
-told_text Orders = line_of (codes "thpsplit: bad orders")
-told_text Underused = line_of (codes "thpsplit: bad underused")
-told_text NoText = line_of (codes "error: invalid UTF-8 was detected in one or more arguments")
+abbrev pub told_text : Program → ProgramFault → List ℕ
+told_text program (Run fault) = fault_line program fault
+told_text program (Usage text) = string_bytes text
+told_text program Orders = line_of (codes "thpsplit: bad orders")
+told_text program Underused = line_of (codes "thpsplit: bad underused")
+told_text program NoText = line_of (codes "error: invalid UTF-8 was detected in one or more arguments")
 
 -- 2 where the script is at fault, 3 where memory was refused or a device failed
 abbrev pub status_of : RunFault → ℕ
@@ -177,14 +184,18 @@ abbrev pub ended_by : Result (Unit {0}) ProgramFault → Result Ending ProgramFa
 ended_by (Ok _) = Ok Written
 ended_by (Err fault) = Err fault
 
--- `clap` answers the words by an error, and that was shown or told; nothing was read
-pub record WasAnswered (words : List (List ℕ)) (input : Source) (output : Device) (result : Result Ending ProgramFault) : Type 0 where
+-- `clap` answers words by an error that they have, and that was shown or told; nothing was read
+pub record WasAnsweredBy (HasError : Error → Type 0) (input : Source) (output : Device) (result : Result Ending ProgramFault) : Type 0 where
   pub error : Error
-  pub refused : FailsAsWords words (Err error)
+  pub refused : HasError error
   pub answer : Result (Unit {0}) ProgramFault
   pub answered : Answers (clap_text error) (kind_of error) output answer
   pub unread : IsUnread input
   pub ended : result ≡ ended_by answer
+
+-- the words were answered by an error
+abbrev pub WasAnswered : List (List ℕ) → Source → Device → Result Ending ProgramFault → Type 0
+WasAnswered words = WasAnsweredBy (λ error. FailsAsWords words (Err error))
 
 -- memory was refused before anything was asked for
 abbrev pub IsShort : Source → Device → Result Ending ProgramFault → Type 0
@@ -211,13 +222,13 @@ IsEndedAs Orders ended = ended ≡ Orders
 IsEndedAs Underused ended = ended ≡ Underused
 IsEndedAs NoText ended = ended ≡ NoText
 
--- what standard error took, and the exit status
-abbrev pub Tells : Device → ℕ → Result Ending ProgramFault → Type 0
-Tells errors status (Ok ending) = IsUntouched errors × (status ≡ end_status ending)
-Tells errors status (Err fault) = Takes errors (told_text fault) × (status ≡ exit_status fault)
+-- what standard error took of a program, and the exit status
+abbrev pub Tells : Program → Device → ℕ → Result Ending ProgramFault → Type 0
+Tells program errors status (Ok ending) = IsUntouched errors × (status ≡ end_status ending)
+Tells program errors status (Err fault) = Takes errors (told_text program fault) × (status ≡ exit_status fault)
 
 -- how the program ends: what it did, what it told of that and its exit status
 pub record Finishes (given : Result (List (List ℕ)) WordsFault) (input : Source) (output errors : Device) (status : ℕ) : Type 0 where
   pub end : Result Ending ProgramFault
   pub served : Served given input output end
-  pub told : Tells errors status end
+  pub told : Tells Thpsplit errors status end

@@ -4,6 +4,8 @@ use Rattle.std.specs.Fmt.{decimal}
 use Rattle.thp_text.specs.TextKinds.{kind_word}
 use Rattle.thp_text.specs.declared.fault.ReadFault.{ReadFault}
 use Rattle.thp_text.specs.declared.fault.ReadFault.TheVariants as reading
+use Rattle.thp_run.specs.declared.long_fault.LongRunFault.{LongRunFault}
+use Rattle.thp_run.specs.declared.long_fault.LongRunFault.TheVariants as long
 use Rattle.thp_run.specs.declared.fault.RunFault.{RunFault}
 use Rattle.thp_run.specs.declared.fault.RunFault.TheVariants.{Text, OutOfMemory, Read, Write}
 
@@ -13,6 +15,13 @@ fault_text (Text line kind) = codes "line " ++ decimal line ++ codes ": " ++ kin
 fault_text OutOfMemory = codes "out of memory"
 fault_text Read = codes "read failed"
 fault_text Write = codes "write failed"
+
+-- a fault of a check of any length, as a fault of a run: contracts see numbers of any size
+abbrev pub seen_fault : LongRunFault → RunFault
+seen_fault (long.Text line kind) = Text line kind
+seen_fault long.OutOfMemory = OutOfMemory
+seen_fault long.Read = Read
+seen_fault long.Write = Write
 
 -- a failed read sets the reader's flag, and want of memory doesn't
 abbrev pub IsReadingFault : Bool → RunFault → Type 0

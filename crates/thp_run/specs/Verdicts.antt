@@ -1,9 +1,10 @@
 -- What a check of a journal reads and writes.
 use Rattle.std.specs.Prelude.{◌≡◌, ◌++◌, ℕ, Bool, true, false, All, List, [], ◌∷◌, Option, Some, None, Result, Ok, Err, codes}
 use Rattle.std.specs.Fmt.{decimal}
+use Rattle.thp_text.specs.Limits.{max_input}
 use Rattle.thp_journal_reader.specs.declared.journals.Journals.{Journals}
 use Rattle.thp_journal_reader.specs.Answers.{CanBeLegal, TellsIllegal}
-use Rattle.thp_journal_reader.specs.Journals.{journals_of}
+use Rattle.thp_journal_reader.specs.Journals.{journals_within}
 use Rattle.thp_run.specs.declared.fault.RunFault.{RunFault}
 use Rattle.thp_run.specs.Passages.{Ends}
 
@@ -17,10 +18,10 @@ abbrev pub is_legal : Option ℕ → Bool
 is_legal None = true
 is_legal (Some line) = false
 
--- the text tells of the journal in the input whether it is legal
-pub record IsVerdict (input : List ℕ) (legal : Bool) (text : List ℕ) : Type 0 where
+-- the text tells of a journal of at most so many bytes whether it is legal
+pub record IsVerdictWithin (most : ℕ) (input : List ℕ) (legal : Bool) (text : List ℕ) : Type 0 where
   pub journals : Journals
-  pub spelled : journals_of input ≡ Ok journals
+  pub spelled : journals_within most input ≡ Ok journals
   pub illegal : Option ℕ
   pub told : TellsIllegal journals.nodes illegal
   -- where some choice of blocks makes all events legal, none is called illegal
@@ -28,6 +29,14 @@ pub record IsVerdict (input : List ℕ) (legal : Bool) (text : List ℕ) : Type 
   pub answer : legal ≡ is_legal illegal
   pub written : text ≡ verdict_text illegal
 
--- how a check ends: with its verdict, or with the first fault of the journal
+-- the text tells of the journal in the input whether it is legal
+abbrev pub IsVerdict : List ℕ → Bool → List ℕ → Type 0
+IsVerdict = IsVerdictWithin max_input
+
+-- how a check of at most so many bytes ends: with its verdict, or with the first fault of the journal
+abbrev pub CheckEndsWithin : ℕ → Option (List ℕ) → Option (List ℕ) → Option (List ℕ) → Bool → Bool → Result Bool RunFault → Type 0
+CheckEndsWithin most = Ends (IsVerdictWithin most) (λ input fault. journals_within most input ≡ Err fault)
+
+-- how a check of an input ends
 abbrev pub CheckEnds : Option (List ℕ) → Option (List ℕ) → Option (List ℕ) → Bool → Bool → Result Bool RunFault → Type 0
-CheckEnds = Ends IsVerdict (λ input fault. journals_of input ≡ Err fault)
+CheckEnds = CheckEndsWithin max_input

@@ -18,7 +18,7 @@ use std::io::Write;
 ///
 /// `clap` doesn't say which text its errors display. So what shows them is written for every answer: it has no text of its own
 /// that it could show in place of the answer's.
-pub(crate) trait WordsAnswer: Display {
+pub trait WordsAnswer: Display {
     /// The kind of an answer.
     ghost kind_in: { Self → Kind };
 
@@ -63,7 +63,7 @@ fn show<A: WordsAnswer, W: Write>(
 }
 
 /// Shows what was asked for, or tells that the words are at fault.
-pub(crate) fn answer<A: WordsAnswer, W: Write>(
+pub fn answer<A: WordsAnswer, W: Write>(
     alloc: Global,
     answer: &A,
     output: &mut Watched<W>,

@@ -12,7 +12,7 @@ use std::io::{Read, Write};
 
 /// The line that tells whether a journal is legal, by the line of its first illegal event.
 #[tactic(auto, unfolding(crate::specs::Verdicts::verdict_text))]
-fn verdict(alloc: Global, illegal: Option<u32>) -> Result<String, AllocError>
+pub fn verdict(alloc: Global, illegal: Option<u64>) -> Result<String, AllocError>
     ensures { IfOk result (λ text. string_bytes text ≡ verdict_text illegal) }
 {
     match illegal {
@@ -36,7 +36,7 @@ pub fn check_run<R: Read, W: Write>(
 {
     let check = read_check_parts(alloc, reader)?;
     let illegal = check.finish()?;
-    let text = verdict(alloc, illegal)?;
+    let text = verdict(alloc, illegal.map(u64::from))?;
     write_text(writer, text.as_bytes()).ok_or(RunFault::Write)?;
     Ok(illegal.is_none())
 }

@@ -3,7 +3,7 @@ ghost use Rattle.std.specs.Prelude.{◌≡◌, ◌++◌, [], ℕ, List, true, fa
 ghost use Rattle.std.proofs.Common.{◌∙◌, ap, append_assoc, sym};
 ghost use Rattle.std.specs.Io.KnownBytes.{Appends};
 ghost use Rattle.thp_run.specs.Calls.{ReadsOn, WritesOn};
-ghost use Rattle.thp_run.specs.Devices.{IsInputOf, WritesFront};
+ghost use Rattle.thp_run.specs.Devices.{IsFrontOf, IsInputOf, WritesFront};
 ghost use Rattle.thp_run.specs.RunFaults.{IsReadingFault};
 ghost use Rattle.thp_journal_reader.specs.Journals.{journals_of};
 ghost use Rattle.thp_journal_reader.specs.Parts.{told_with};
@@ -15,14 +15,14 @@ use crate::fault::RunFault;
 use crate::watched::Watched;
 use std::alloc::Global;
 use std::io::{Read, Write};
-use thp_journal_reader::JournalCheck;
+use thp_journal_reader::{JournalCheck, LongCheck};
 use thp_text::{MAX_INPUT, ReadFault, ScriptReader, Settings};
 
 /// How many bytes one read may give.
 const PART: usize = 65_536;
 
 /// What reads a text that comes in parts.
-trait ReadsParts: Sized {
+pub trait ReadsParts: Sized {
     /// The first reader becomes the second as these bytes come.
     ghost has_read: { Self → List ℕ → Self → Type 0 };
 
@@ -62,23 +62,36 @@ impl ReadsParts for JournalCheck {
     ghost more_read = { λ a b c first more old new rest. new rest ∙ old (more ++ rest) ∙ ap (told_with a) (sym (append_assoc first more rest)) };
 }
 
-/// Reads all of a reader's bytes, part by part, or more of them than an input may have.
+impl ReadsParts for LongCheck {
+    ghost has_read = { λ old bytes new. (more : List ℕ) → told_with new more ≡ told_with old (bytes ++ more) };
+
+    fn read_part(self, part: &[u8]) -> Result<Self, ReadFault> {
+        Ok(LongCheck::read_part(self, part)?)
+    }
+
+    ghost nothing_read = { λ r more. refl };
+
+    ghost more_read = { λ a b c first more old new rest. new rest ∙ old (more ++ rest) ∙ ap (told_with a) (sym (append_assoc first more rest)) };
+}
+
+/// Reads all of a reader's bytes, part by part, or more than `most` of them.
 ///
-/// Each read but the last gives at least one byte, so there are at most `MAX_INPUT + 1` of them.
-fn read_parts<R: Read, P: ReadsParts + Drop>(
+/// Each read but the last gives at least one byte, so there are at most `most + 1` of them.
+pub fn read_parts<R: Read, P: ReadsParts + Drop>(
     first: P,
+    most: usize,
     reader: &mut Watched<R>,
 ) -> Result<P, RunFault>
     requires { reader.old.failed ≡ false }
-    ensures parts { IfOk result (λ last. (bytes : List ℕ) × IfSome (R.remaining reader.old.device) (IsInputOf bytes) × P.has_read first bytes last) }
+    ensures parts { IfOk result (λ last. (bytes : List ℕ) × IfSome (R.remaining reader.old.device) (IsFrontOf most bytes) × P.has_read first bytes last) }
     ensures flag { IfOk result (λ _. reader.new.failed ≡ false) }
     ensures fault { IfErr result (IsReadingFault reader.new.failed) }
     ensures calls { ReadsOn reader.new.failed reader.old.calls reader.new.calls }
 {
     let mut text = first;
     let mut part = [0u8; PART];
-    let mut given = 0;
-    while given <= MAX_INPUT {
+    let mut left = most;
+    loop {
         let Some(count) = reader.read(&mut part) else {
             return Err(RunFault::Read);
         };
@@ -86,9 +99,11 @@ fn read_parts<R: Read, P: ReadsParts + Drop>(
             return Ok(text);
         }
         text = text.read_part(&part[..count])?;
-        given += count;
+        if count > left {
+            return Ok(text);
+        }
+        left -= count;
     }
-    Ok(text)
 }
 
 /// The script whose text a reader gives, part by part: all of its bytes, or more of them than an input may have.
@@ -105,7 +120,7 @@ pub(crate) fn read_script_parts<'a, R: Read>(
     ensures calls { ReadsOn reader.new.failed reader.old.calls reader.new.calls }
 {
     let script = ScriptReader::new(alloc, settings)?;
-    read_parts(script, reader)
+    read_parts(script, MAX_INPUT, reader)
 }
 
 /// The check of the journals whose text a reader gives, part by part: all of its bytes, or more of them than an input may have.
@@ -119,12 +134,12 @@ pub(crate) fn read_check_parts<R: Read>(
     ensures fault { IfErr result (IsReadingFault reader.new.failed) }
     ensures calls { ReadsOn reader.new.failed reader.old.calls reader.new.calls }
 {
-    read_parts(JournalCheck::new(alloc), reader)
+    read_parts(JournalCheck::new(alloc), MAX_INPUT, reader)
 }
 
 /// Writes a text and flushes, once. At `None` the writer failed, and took some front of the text; no call comes behind the
 /// one that failed.
-pub(crate) fn write_text<W: Write>(writer: &mut Watched<W>, text: &[u8]) -> Option<()>
+pub fn write_text<W: Write>(writer: &mut Watched<W>, text: &[u8]) -> Option<()>
     requires { writer.old.failed ≡ false }
     ensures written { IfSome result (λ _. Appends (W.contents writer.old.device) (W.contents writer.new.device) text.now) }
     ensures cut { IfNone result (WritesFront (W.contents writer.old.device) (W.contents writer.new.device) text.now) }

@@ -7,6 +7,15 @@ use crate::fault::RunFault;
 use std::alloc::AllocError;
 use thiserror::Error;
 
+/// The programs of this project, by whose names faults are told.
+#[derive(Clone, Copy, Debug, PartialEq, Eq)]
+pub enum Program {
+    /// The one that runs scripts, and checks journals of at most 16 MiB.
+    Thpsplit,
+    /// The one that checks journals of any length.
+    Thpcheck,
+}
+
 /// Why the words of a command line can't be had.
 #[derive(Clone, Copy, Debug, Error, PartialEq, Eq)]
 pub enum WordsFault {

@@ -1,4 +1,5 @@
-//! The program `thpsplit`: what it does with the words of its command line, its input and its outputs.
+//! The program `thpsplit`: what it does with the words of its command line, its input and its outputs. The program `thpcheck`
+//! reads, writes and tells faults by the same functions.
 #![tactic(auto)]
 
 mod answering;
@@ -9,16 +10,21 @@ mod device;
 mod ending;
 mod fault;
 mod listed;
+mod long_fault;
 mod program;
 mod running;
 mod telling;
 mod watched;
+mod words;
 
-pub use checking::check_run;
-pub use ending::{Ending, ProgramFault, WordsFault};
+pub use answering::{WordsAnswer, answer};
+pub use checking::{check_run, verdict};
+pub use device::{ReadsParts, read_parts, write_text};
+pub use ending::{Ending, Program, ProgramFault, WordsFault};
 pub use fault::RunFault;
 pub use listed::{Section, Worked, report_text, work, work_rest};
-pub use program::run_program;
+pub use long_fault::LongRunFault;
+pub use program::{run_program, texts_of};
 pub use running::run;
 pub use thp_journal_reader::{Journals, NodeJournal, check_text, read_journal};
 pub use thp_model::{Gain, Loss, PageCall, PageId, Refusal, Shape};
@@ -33,4 +39,6 @@ pub use thp_text::{
     Command, MAX_INPUT, Op, ReadFault, Report, Script, Sequence, Settings, TextKind, read_orders,
     read_script, read_underused,
 };
+pub use telling::{status_of_ending, tell, tell_run};
 pub use watched::Watched;
+pub use words::words_of;

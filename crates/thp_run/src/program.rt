@@ -6,7 +6,7 @@ ghost use Rattle.thp_run.specs.Outcomes.{device_of, given_words, source_of, Does
 use crate::answering::answer;
 use crate::checking::check_run;
 use crate::choice::settings_of;
-use crate::ending::{Ending, ProgramFault, WordsFault};
+use crate::ending::{Ending, Program, ProgramFault, WordsFault};
 use crate::fault::RunFault;
 use crate::running::run;
 use crate::telling::{status_of_ending, tell};
@@ -18,7 +18,7 @@ use thp_options::{Line, read_line};
 use thp_sections::NoGate;
 
 /// The words as texts.
-fn texts_of<'a>(alloc: Global, words: &'a [String]) -> Result<Vec<&'a str>, AllocError>
+pub fn texts_of<'a>(alloc: Global, words: &'a [String]) -> Result<Vec<&'a str>, AllocError>
     ensures { IfOk result (λ texts. map (λ text. text.now) texts.items ≡ map string_bytes words.entry.now) }
 {
     let mut texts = Vec::new(alloc);
@@ -100,6 +100,6 @@ pub fn run_program<T: Threads + Sync, R: Read, W: Write, E: Write>(
 {
     match serve(rt, alloc, &words, reader, output) {
         Ok(ending) => status_of_ending(ending),
-        Err(fault) => tell(alloc, fault, errors),
+        Err(fault) => tell(alloc, Program::Thpsplit, fault, errors),
     }
 }

@@ -2,11 +2,13 @@
 ghost use Rattle.std.specs.Prelude.{◌≡◌, IfOk, Err, false, string_bytes};
 ghost use Rattle.thp_run.specs.declared.ending.ProgramFault.{ProgramFault as Ended};
 ghost use Rattle.thp_run.specs.declared.fault.RunFault.{RunFault as ToldFault};
+ghost use Rattle.thp_run.specs.declared.fault.RunFault.TheVariants as run;
 ghost use Rattle.thp_run.specs.Outcomes.{device_of, end_status, fault_line, status_of, IsEndedAs, IsToldAs, Takes, Tells};
+ghost use Rattle.thp_run.specs.RunFaults.{seen_fault};
 
 use crate::device::write_text;
-use crate::ending::{Ending, ProgramFault};
-use crate::fault::RunFault;
+use crate::ending::{Ending, Program, ProgramFault};
+use crate::long_fault::LongRunFault;
 use crate::watched::Watched;
 use std::alloc::{AllocError, Global};
 use std::io::Write;
@@ -21,7 +23,7 @@ const FAULTY: u8 = 2;
 const FAILED: u8 = 3;
 
 /// The exit status where the program did what it was asked for.
-pub(crate) fn status_of_ending(ending: Ending) -> u8
+pub fn status_of_ending(ending: Ending) -> u8
     ensures { result ≡ end_status ending }
 {
     match ending {
@@ -30,12 +32,48 @@ pub(crate) fn status_of_ending(ending: Ending) -> u8
     }
 }
 
-/// The line that tells a fault of a run.
+/// The line that tells a fault, behind the program's name.
 #[tactic(auto, unfolding(crate::specs::Outcomes::fault_line))]
-fn line_of(alloc: Global, fault: &RunFault) -> Result<String, AllocError>
-    ensures { IfOk result (λ text. string_bytes text ≡ fault_line fault.now) }
+fn line_of(alloc: Global, program: Program, fault: &LongRunFault) -> Result<String, AllocError>
+    ensures { IfOk result (λ text. string_bytes text ≡ fault_line program (seen_fault fault.now)) }
 {
-    Ok(format!(in alloc; "thpsplit: {fault}\n")?)
+    match program {
+        Program::Thpsplit => Ok(format!(in alloc; "thpsplit: {fault}\n")?),
+        Program::Thpcheck => Ok(format!(in alloc; "thpcheck: {fault}\n")?),
+    }
+}
+
+/// The line that tells that memory was refused.
+#[tactic(auto, unfolding(crate::specs::Outcomes::fault_line))]
+fn memory_line(program: Program) -> &'static [u8]
+    ensures { result.now ≡ fault_line program run.OutOfMemory }
+{
+    match program {
+        Program::Thpsplit => b"thpsplit: out of memory\n",
+        Program::Thpcheck => b"thpcheck: out of memory\n",
+    }
+}
+
+/// The line that tells that a read failed.
+#[tactic(auto, unfolding(crate::specs::Outcomes::fault_line))]
+fn read_line(program: Program) -> &'static [u8]
+    ensures { result.now ≡ fault_line program run.Read }
+{
+    match program {
+        Program::Thpsplit => b"thpsplit: read failed\n",
+        Program::Thpcheck => b"thpcheck: read failed\n",
+    }
+}
+
+/// The line that tells that a write failed.
+#[tactic(auto, unfolding(crate::specs::Outcomes::fault_line))]
+fn write_line(program: Program) -> &'static [u8]
+    ensures { result.now ≡ fault_line program run.Write }
+{
+    match program {
+        Program::Thpsplit => b"thpsplit: write failed\n",
+        Program::Thpcheck => b"thpcheck: write failed\n",
+    }
 }
 
 /// Writes a text to standard error; where that fails there is nowhere to tell it.
@@ -46,34 +84,43 @@ fn put<E: Write>(errors: &mut Watched<E>, text: &[u8])
     let _ = write_text(errors, text);
 }
 
-/// Tells how a run ended, and gives the exit status. The faults that a text isn't at take no memory for their lines.
-#[tactic(auto, unfolding(crate::specs::Outcomes::fault_line))]
-fn tell_run<E: Write>(alloc: Global, fault: RunFault, errors: &mut Watched<E>) -> u8
+/// Tells how a run or a check ended, and gives the exit status. The faults that a text isn't at take no memory for their lines.
+pub fn tell_run<E: Write>(
+    alloc: Global,
+    program: Program,
+    fault: LongRunFault,
+    errors: &mut Watched<E>,
+) -> u8
     requires { errors.old.failed ≡ false }
-    ensures { (told : ToldFault) × IsToldAs fault told × Takes (device_of E.contents errors.old errors.new) (fault_line told) × (result ≡ status_of told) }
+    ensures { (told : ToldFault) × IsToldAs (seen_fault fault) told × Takes (device_of E.contents errors.old errors.new) (fault_line program told) × (result ≡ status_of told) }
 {
     match fault {
-        RunFault::Text { .. } => {
-            if let Ok(text) = line_of(alloc, &fault) {
+        LongRunFault::Text { .. } => {
+            if let Ok(text) = line_of(alloc, program, &fault) {
                 put(errors, text.as_bytes());
                 return FAULTY;
             }
-            put(errors, b"thpsplit: out of memory\n");
+            put(errors, memory_line(program));
         }
-        RunFault::OutOfMemory => put(errors, b"thpsplit: out of memory\n"),
-        RunFault::Read => put(errors, b"thpsplit: read failed\n"),
-        RunFault::Write => put(errors, b"thpsplit: write failed\n"),
+        LongRunFault::OutOfMemory => put(errors, memory_line(program)),
+        LongRunFault::Read => put(errors, read_line(program)),
+        LongRunFault::Write => put(errors, write_line(program)),
     }
     FAILED
 }
 
 /// Tells why the program didn't do what it was asked for, and gives the exit status.
-pub(crate) fn tell<E: Write>(alloc: Global, fault: ProgramFault, errors: &mut Watched<E>) -> u8
+pub fn tell<E: Write>(
+    alloc: Global,
+    program: Program,
+    fault: ProgramFault,
+    errors: &mut Watched<E>,
+) -> u8
     requires { errors.old.failed ≡ false }
-    ensures { (ended : Ended) × IsEndedAs fault ended × Tells (device_of E.contents errors.old errors.new) result (Err ended) }
+    ensures { (ended : Ended) × IsEndedAs fault ended × Tells program (device_of E.contents errors.old errors.new) result (Err ended) }
 {
     match fault {
-        ProgramFault::Run(fault) => tell_run(alloc, fault, errors),
+        ProgramFault::Run(fault) => tell_run(alloc, program, LongRunFault::from(fault), errors),
         ProgramFault::Usage(text) => {
             put(errors, text.as_bytes());
             FAULTY
