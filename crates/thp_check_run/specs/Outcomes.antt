@@ -1,20 +1,20 @@
 -- What the program does with its words, its input and its outputs, and its exit status (this project's profile).
 use Rattle.std.specs.Prelude.{◌≡◌, ◌⊎◌, ℕ, Bool, true, false, List, Result, Ok, Err}
 use Rattle.thp_text.specs.Limits.{max_counted}
-use Rattle.thp_run.specs.declared.ending.Ending.{Ending}
-use Rattle.thp_run.specs.declared.ending.Ending.TheVariants.{Written, Illegal}
-use Rattle.thp_run.specs.declared.ending.Program.TheVariants.{Thpcheck}
-use Rattle.thp_run.specs.declared.ending.ProgramFault.{ProgramFault}
-use Rattle.thp_run.specs.declared.ending.ProgramFault.TheVariants.{Run, Usage, NoText, Orders, Underused}
-use Rattle.thp_run.specs.declared.ending.WordsFault.{WordsFault}
-use Rattle.thp_run.specs.declared.ending.WordsFault.TheVariants as words
-use Rattle.thp_run.specs.declared.fault.RunFault.{RunFault}
-use Rattle.thp_run.specs.declared.long_fault.LongRunFault.{LongRunFault}
-use Rattle.thp_run.specs.Calls.{ReadsOn}
-use Rattle.thp_run.specs.Outcomes.{Device, IsShort, IsUnread, IsUntouched, Source, Tells, WasAnsweredBy}
-use Rattle.thp_run.specs.Passages.{WritesAnswer}
-use Rattle.thp_run.specs.RunFaults.{seen_fault}
-use Rattle.thp_run.specs.Verdicts.{CheckEndsWithin}
+use Rattle.thp_streams.specs.declared.ending.Ending.{Ending}
+use Rattle.thp_streams.specs.declared.ending.Ending.TheVariants.{Written, Illegal}
+use Rattle.thp_streams.specs.declared.ending.Program.TheVariants.{Thpcheck}
+use Rattle.thp_streams.specs.declared.ending.ProgramFault.{ProgramFault}
+use Rattle.thp_streams.specs.declared.ending.ProgramFault.TheVariants.{Run, Usage, NoText, Orders, Underused}
+use Rattle.thp_streams.specs.declared.ending.WordsFault.{WordsFault}
+use Rattle.thp_streams.specs.declared.ending.WordsFault.TheVariants as words
+use Rattle.thp_streams.specs.declared.fault.RunFault.{RunFault}
+use Rattle.thp_streams.specs.declared.long_fault.LongRunFault.{LongRunFault}
+use Rattle.thp_streams.specs.Calls.{ReadsOn}
+use Rattle.thp_streams.specs.Outcomes.{Device, IsShort, IsUnread, IsUntouched, Source, Tells, WasAnsweredBy}
+use Rattle.thp_streams.specs.Passages.{WritesAnswer}
+use Rattle.thp_streams.specs.RunFaults.{seen_fault}
+use Rattle.thp_streams.specs.Verdicts.{CheckEndsWithin}
 use Rattle.thp_check_run.specs.declared.end_fault.EndFault.{EndFault}
 use Rattle.thp_check_run.specs.declared.end_fault.EndFault.TheVariants as ended
 use Rattle.thp_check_run.specs.CommandLine.{AnswersWords}

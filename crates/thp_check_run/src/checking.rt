@@ -3,17 +3,17 @@ ghost use Rattle.std.specs.Prelude.{◌≡◌, ℕ, List, IfOk, IfSome, false, o
 ghost use Rattle.thp_journal_reader.specs.Journals.{journals_within};
 ghost use Rattle.thp_journal_reader.specs.Parts.{told_with};
 ghost use Rattle.thp_text.specs.Limits.{max_counted};
-ghost use Rattle.thp_run.specs.Calls.{ReadsOn};
-ghost use Rattle.thp_run.specs.Devices.{IsFrontOf};
-ghost use Rattle.thp_run.specs.Passages.{WritesAnswer};
-ghost use Rattle.thp_run.specs.RunFaults.{IsReadingFault};
-ghost use Rattle.thp_run.specs.Verdicts.{CheckEndsWithin};
+ghost use Rattle.thp_streams.specs.Calls.{ReadsOn};
+ghost use Rattle.thp_streams.specs.Devices.{IsFrontOf};
+ghost use Rattle.thp_streams.specs.Passages.{WritesAnswer};
+ghost use Rattle.thp_streams.specs.RunFaults.{IsReadingFault};
+ghost use Rattle.thp_streams.specs.Verdicts.{CheckEndsWithin};
 ghost use Rattle.thp_check_run.specs.Outcomes.{seen};
 
 use std::alloc::Global;
 use std::io::{Read, Write};
 use thp_journal_reader::{Illegal, LongCheck};
-use thp_run::{LongRunFault, RunFault, Watched, read_parts, verdict, write_text};
+use thp_streams::{LongRunFault, RunFault, Watched, read_parts, verdict, write_text};
 use thp_text::MAX_COUNTED;
 
 /// The check of the journal whose text a reader gives, part by part.

@@ -1,5 +1,5 @@
 //! The program `thpcheck`: what it does with the words of its command line, its input and its outputs. What it shares with the
-//! program `thpsplit` is `thp_run`'s: devices, verdicts, faults, exit statuses, and answers to words.
+//! program `thpsplit` is `thp_streams`'s: devices, verdicts, faults, exit statuses, and answers to words.
 #![tactic(auto)]
 
 mod checking;
@@ -12,4 +12,4 @@ pub use checking::check_long;
 pub use end_fault::EndFault;
 pub use options::read_words;
 pub use program::run_check_program;
-pub use thp_run::{LongRunFault, Watched, WordsFault, words_of};
+pub use thp_streams::{LongRunFault, Watched, WordsFault, words_of};

@@ -1,6 +1,6 @@
 //! The program: from the words of its command line to its exit status.
 ghost use Rattle.std.specs.Prelude.{◌≡◌, false};
-ghost use Rattle.thp_run.specs.Outcomes.{device_of, given_words, source_of};
+ghost use Rattle.thp_streams.specs.Outcomes.{device_of, given_words, source_of};
 ghost use Rattle.thp_check_run.specs.Outcomes.{seen_end, Does, Finishes, Served};
 
 use crate::checking::check_long;
@@ -8,7 +8,7 @@ use crate::end_fault::EndFault;
 use crate::options::read_words;
 use std::alloc::Global;
 use std::io::{Read, Write};
-use thp_run::{
+use thp_streams::{
     Ending, LongRunFault, Program, ProgramFault, Watched, WordsFault, answer, status_of_ending,
     tell, tell_run, texts_of,
 };
