@@ -21,6 +21,13 @@ pub fn verdict(alloc: Global, illegal: Option<u64>) -> Result<String, AllocError
     }
 }
 
+/// A line's number in 64 bits.
+fn widened(line: Option<u32>) -> Option<u64>
+    ensures { result ≡ line }
+{
+    Some(u64::from(line?))
+}
+
 /// Checks the journal that the reader gives: writes `legal`, or `illegal line L` with the line of the first illegal event,
 /// and answers whether the journal is legal. Nothing else is written; where the writer fails, a front of the line.
 pub fn check_run<R: Read, W: Write>(
@@ -36,7 +43,7 @@ pub fn check_run<R: Read, W: Write>(
 {
     let check = read_check_parts(alloc, reader)?;
     let illegal = check.finish()?;
-    let text = verdict(alloc, illegal.map(u64::from))?;
+    let text = verdict(alloc, widened(illegal))?;
     write_text(writer, text.as_bytes()).ok_or(RunFault::Write)?;
     Ok(illegal.is_none())
 }
