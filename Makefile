@@ -1,7 +1,8 @@
 # make try:     runs the first script at once, without proving anything
 # make run:     proves the program and all that it stands on, its libraries side by side (prove.py), builds it, and runs the
 #               first script
-# make install: puts the proved program and thpwhatif, their manual pages and completions below PREFIX (default /usr/local;
+# make checker: the same of thpcheck, which checks journals of any length
+# make install: puts the proved programs and thpwhatif, their manual pages and completions below PREFIX (default /usr/local;
 #               DESTDIR as usual); make uninstall takes them away
 # make deb:     the Debian package of the proved program and of thpwhatif, into DEBS (default out; wants dpkg-dev, debhelper)
 # make test:    every check (proofs from nothing, must-fail edits, tests, stored runs, examples, documents); ends in
@@ -20,12 +21,13 @@
 # How long each takes: README.md, "First minutes".
 PREFIX ?= /usr/local
 PROGRAM = crates/thpsplit/out/thpsplit
+CHECKER = crates/thpcheck/out/thpcheck
 SCRIPT = examples/first.script
 DEBS ?= out
 CASES ?= 2000
 SEED ?= 1
 
-.PHONY: help try run install put put-whatif uninstall deb test outside toolchain fuzz memory edits linux bench
+.PHONY: help try run checker install put put-whatif uninstall deb test outside toolchain fuzz memory edits linux bench
 
 help:
 	@sed -n '/^[^#]/q; s/^# //p' Makefile
@@ -41,13 +43,22 @@ run: toolchain
 	@python3 prove.py thpsplit
 	@cd crates/thpsplit && rt run < ../../$(SCRIPT)
 
+# the second program, for journals of any length: proved and built, and run on an example
+checker: toolchain
+	@python3 prove.py thpcheck
+	@cd crates/thpcheck && rt run < ../../examples/two_workers.journal
+
 # what is installed: its place below the prefix, and the file
 INSTALLED = bin/thpsplit=$(PROGRAM) share/man/man1/thpsplit.1=docs/thpsplit.1 share/man/man5/thpsplit.5=docs/thpsplit.5 \
 	share/bash-completion/completions/thpsplit=completions/thpsplit.bash \
 	share/zsh/site-functions/_thpsplit=completions/_thpsplit \
-	share/fish/vendor_completions.d/thpsplit.fish=completions/thpsplit.fish
+	share/fish/vendor_completions.d/thpsplit.fish=completions/thpsplit.fish \
+	bin/thpcheck=$(CHECKER) share/man/man1/thpcheck.1=docs/thpcheck.1 \
+	share/bash-completion/completions/thpcheck=completions/thpcheck.bash \
+	share/zsh/site-functions/_thpcheck=completions/_thpcheck \
+	share/fish/vendor_completions.d/thpcheck.fish=completions/thpcheck.fish
 
-install: run put put-whatif
+install: run checker put put-whatif
 
 # puts the files into place, as they are
 put:
@@ -88,6 +99,7 @@ outside:
 	@$(if $(GIVEN),python3 tests/outside.py --self-test $(GIVEN))
 	@$(if $(GIVEN),python3 tests/large.py $(GIVEN))
 	@$(if $(GIVEN),python3 tests/package.py $(GIVEN) || test $$? = 77)
+	@$(if $(wildcard $(CHECKER)),python3 tests/checker.py $(CHECKER))
 
 fuzz: run
 	@python3 tests/fuzz.py $(PROGRAM) --cases $(CASES) --seed $(SEED)

@@ -27,7 +27,7 @@ FOREIGN = {"transhuge", "admin", "guide", "split_huge_page", "cargo", "rustc"}
 DOCUMENTS = ["README.md", "CONTRIBUTING.md",
              *(f"docs/{name}.md" for name in ("MAP", "MODEL", "PROVED", "TESTS", "LINUX", "WHATIF"))]
 PATH = re.compile(r"`((?:crates|docs|tests|examples|bench|linux)/[A-Za-z0-9_./*-]*)`")
-CRATE = re.compile(r"`((?:thp|tests|bench|demo)_[a-z_]+|thpsplit)`")
+CRATE = re.compile(r"`((?:thp|tests|bench|demo)_[a-z_]+|thpsplit|thpcheck)`")
 
 
 def readme_is_short() -> str | None:
@@ -102,7 +102,7 @@ CONSTANT = re.compile(r"pub const (M(?:AX|IN)_[A-Z]+): \w+ = ([^;]+);")
 
 def limits() -> dict[str, int]:
     """Each limit of the code by its name."""
-    found: dict[str, int] = {}
+    found = {"usize::MAX": 2**64 - 1}
     for name in ("thp_model/src/limits.rt", "thp_model/src/shape.rt", "thp_text/src/limits.rt", "thp_sections/src/limits.rt"):
         for limit, value in CONSTANT.findall((ROOT / "crates" / name).read_text()):
             known, _, less = value.replace("_", "").partition(" - ") if value[0].isdigit() else value.partition(" - ")

@@ -25,6 +25,9 @@ built program where it is."""
 BUILT = ("crates/thpsplit/out/thpsplit", "crates/thpsplit/out/thpsplit.by-rattle")
 """Where `rt ci` leaves the program, as LLVM builds it and as Rattle's own compiler does."""
 
+CHECKERS = ("crates/thpcheck/out/thpcheck", "crates/thpcheck/out/thpcheck.by-rattle")
+"""The same of the program for journals of any length."""
+
 BY_EACH = ("tests/examples.py", "tests/rows.py", "tests/outside.py", "tests/large.py")
 """What looks at a program."""
 
@@ -96,6 +99,8 @@ def main() -> None:
         add(tally, "outside.py --self-test", [sys.executable, "tests/outside.py", "--self-test", program])
         rows = [f"{path}:{REFUSED}" for path in made_since(began, (SPOILT,))]
         add(tally, "memory.py", [sys.executable, "tests/memory.py", program, *rows])
+    for program in made_since(began, CHECKERS):
+        add(tally, f"checker.py {Path(program).name}", [sys.executable, "tests/checker.py", program])
     if not programs:
         add(tally, "examples.py", [sys.executable, "tests/examples.py"])
         tally.skip("the program from outside", "rt ci has built none")

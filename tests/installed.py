@@ -16,18 +16,21 @@ from pathlib import Path
 from tally import Missing, Tally
 
 ROOT = Path(__file__).resolve().parent.parent
-PAGES = ["docs/thpsplit.1", "docs/thpsplit.5"]
+PAGES = ["docs/thpsplit.1", "docs/thpsplit.5", "docs/thpcheck.1"]
 COMPLETIONS = {"bash": "completions/thpsplit.bash", "zsh": "completions/_thpsplit", "fish": "completions/thpsplit.fish"}
+CHECKER_COMPLETIONS = {"bash": "completions/thpcheck.bash", "zsh": "completions/_thpcheck",
+                       "fish": "completions/thpcheck.fish"}
 KERNEL_PAGE = "docs/thpwhatif.1"
 KERNEL_COMPLETIONS = {"bash": "completions/thpwhatif.bash", "zsh": "completions/_thpwhatif",
                       "fish": "completions/thpwhatif.fish"}
-PUT = 6
-"""How many files are put into place of `thpsplit` alone."""
+PUT = 11
+"""How many files are put into place of `thpsplit` and `thpcheck`."""
 
 
 def make(target: str, folder: Path) -> str | None:
     """What is wrong where `make` puts files below a folder, or takes them away; or None."""
-    words = ["make", "-s", target, "PREFIX=/usr", f"DESTDIR={folder}/root", f"PROGRAM={folder}/program"]
+    words = ["make", "-s", target, "PREFIX=/usr", f"DESTDIR={folder}/root", f"PROGRAM={folder}/program",
+             f"CHECKER={folder}/program"]
     done = subprocess.run(words, cwd=ROOT, capture_output=True, text=True, check=False)
     return None if done.returncode == 0 else f"make {target}: {done.stderr.strip()}"
 
@@ -67,11 +70,12 @@ def page_is_sound(page: str) -> str | None:
     return done.stderr.strip() or None
 
 
-def options_are_told(path: str) -> str | None:
-    """Each option of the command line stands in the file, and no other. In fish's form an option is `-l NAME`."""
-    source = (ROOT / "crates/thp_options/src/options.rt").read_text()
+def options_are_told(path: str, options: str = "crates/thp_options/src/options.rt") -> str | None:
+    """Each option of a command line stands in the file, and no other; of a page in its section of options. In fish's form an
+    option is `-l NAME`."""
+    source = (ROOT / options).read_text()
     wanted = set(re.findall(r'\.long\("([a-z]+)"\)', source)) | {"help", "version"}
-    text = (ROOT / path).read_text().replace("\\-", "-")
+    text = (ROOT / path).read_text().replace("\\-", "-").split(".SH OPTIONS")[-1].split(".SH ")[0]
     told = set(re.findall(r"--([a-z]+)", text)) | set(re.findall(r" -l ([a-z]+)", text))
     if told == wanted:
         return None
@@ -94,7 +98,10 @@ def main() -> None:
         tally.run(f"no warning in {page}", lambda page=page: page_is_sound(page))
     for path in [PAGES[0], *COMPLETIONS.values()]:
         tally.run(f"options in {path}", lambda path=path: options_are_told(path))
-    for shell, path in [*COMPLETIONS.items(), *KERNEL_COMPLETIONS.items()]:
+    for path in [PAGES[2], *CHECKER_COMPLETIONS.values()]:
+        own = "crates/thp_check_run/src/options.rt"
+        tally.run(f"options in {path}", lambda path=path, own=own: options_are_told(path, own))
+    for shell, path in [*COMPLETIONS.items(), *CHECKER_COMPLETIONS.items(), *KERNEL_COMPLETIONS.items()]:
         tally.run(f"syntax of {path}", lambda shell=shell, path=path: reads_as(shell, path))
     tally.end()
 

@@ -19,7 +19,7 @@ use Rattle.thp_journal_reader.specs.declared.line.Line.{Line}
 use Rattle.thp_journal_reader.specs.declared.line.Line.TheVariants.{Head, Node, Happened, End}
 use Rattle.thp_journal_reader.specs.declared.place.Place.TheVariants.{Start}
 use Rattle.thp_journal_reader.specs.Answers.{AreLegalBefore, CanBeLegal, IsFirstIllegal, IsFirstIllegalLine, IsLegalNode, TellsIllegal}
-use Rattle.thp_journal_reader.specs.Journals.{events_of, journals_of, journals_with, lines_from, node_journal, nodes_of}
+use Rattle.thp_journal_reader.specs.Journals.{events_of, journals_with, journals_within, lines_from, node_journal, nodes_of}
 
 -- the first misfit is one of the events
 pub misfit_inside : (shape : Shape) (h : History) (place : ℕ) → IsFirstMisfit shape h place → place < length h
@@ -82,13 +82,13 @@ lines_read true fault read journals e = absurd cc
 lines_read false fault (Ok lines) journals e = let same : journals_with lines ≡ journals = cc in (lines, same)
 lines_read false fault (Err other) journals e = absurd cc
 
-lines_of_journals : (text : Text) (journals : Journals) → journals_of text ≡ Ok journals → (lines : List Line) × (journals_with lines ≡ journals)
-unfolding journals_of
-lines_of_journals text journals e = lines_read (nat_lt 16777216 (length text)) (0, TooLong) (lines_from 1 Start (lines_of text)) journals e
+lines_of_journals : (most : ℕ) (text : Text) (journals : Journals) → journals_within most text ≡ Ok journals → (lines : List Line) × (journals_with lines ≡ journals)
+unfolding journals_within
+lines_of_journals most text journals e = lines_read (nat_lt most (length text)) (0, TooLong) (lines_from 1 Start (lines_of text)) journals e
 
-least_read : (text : Text) (journals : Journals) → journals_of text ≡ Ok journals → All HasLeastBlocks journals.nodes
-least_read text journals e =
-    let told = lines_of_journals text journals e in
+least_read : (most : ℕ) (text : Text) (journals : Journals) → journals_within most text ≡ Ok journals → All HasLeastBlocks journals.nodes
+least_read most text journals e =
+    let told = lines_of_journals most text journals e in
     let P : Journals → Type 0 = λ js. All HasLeastBlocks js.nodes in
     subst P told.1 (all_least told.0)
 
@@ -120,8 +120,8 @@ none_wronged nodes (Some line) least told can =
     absurd (misfit_is_illegal node.shape node.events told.first.place told.first.misfit legal)
 
 -- the answer to a text is no line where some choice of blocks is legal
-pub free_choice : (text : Text) (journals : Journals) (line : Option ℕ) → journals_of text ≡ Ok journals → TellsIllegal journals.nodes line → (others : Journals) → journals_of text ≡ Ok others → All CanBeLegal others.nodes → line ≡ None
-free_choice text journals line read told others read-too can =
+pub free_choice : (most : ℕ) (text : Text) (journals : Journals) (line : Option ℕ) → journals_within most text ≡ Ok journals → TellsIllegal journals.nodes line → (others : Journals) → journals_within most text ≡ Ok others → All CanBeLegal others.nodes → line ≡ None
+free_choice most text journals line read told others read-too can =
     let same : others ≡ journals = cc in
     let P : Journals → Type 0 = λ js. All CanBeLegal js.nodes in
-    none_wronged journals.nodes line (least_read text journals read) told (subst P same can)
+    none_wronged journals.nodes line (least_read most text journals read) told (subst P same can)

@@ -1,6 +1,6 @@
 -- What a check says of the nodes so far, as one more node begins and as one more event is read.
 use Rattle.std.proofs.Common.{◌≡◌, ℕ, ◌+◌, ◌<◌, ◌≤◌, List, [], ◌∷◌, ◌++◌, length, take, Option, Some, None, refl, sym, ap, subst, ◌∙◌, ◌⊎◌, arith, inl, inr, suc, zero, length-append}
-use Rattle.std.specs.Prelude.{All, IfErr, IfOk, Result, Ok, Err, is_some, slice_get, true, false}
+use Rattle.std.specs.Prelude.{All, IfSome, is_some, option_map, slice_get, true, false}
 use Rattle.std.proofs.lemmas.List.Elements.{All-nil, All-push}
 use Rattle.std.proofs.lemmas.List.{take-append-le, take_at}
 use Rattle.std.proofs.lemmas.List.Sums.{fold_push}
@@ -12,16 +12,19 @@ use Rattle.thp_model.specs.Legal.{Fits, IsLegal, IsFirstMisfit}
 use Rattle.thp_model.proofs.LegalSteps.{legal_none}
 use Rattle.thp_model.proofs.ListPlaces.{get_push, get-append_left, get_middle, get_below}
 use Rattle.thp_check.specs.declared.misfit.Misfit.{Misfit}
+use Rattle.thp_check.specs.Reasons.{Explains}
 use Rattle.thp_check.specs.Replays.{Replayed}
 use Rattle.thp_check.specs.Replays.{with_event as replayed}
 use Rattle.thp_journal_reader.specs.declared.journals.NodeJournal.{NodeJournal}
-use Rattle.thp_journal_reader.specs.Answers.{AreLegalBefore, IsFirstIllegal, IsFirstIllegalLine, IsLegalNode, TellsIllegal}
-use Rattle.thp_journal_reader.specs.Checking.{illegal_line, nodes_told, verdict_on, AreLegal, GoesWith, HasRoom, Says}
+use Rattle.thp_text.specs.Limits.{max_counted}
+use Rattle.thp_journal_reader.specs.Answers.{AreLegalBefore, IsFirstIllegalEvent, IsLegalNode, TellsFirst, TellsIllegal}
+use Rattle.thp_journal_reader.specs.Checking.{nodes_told, AreLegal, GoesWith, HasRoom, HasRoomIn, Says, SaysBy}
 use Rattle.thp_journal_reader.specs.LineRanges.{IsInRange}
 use Rattle.thp_journal_reader.specs.Reading.{began, on_last, with_event, with_line, IsNodeBefore}
 use Rattle.thp_journal_reader.specs.declared.checked_nodes.CheckedNodes.{CheckedNodes}
 use Rattle.thp_journal_reader.specs.declared.checked_nodes.Verdict.{Verdict}
-use Rattle.thp_journal_reader.specs.declared.checked_nodes.Verdict.TheVariants.{Nothing, Legal, Illegal}
+use Rattle.thp_journal_reader.specs.declared.checked_nodes.NodeAtHand.{NodeAtHand}
+use Rattle.thp_journal_reader.specs.declared.illegal.Illegal.{Illegal}
 use Rattle.thp_journal_reader.specs.declared.line.Line.{Line}
 use Rattle.thp_journal_reader.proofs.AnswerLaws.{found_has, misfit_inside}
 use Rattle.thp_journal_reader.proofs.NodeLaws.{each_step, on_last-push}
@@ -97,46 +100,55 @@ legal_grows nodes old new next event a is legal =
     }
 
 -- the last of them gets one that doesn't fit
-pub turns_illegal : (nodes : List NodeJournal) (old : Replayed) (next : ℕ) (event : Event) → AreLegal nodes old next → (Fits old.shape old.history (event_with (least_free old.shape old.history) event) → ⊥) →
-    IsFirstIllegalLine (on_last (with_event event) nodes) next
-turns_illegal nodes old next event a misfit =
-    let grown : List NodeJournal = a.before ++ with_event event a.last ∷ [] in
-    let P : List NodeJournal → Type 0 = λ ns. IsFirstIllegalLine ns next in
-    let M : Shape → History → Type 0 = λ s h. Fits s h (event_with (least_free s h) event) → ⊥ in
-    let wrong : M a.last.shape a.last.events = subst (λ s. M s a.last.events) a.shape_is (subst (λ h. M old.shape h) a.events_are misfit) in
-    subst P (sym (ap (on_last (with_event event)) a.nodes_are ∙ on_last-push (with_event event) a.before a.last)) (record {
-      place = length a.before;
-      node = with_event event a.last;
-      here = get_middle a.before (with_event event a.last) [];
-      legal_before = λ k node lt here.
-          elim (get_push a.before (with_event event a.last) k node here) [
-            | inl w ↦ legal_found a.before a.legal_before k node w.1
-            | inr w ↦ absurd (omega (arith, w.0))
-          ];
-      first = record {
-        place = length a.last.events;
-        misfit = last_misfit a.last.shape a.last.events (event_with (least_free a.last.shape a.last.events) event) a.legal wrong;
-        line_is = a.next_is;
+pub turns_illegal : (nodes : List NodeJournal) (old : Replayed) (next : ℕ) (told event : Event) (m : Misfit) → AreLegal nodes old next → event ≡ event_with (least_free old.shape old.history) told → (Fits old.shape old.history event → ⊥) →
+    Explains old.shape old.history event m → IsFirstIllegalEvent (on_last (with_event told) nodes) (record { line = next; event = event; misfit = m })
+turns_illegal nodes old next told event m a is misfit why =
+    let last : NodeJournal = a.last in
+    let placed : Event = event_with (least_free last.shape last.events) told in
+    let same : event ≡ placed = is ∙ ap (λ h. event_with (least_free old.shape h) told) a.events_are ∙ ap (λ s. event_with (least_free s last.events) told) a.shape_is in
+    let P : List NodeJournal → Type 0 = λ ns. IsFirstIllegalEvent ns (record { line = next; event = event; misfit = m }) in
+    let M : Shape → History → Event → Type 0 = λ s h e. Fits s h e → ⊥ in
+    let W : Shape → History → Type 0 = λ s h. Explains s h event m in
+    let wrong : M last.shape last.events placed = subst (M last.shape last.events) same (subst (λ s. M s last.events event) a.shape_is (subst (λ h. M old.shape h event) a.events_are misfit)) in
+    let front : take (length last.events) (last.events ++ placed ∷ []) ≡ last.events = take_at last.events (placed ∷ []) (length last.events) refl in
+    subst P (sym (ap (on_last (with_event told)) a.nodes_are ∙ on_last-push (with_event told) a.before last)) (record {
+      line = record {
+        place = length a.before;
+        node = with_event told last;
+        here = get_middle a.before (with_event told last) [];
+        legal_before = λ k node lt here.
+            elim (get_push a.before (with_event told last) k node here) [
+              | inl w ↦ legal_found a.before a.legal_before k node w.1
+              | inr w ↦ absurd (omega (arith, w.0))
+            ];
+        first = record {
+          place = length last.events;
+          misfit = last_misfit last.shape last.events placed a.legal wrong;
+          line_is = a.next_is;
+        };
       };
+      event = get_middle last.events placed [] ∙ ap (λ (e : Event). Some e) (sym same);
+      why = subst (W last.shape) (sym front) (subst (λ s. W s last.events) a.shape_is (subst (W old.shape) a.events_are why));
     })
 
 -- ---- nodes one of which is illegal
 
--- one more event leaves the first misfit where it is
-misfit_stays : (event : Event) (node : NodeJournal) (line : ℕ) → IsFirstIllegal node line → IsFirstIllegal (with_event event node) line
-misfit_stays event node line first =
-    let more : History = event_with (least_free node.shape node.events) event ∷ [] in
-    let inside : first.place < length node.events = misfit_inside node.shape node.events first.place first.misfit in
-    let front : take first.place (node.events ++ more) ≡ take first.place node.events = take-append-le first.place node.events more (omega (arith, inside)) in
+-- one more event leaves the events before it where they are
+front_stays : (event : Event) (node : NodeJournal) (place : ℕ) → place < length node.events → take place (with_event event node).events ≡ take place node.events
+front_stays event node place inside = take-append-le place node.events (event_with (least_free node.shape node.events) event ∷ []) (omega (arith, inside))
+
+event_stays : (event : Event) (node : NodeJournal) (place : ℕ) (there : Event) → slice_get node.events place ≡ Some there → slice_get (with_event event node).events place ≡ Some there
+event_stays event node place there here = get-append_left node.events (event_with (least_free node.shape node.events) event ∷ []) place there here
+
+-- and so the first misfit
+misfit_stays : (event : Event) (node : NodeJournal) (place : ℕ) → IsFirstMisfit node.shape node.events place → IsFirstMisfit node.shape (with_event event node).events place
+misfit_stays event node place first =
+    let front = front_stays event node place (misfit_inside node.shape node.events place first) in
     let L : History → Type 0 = λ h. IsLegal node.shape h in
     let M : Event → History → Type 0 = λ e h. Fits node.shape h e → ⊥ in
     record {
-      place = first.place;
-      misfit = record {
-        legal_before = subst L (sym front) first.misfit.legal_before;
-        misfit = (first.misfit.misfit.0, get-append_left node.events more first.place first.misfit.misfit.0 first.misfit.misfit.1, subst (M first.misfit.misfit.0) (sym front) first.misfit.misfit.2);
-      };
-      line_is = first.line_is;
+      legal_before = subst L (sym front) first.legal_before;
+      misfit = (first.misfit.0, event_stays event node place first.misfit.0 first.misfit.1, subst (M first.misfit.0) (sym front) first.misfit.2);
     }
 
 -- what stands at a place once the last was changed: what stood there, or that changed
@@ -155,45 +167,97 @@ stood_before f (first ∷ []) k node lt here = absurd (omega arith)
 stood_before f (first ∷ next ∷ nodes) zero node lt here = here
 stood_before f (first ∷ next ∷ nodes) (suc k) node lt here = stood_before f (next ∷ nodes) k node (omega arith) here
 
-pub illegal_grows : (nodes : List NodeJournal) (line : ℕ) (event : Event) → IsFirstIllegalLine nodes line → IsFirstIllegalLine (on_last (with_event event) nodes) line
-illegal_grows nodes line event i =
+pub illegal_grows : (nodes : List NodeJournal) (illegal : Illegal) (event : Event) → IsFirstIllegalEvent nodes illegal → IsFirstIllegalEvent (on_last (with_event event) nodes) illegal
+illegal_grows nodes illegal event i =
     let f : NodeJournal → NodeJournal = with_event event in
-    let before : AreLegalBefore i.place (on_last f nodes) =
-    λ k node lt here. i.legal_before k node lt (stood_before f nodes k node (omega (arith, get_below nodes i.place i.node i.here)) here) in
-    elim (was_there f nodes i.place i.node i.here) [
-      | inl there ↦ record { place = i.place; node = i.node; here = there; legal_before = before; first = i.first }
-      | inr there ↦ record { place = i.place; node = f i.node; here = there; legal_before = before; first = misfit_stays event i.node line i.first }
+    let l = i.line in
+    let before : AreLegalBefore l.place (on_last f nodes) =
+    λ k node lt here. l.legal_before k node lt (stood_before f nodes k node (omega (arith, get_below nodes l.place l.node l.here)) here) in
+    let front = front_stays event l.node l.first.place (misfit_inside l.node.shape l.node.events l.first.place l.first.misfit) in
+    let W : History → Type 0 = λ h. Explains l.node.shape h illegal.event illegal.misfit in
+    elim (was_there f nodes l.place l.node l.here) [
+      | inl there ↦ record { line = record { place = l.place; node = l.node; here = there; legal_before = before; first = l.first }; event = i.event; why = i.why }
+      | inr there ↦ record {
+        line = record { place = l.place; node = f l.node; here = there; legal_before = before; first = record { place = l.first.place; misfit = misfit_stays event l.node l.first.place l.first.misfit; line_is = l.first.line_is } };
+        event = event_stays event l.node l.first.place illegal.event i.event;
+        why = subst W (sym front) i.why;
+      }
     ]
 
-pub illegal_begins : (nodes : List NodeJournal) (line first_line : ℕ) (shape : Shape) → IsFirstIllegalLine nodes line → IsFirstIllegalLine (nodes ++ began first_line shape ∷ []) line
-illegal_begins nodes line first_line shape i = record {
-  place = i.place;
-  node = i.node;
-  here = get-append_left nodes (began first_line shape ∷ []) i.place i.node i.here;
-  legal_before = λ k node lt here.
-      elim (get_push nodes (began first_line shape) k node here) [
-        | inl w ↦ i.legal_before k node lt w.1
-        | inr w ↦ absurd (omega (arith, w.0, get_below nodes i.place i.node i.here))
-      ];
-  first = i.first;
-}
+pub illegal_begins : (nodes : List NodeJournal) (illegal : Illegal) (first_line : ℕ) (shape : Shape) → IsFirstIllegalEvent nodes illegal → IsFirstIllegalEvent (nodes ++ began first_line shape ∷ []) illegal
+illegal_begins nodes illegal first_line shape i =
+    let l = i.line in
+    record {
+      line = record {
+        place = l.place;
+        node = l.node;
+        here = get-append_left nodes (began first_line shape ∷ []) l.place l.node l.here;
+        legal_before = λ k node lt here.
+            elim (get_push nodes (began first_line shape) k node here) [
+              | inl w ↦ l.legal_before k node lt w.1
+              | inr w ↦ absurd (omega (arith, w.0, get_below nodes l.place l.node l.here))
+            ];
+        first = l.first;
+      };
+      event = i.event;
+      why = i.why;
+    }
+
+-- the line of the first illegal event stands before the next line
+pub illegal_before : (nodes : List NodeJournal) (illegal : Illegal) (number : ℕ) → IsFirstIllegalEvent nodes illegal → All (IsNodeBefore number) nodes → illegal.line ≤ number
+illegal_before nodes illegal number i each =
+    let l = i.line in
+    let node : IsNodeBefore number l.node = found_has (λ n. IsNodeBefore number n) nodes l.place l.node l.here each in
+    let lines : l.node.first_line + length l.node.events ≤ number = node.lines in
+    let inside : l.first.place < length l.node.events = misfit_inside l.node.shape l.node.events l.first.place l.first.misfit in
+    omega (arith, lines, inside, l.first.line_is)
 
 -- ---- what is answered
 
-pub tells_none : (nodes : List NodeJournal) → nodes ≡ [] → TellsIllegal nodes None
+tells_none : (nodes : List NodeJournal) → nodes ≡ [] → TellsFirst nodes None
 tells_none nodes none = λ k node lt here. legal_found nodes (none_legal nodes none) k node here
 
-pub tells_legal : (nodes : List NodeJournal) (r : Replayed) (next : ℕ) → AreLegal nodes r next → TellsIllegal nodes None
+tells_legal : (nodes : List NodeJournal) (r : Replayed) (next : ℕ) → AreLegal nodes r next → TellsFirst nodes None
 tells_legal nodes r next a = λ k node lt here. legal_found nodes (all_legal nodes r next a) k node here
 
--- the replay has room for one more event, where the next one's line has a number below 2^32
-pub has_room : (nodes : List NodeJournal) (r : Replayed) (number next : ℕ) → AreLegal nodes r next → All (IsNodeBefore number) nodes → number < 4294967295 → (length r.history ≤ next) × (next < 4294967295)
+-- what is answered is so
+tells_by : (nodes : List NodeJournal) (node : Option NodeAtHand) (illegal : Option Illegal) → SaysBy nodes node illegal → TellsFirst nodes illegal
+tells_by nodes None None says = tells_none nodes says
+tells_by nodes (Some node) None says = tells_legal nodes node.replay node.next_line says
+tells_by nodes None (Some illegal) says = says
+tells_by nodes (Some node) (Some illegal) says = absurd says
+
+pub tells_first : (nodes : List NodeJournal) (verdict : Verdict) → Says nodes verdict → TellsFirst nodes verdict.illegal
+tells_first nodes verdict says = tells_by nodes verdict.node verdict.illegal says
+
+-- its line stands before the next line
+pub first_before : (nodes : List NodeJournal) (illegal : Option Illegal) (number most : ℕ) → TellsFirst nodes illegal → All (IsNodeBefore number) nodes → number ≤ most + 1 → IfSome illegal (λ i. i.line ≤ most + 1)
+first_before nodes None number most told each le = tt
+first_before nodes (Some illegal) number most told each le = omega (arith, illegal_before nodes illegal number told each)
+
+-- the line of what is answered is that of the first illegal event
+pub line_of_first : (nodes : List NodeJournal) (illegal : Option Illegal) → TellsFirst nodes illegal → TellsIllegal nodes (option_map (λ i. i.line) illegal)
+line_of_first nodes None told = told
+line_of_first nodes (Some illegal) told = told.line
+
+-- ---- room for one more event
+
+has_room : (nodes : List NodeJournal) (r : Replayed) (number next : ℕ) → AreLegal nodes r next → All (IsNodeBefore number) nodes → number ≤ max_counted → (length r.history ≤ next) × (next ≤ max_counted)
 has_room nodes r number next a each below =
     let P : List NodeJournal → Type 0 = λ ns. All (IsNodeBefore number) ns in
     let last : IsNodeBefore number a.last = found_has (λ n. IsNodeBefore number n) (a.before ++ a.last ∷ []) (length a.before) a.last (get_middle a.before a.last []) (subst P a.nodes_are each) in
     let lines : a.last.first_line + length a.last.events ≤ number = last.lines in
     let events : length r.history ≡ length a.last.events = ap length a.events_are in
     (omega (arith, a.next_is, events), omega (arith, a.next_is, lines))
+
+room_by : (number : ℕ) (nodes : List NodeJournal) (node : Option NodeAtHand) (illegal : Option Illegal) → SaysBy nodes node illegal → All (IsNodeBefore number) nodes → number ≤ max_counted → IfSome node HasRoomIn
+room_by number nodes None illegal says each below = tt
+room_by number nodes (Some node) None says each below = has_room nodes node.replay number node.next_line says each below
+room_by number nodes (Some node) (Some illegal) says each below = absurd says
+
+-- where the next line has a number that is counted
+pub room_for_one : (number : ℕ) (nodes : List NodeJournal) (verdict : Verdict) → Says nodes verdict → All (IsNodeBefore number) nodes → number ≤ max_counted → HasRoom verdict
+room_for_one number nodes verdict says each below = room_by number nodes verdict.node verdict.illegal says each below
 
 -- ---- the nodes that lines tell
 
@@ -206,7 +270,7 @@ unfolding nodes_told
 told_none = refl
 
 -- before any line
-pub goes_first : (nodes : CheckedNodes) → nodes.lines ≡ [] → nodes.verdict ≡ Nothing → GoesWith 1 nodes
+pub goes_first : (nodes : CheckedNodes) → nodes.lines ≡ [] → nodes.verdict ≡ record { node = None; illegal = None } → GoesWith 1 nodes
 goes_first nodes none nothing =
     let told : nodes_told nodes.lines ≡ [] = ap nodes_told none ∙ told_none in
     let P : List NodeJournal → Type 0 = λ ns. All (IsNodeBefore 1) ns in
@@ -221,38 +285,40 @@ goes_on number old new line along in-range lines says =
     let P : List NodeJournal → Type 0 = λ ns. Says ns new.verdict in
     record { each = each_step number (nodes_told old.lines) (nodes_told new.lines) line told in-range along.each; says = subst P (sym told) says }
 
--- there is room for one more event
-pub room_for_one : (number : ℕ) (nodes : List NodeJournal) (verdict : Verdict) → Says nodes verdict → All (IsNodeBefore number) nodes → number < 4294967295 → HasRoom verdict
-room_for_one number nodes Nothing says each below = tt
-room_for_one number nodes (Legal replay next_line) says each below = has_room nodes replay number next_line says each below
-room_for_one number nodes (Illegal line) says each below = tt
+-- ---- what is known, step by step
 
--- what is answered is so
-pub tells_verdict : (nodes : List NodeJournal) (verdict : Verdict) → Says nodes verdict → TellsIllegal nodes (illegal_line verdict)
-tells_verdict nodes Nothing says = tells_none nodes says
-tells_verdict nodes (Legal replay next_line) says = tells_legal nodes replay next_line says
-tells_verdict nodes (Illegal line) says = says
-
--- the event on the next line was admitted, or wasn't
-pub says_on : (nodes : List NodeJournal) (old : Replayed) (next : ℕ) (event : Event) (r : Result Replayed Misfit) → AreLegal nodes old next →
-    IfOk r (λ new. new ≡ replayed old (event_with (least_free old.shape old.history) event)) → IfOk r (λ new. IsLegal new.shape new.history) →
-    IfErr r (λ m. Fits old.shape old.history (event_with (least_free old.shape old.history) event) → ⊥) → Says (on_last (with_event event) nodes) (verdict_on next r)
-says_on nodes old next event (Ok new) a is legal misfit = legal_grows nodes old new next event a is legal
-says_on nodes old next event (Err m) a is legal misfit = turns_illegal nodes old next event a misfit
+-- the event on the next line was admitted
+pub says_admitted : (nodes : List NodeJournal) (old new : Replayed) (next : ℕ) (told event : Event) → AreLegal nodes old next → event ≡ event_with (least_free old.shape old.history) told →
+    new ≡ replayed old event → IsLegal new.shape new.history → AreLegal (on_last (with_event told) nodes) new (next + 1)
+says_admitted nodes old new next told event a placed is legal = legal_grows nodes old new next told a (is ∙ ap (replayed old) placed) legal
 
 -- where an event is illegal already, one more node changes nothing that is known
-pub says_still : (nodes : List NodeJournal) (verdict : Verdict) (first_line : ℕ) (shape : Shape) → is_some (illegal_line verdict) ≡ true → Says nodes verdict → Says (nodes ++ began first_line shape ∷ []) verdict
-says_still nodes Nothing first_line shape some says = absurd cc
-says_still nodes (Legal replay next_line) first_line shape some says = absurd cc
-says_still nodes (Illegal line) first_line shape some says = illegal_begins nodes line first_line shape says
+still_by : (nodes : List NodeJournal) (node : Option NodeAtHand) (illegal : Option Illegal) (first_line : ℕ) (shape : Shape) → is_some illegal ≡ true → SaysBy nodes node illegal → SaysBy (nodes ++ began first_line shape ∷ []) node illegal
+still_by nodes other None first_line shape some says = absurd cc
+still_by nodes None (Some illegal) first_line shape some says = illegal_begins nodes illegal first_line shape says
+still_by nodes (Some node) (Some illegal) first_line shape some says = absurd says
+
+pub says_still : (nodes : List NodeJournal) (verdict : Verdict) (first_line : ℕ) (shape : Shape) → is_some verdict.illegal ≡ true → Says nodes verdict → Says (nodes ++ began first_line shape ∷ []) verdict
+says_still nodes verdict first_line shape some says = still_by nodes verdict.node verdict.illegal first_line shape some says
 
 -- a node begins
-pub says_begun : (nodes : List NodeJournal) (old : Verdict) (new : Replayed) (first_line : ℕ) (shape : Shape) → is_some (illegal_line old) ≡ false → new.shape ≡ shape → new.history ≡ [] → Says nodes old →
-    Says (nodes ++ began first_line shape ∷ []) (Legal new first_line)
-says_begun nodes Nothing new first_line shape none same empty says = first_begins nodes first_line shape new says same empty
-says_begun nodes (Legal replay next_line) new first_line shape none same empty says = legal_begins nodes replay next_line first_line shape new says same empty
-says_begun nodes (Illegal line) new first_line shape none same empty says = absurd cc
+pub says_begun : (nodes : List NodeJournal) (node : Option NodeAtHand) (illegal : Option Illegal) (new : NodeAtHand) (first_line : ℕ) (shape : Shape) → is_some illegal ≡ false → new.replay.shape ≡ shape → new.replay.history ≡ [] → new.next_line ≡ first_line →
+    SaysBy nodes node illegal → SaysBy (nodes ++ began first_line shape ∷ []) (Some new) illegal
+says_begun nodes None None new first_line shape none same empty here says = rw here (first_begins nodes first_line shape new.replay says same empty)
+says_begun nodes (Some old) None new first_line shape none same empty here says = rw here (legal_begins nodes old.replay old.next_line first_line shape new.replay says same empty)
+says_begun nodes other (Some illegal) new first_line shape none same empty here says = absurd cc
 
--- before the first node, an event is none of any node
-pub says_nothing : (nodes : List NodeJournal) (event : Event) → Says nodes Nothing → Says (on_last (with_event event) nodes) Nothing
-says_nothing nodes event says = ap (on_last (with_event event)) says
+-- while no node is at hand, an event leaves what is known
+pub says_nothing : (nodes : List NodeJournal) (node : Option NodeAtHand) (illegal : Option Illegal) (event : Event) → node ≡ None → SaysBy nodes node illegal → SaysBy (on_last (with_event event) nodes) node illegal
+says_nothing nodes None None event none says = ap (on_last (with_event event)) says
+says_nothing nodes None (Some illegal) event none says = illegal_grows nodes illegal event says
+says_nothing nodes (Some node) illegal event none says = absurd cc
+
+-- a node is at hand, so no event is illegal
+pub none_illegal : (nodes : List NodeJournal) (node : Option NodeAtHand) (illegal : Option Illegal) (at_hand : NodeAtHand) → node ≡ Some at_hand → SaysBy nodes node illegal → (illegal ≡ None) × AreLegal nodes at_hand.replay at_hand.next_line
+none_illegal nodes None illegal at_hand some says = absurd cc
+none_illegal nodes (Some node) None at_hand some says =
+    let same : node ≡ at_hand = cc in
+    let P : NodeAtHand → Type 0 = λ n. AreLegal nodes n.replay n.next_line in
+    (refl, subst P same says)
+none_illegal nodes (Some node) (Some illegal) at_hand some says = absurd says

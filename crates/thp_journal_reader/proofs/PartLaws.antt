@@ -5,6 +5,7 @@ use Rattle.thp_text.specs.declared.fault.TextKind.{TextKind}
 use Rattle.thp_text.specs.Lines.{fault_behind}
 use Rattle.thp_text.specs.Readings.{◌>>=◌}
 use Rattle.thp_text.specs.Scripts.{Fault}
+use Rattle.thp_text.specs.TextInParts.{nothing_of}
 use Rattle.thp_text.specs.Words.{Text, lines_of}
 use Rattle.thp_text.proofs.TextLaws.{whole_comes}
 use Rattle.thp_journal_reader.specs.declared.journals.NodeJournal.{NodeJournal}
@@ -12,7 +13,7 @@ use Rattle.thp_journal_reader.specs.declared.line.Line.{Line}
 use Rattle.thp_journal_reader.specs.declared.place.Place.{Place}
 use Rattle.thp_journal_reader.specs.declared.place.Place.TheVariants.{Start}
 use Rattle.thp_journal_reader.specs.JournalLines.{line_in, place_after}
-use Rattle.thp_journal_reader.specs.Journals.{journals_of, journals_with, lines_from, nodes_of}
+use Rattle.thp_journal_reader.specs.Journals.{journals_with, journals_within, lines_from, nodes_of}
 use Rattle.thp_journal_reader.specs.Parts.{journals_in, lines_tell, told_with, with_lines}
 use Rattle.thp_journal_reader.specs.Reading.{fault_at, with_line}
 use Rattle.thp_journal_reader.proofs.JournalLaws.{behind, ends_none, ends_some, line_ends, line_fails, line_says}
@@ -37,9 +38,9 @@ all_tell (Ok lines) = ap (λ (nodes : List NodeJournal). Ok (journals_in nodes))
 all_tell (Err fault) = refl
 
 -- nothing has come: the text to come is the whole
-pub tells_all : (text : Text) → told_with (record { nodes = []; place = Start; text = record { begun = []; line = 1; given = 0; fault = None } }) text ≡ journals_of text
-unfolding journals_of lines_tell
-tells_all text = rw (all_tell (lines_from 1 Start (lines_of text))) (whole_comes text (lines_from 1 Start (lines_of text) >>= λ lines. Ok (journals_with lines)))
+pub tells_all : (most : ℕ) (text : Text) → told_with (record { nodes = []; place = Start; text = nothing_of most }) text ≡ journals_within most text
+unfolding journals_within lines_tell
+tells_all most text = rw (all_tell (lines_from 1 Start (lines_of text))) (whole_comes most text (lines_from 1 Start (lines_of text) >>= λ lines. Ok (journals_with lines)))
 
 -- a line before those behind it
 behind_tells : (n : ℕ) (nodes : List NodeJournal) (line : Line) (read : Result (List Line) Fault)

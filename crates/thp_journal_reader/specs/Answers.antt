@@ -1,8 +1,10 @@
 -- What the check of a journal text answers.
-use Rattle.std.specs.Prelude.{◌≡◌, ◌<◌, ◌+◌, ℕ, List, length, slice_get, Option, Some, None}
+use Rattle.std.specs.Prelude.{◌≡◌, ◌<◌, ◌+◌, ℕ, List, length, slice_get, take, Option, Some, None}
 use Rattle.thp_model.specs.BlockLaws.{SameButBlocks}
 use Rattle.thp_model.specs.History.{History}
 use Rattle.thp_model.specs.Legal.{IsLegal, IsFirstMisfit}
+use Rattle.thp_check.specs.Reasons.{Explains}
+use Rattle.thp_journal_reader.specs.declared.illegal.Illegal.{Illegal}
 use Rattle.thp_journal_reader.specs.declared.journals.NodeJournal.{NodeJournal}
 
 -- the node's events are a legal history
@@ -27,6 +29,12 @@ pub record IsFirstIllegalLine (nodes : List NodeJournal) (line : ℕ) : Type 0 w
   pub legal_before : AreLegalBefore place nodes
   pub first : IsFirstIllegal node line
 
+-- the event is the first that doesn't fit, and this is why
+pub record IsFirstIllegalEvent (nodes : List NodeJournal) (illegal : Illegal) : Type 0 where
+  pub line : IsFirstIllegalLine nodes illegal.line
+  pub event : slice_get line.node.events line.first.place ≡ Some illegal.event
+  pub why : Explains line.node.shape (take line.first.place line.node.events) illegal.event illegal.misfit
+
 -- of one node: no line where it is legal, else that of its first illegal event
 abbrev pub TellsNode : NodeJournal → Option ℕ → Type 0
 TellsNode node None = IsLegalNode node
@@ -36,6 +44,11 @@ TellsNode node (Some line) = IsFirstIllegal node line
 abbrev pub TellsIllegal : List NodeJournal → Option ℕ → Type 0
 TellsIllegal nodes None = AreLegalBefore (length nodes) nodes
 TellsIllegal nodes (Some line) = IsFirstIllegalLine nodes line
+
+-- no event where each is legal, else the first illegal one in the order of the text
+abbrev pub TellsFirst : List NodeJournal → Option Illegal → Type 0
+TellsFirst nodes None = AreLegalBefore (length nodes) nodes
+TellsFirst nodes (Some illegal) = IsFirstIllegalEvent nodes illegal
 
 -- some choice of blocks makes the node's events legal
 abbrev pub CanBeLegal : NodeJournal → Type 0

@@ -1,15 +1,16 @@
 -- What a check keeps of the nodes so far. Public clauses cite this module through `Parts` alone.
-use Rattle.std.specs.Prelude.{◌≡◌, ◌<◌, ◌≤◌, ◌+◌, ℕ, ⊤, All, List, [], ◌∷◌, ◌++◌, length, Option, Some, None, Result, Ok, Err}
+use Rattle.std.specs.Prelude.{◌≡◌, ◌<◌, ◌≤◌, ◌+◌, ℕ, All, List, [], ◌∷◌, ◌++◌, length, Option, Some, None, IfSome}
 use Rattle.std.specs.List.{fold}
 use Rattle.thp_model.specs.Legal.{IsLegal}
-use Rattle.thp_check.specs.declared.misfit.Misfit.{Misfit}
 use Rattle.thp_check.specs.Replays.{Replayed}
+use Rattle.thp_text.specs.Limits.{max_counted}
 use Rattle.thp_journal_reader.specs.declared.checked_nodes.CheckedNodes.{CheckedNodes}
+use Rattle.thp_journal_reader.specs.declared.checked_nodes.NodeAtHand.{NodeAtHand}
 use Rattle.thp_journal_reader.specs.declared.checked_nodes.Verdict.{Verdict}
-use Rattle.thp_journal_reader.specs.declared.checked_nodes.Verdict.TheVariants.{Nothing, Legal, Illegal}
+use Rattle.thp_journal_reader.specs.declared.illegal.Illegal.{Illegal}
 use Rattle.thp_journal_reader.specs.declared.journals.NodeJournal.{NodeJournal}
 use Rattle.thp_journal_reader.specs.declared.line.Line.{Line}
-use Rattle.thp_journal_reader.specs.Answers.{IsFirstIllegalLine, IsLegalNode}
+use Rattle.thp_journal_reader.specs.Answers.{IsFirstIllegalEvent, IsLegalNode}
 use Rattle.thp_journal_reader.specs.Reading.{with_line, IsNodeBefore}
 
 -- the nodes that numbered lines tell
@@ -27,26 +28,22 @@ pub record AreLegal (nodes : List NodeJournal) (replay : Replayed) (next_line : 
   pub legal : IsLegal last.shape last.events
   pub next_is : next_line ≡ last.first_line + length last.events
 
--- what the verdict says of the nodes so far
+-- what is known says of the nodes so far: there is none, all are legal, or this is the first illegal event
+abbrev pub SaysBy : List NodeJournal → Option NodeAtHand → Option Illegal → Type 0
+SaysBy nodes None None = nodes ≡ []
+SaysBy nodes (Some node) None = AreLegal nodes node.replay node.next_line
+SaysBy nodes None (Some illegal) = IsFirstIllegalEvent nodes illegal
+SaysBy nodes (Some node) (Some illegal) = ⊥
+
 abbrev pub Says : List NodeJournal → Verdict → Type 0
-Says nodes Nothing = nodes ≡ []
-Says nodes (Legal replay next_line) = AreLegal nodes replay next_line
-Says nodes (Illegal line) = IsFirstIllegalLine nodes line
+Says nodes verdict = SaysBy nodes verdict.node verdict.illegal
 
--- the line that is answered
-abbrev pub illegal_line : Verdict → Option ℕ
-illegal_line (Illegal line) = Some line
-illegal_line verdict = None
+-- there is room for one more event of the node at hand
+abbrev pub HasRoomIn : NodeAtHand → Type 0
+HasRoomIn node = (length node.replay.history ≤ node.next_line) × (node.next_line ≤ max_counted)
 
--- what is known once the event on this line was admitted, or wasn't
-abbrev pub verdict_on : ℕ → Result Replayed Misfit → Verdict
-verdict_on line (Ok replay) = Legal replay (line + 1)
-verdict_on line (Err misfit) = Illegal line
-
--- there is room for one more event
 abbrev pub HasRoom : Verdict → Type 0
-HasRoom (Legal replay next_line) = (length replay.history ≤ next_line) × (next_line < 4294967295)
-HasRoom verdict = ⊤
+HasRoom verdict = IfSome verdict.node HasRoomIn
 
 -- what is kept is so of the nodes that the lines tell, which stand before the line of this number
 pub record GoesWith (number : ℕ) (nodes : CheckedNodes) : Type 0 where

@@ -58,11 +58,15 @@ nodes_of number (_ ∷ lines) = nodes_of (number + 1) lines
 unfoldable pub journals_with : List Line → Journals
 journals_with lines = record { nodes = nodes_of 1 lines }
 
--- The journals that a text spells, or its first fault.
-unfoldable pub journals_of : Text → Result Journals Fault
-journals_of text =
-    if nat_lt max_input (length text) then Err (0, TooLong)
+-- The journals that a text of at most so many bytes spells, or its first fault.
+unfoldable pub journals_within : ℕ → Text → Result Journals Fault
+journals_within most text =
+    if nat_lt most (length text) then Err (0, TooLong)
     else (lines_from 1 Start (lines_of text) >>= λ lines. Ok (journals_with lines))
+
+-- The journals that an input spells, or its first fault.
+abbrev pub journals_of : Text → Result Journals Fault
+journals_of = journals_within max_input
 
 -- a node can have this shape, and its lines have numbers below 2^32
 pub record IsNodeJournal (node : NodeJournal) : Type 0 where

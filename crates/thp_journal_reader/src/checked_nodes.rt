@@ -1,102 +1,111 @@
 //! Nodes whose events are replayed as they are read, and not kept.
-ghost use Rattle.std.specs.Prelude.{◌≡◌, ◌<◌, ◌+◌, ◌^◌, ◌∷◌, ◌++◌, [], length, List, IfOk, IfErr, OnOk};
-ghost use Rattle.thp_check.specs.Replays.{with_event as replayed};
-ghost use Rattle.thp_journal_reader.specs.Checking.{illegal_line, nodes_told, verdict_on, GoesWith, HasRoom, Says};
+ghost use Rattle.std.specs.Prelude.{◌≡◌, ◌≤◌, ◌<◌, ◌+◌, ◌-◌, ◌^◌, ◌∷◌, ◌++◌, [], length, List, None, OnOk};
+ghost use Rattle.thp_journal_reader.specs.Checking.{nodes_told, AreLegal, GoesWith, HasRoom, HasRoomIn, Says};
 ghost use Rattle.thp_journal_reader.specs.Reading.{began, on_last, with_event, with_line};
-ghost use Rattle.thp_journal_reader.specs.declared.checked_nodes.Verdict.TheVariants.{Nothing};
 ghost use Rattle.thp_journal_reader.specs.declared.journals.NodeJournal.{NodeJournal};
 ghost use Rattle.thp_journal_reader.specs.LineRanges.{IsInRange};
 ghost use Rattle.thp_journal_reader.specs.Later.{goes_later};
 ghost use Rattle.thp_model.specs.BlockLaws.{event_with, least_free};
-ghost use Rattle.thp_model.specs.Legal.{Fits, IsLegal};
 ghost use Rattle.thp_model.specs.Shapes.{IsShape};
+ghost use Rattle.thp_model.specs.declared.events.Event.{Event};
+ghost use Rattle.thp_text.specs.Limits.{max_counted};
 
+use crate::illegal::Illegal;
 use crate::keeps_nodes::KeepsNodes;
 use crate::line::Line;
 use crate::past_lines::PastLines;
 use std::alloc::{AllocError, Global};
-use thp_check::{Misfit, Replay};
+use thp_check::Replay;
 use thp_model::{Event, Shape, What};
-use thp_text::ReadFault;
 
-/// What is known of the events so far.
+/// The replay of a node whose events so far are legal.
 #[derive(Drop)]
-pub(crate) enum Verdict {
-    /// No node has begun.
-    Nothing,
-    /// All are legal. Those of the last node are replayed, and its next event stands on this line.
-    Legal { replay: Replay, next_line: u32 },
-    /// The event on this line is the first that isn't.
-    Illegal { line: u32 },
+pub(crate) struct NodeAtHand {
+    replay: Replay,
+    // on which the node's next event stands
+    next_line: u64,
 }
 
-/// The replay with one more event, an allocation in the least free block.
-fn admit(replay: Replay, event: &Event) -> Result<Replay, Misfit>
-    requires room { length replay.history + 1 < 2 ^ 64 }
-    ensures admitted { IfOk result (λ r. r ≡ replayed replay (event_with (least_free replay.shape replay.history) event.now)) }
-    ensures legal { IfOk result (λ r. IsLegal r.shape r.history) }
-    ensures misfit { IfErr result (λ m. Fits replay.shape replay.history (event_with (least_free replay.shape replay.history) event.now) → ⊥) }
-{
-    match event.what {
-        What::Alloc { page, .. } => {
-            let block = replay.least_free_block();
-            replay.admit(&Event {
-                caller: event.caller,
-                what: What::Alloc { page, block },
-            })
-        }
-        _ => replay.admit(event),
-    }
+/// What is known of the events so far: nothing while no node has begun, that all are legal, or which is the first that isn't.
+#[derive(Drop)]
+pub(crate) struct Verdict {
+    // the last node, while all events are legal
+    node: Option<NodeAtHand>,
+    illegal: Option<Illegal>,
 }
 
 impl Verdict {
-    /// The line of the first event that isn't legal, if there is one.
-    pub(crate) fn illegal(&self) -> Option<u32>
-        ensures { result ≡ illegal_line self.now }
-    {
-        match self {
-            Verdict::Illegal { line } => Some(*line),
-            Verdict::Nothing | Verdict::Legal { .. } => None,
-        }
-    }
-
     /// One more node begins, whose first event stands on this line.
-    fn begin(&mut self, alloc: Global, first_line: u32, shape: Shape) -> Result<(), AllocError>
+    fn begin(&mut self, alloc: Global, first_line: u64, shape: Shape) -> Result<(), AllocError>
         requires { IsShape shape }
         ensures { OnOk result ((nodes : List NodeJournal) → Says nodes self.old → Says (nodes ++ began first_line shape ∷ []) self.new) }
     {
-        if self.illegal().is_some() {
+        if self.illegal.is_some() {
             return Ok(());
         }
         // so that one replay lives at a time
-        *self = Verdict::Nothing;
+        self.node = None;
         let replay = Replay::new(alloc, shape)?;
-        *self = Verdict::Legal {
+        self.node = Some(NodeAtHand {
             replay,
             next_line: first_line,
-        };
+        });
         Ok(())
     }
 
-    /// One more event of the last node, if there is one.
+    /// Goes on with the node at hand by an event, of which a line has told all but the block of a new page.
+    fn go_on(&mut self, node: NodeAtHand, event: &Event)
+        requires none { self.old.node ≡ None }
+        requires room { HasRoomIn node }
+        ensures { (nodes : List NodeJournal) → (told : Event) → self.old.illegal ≡ None → AreLegal nodes node.replay node.next_line → event.now ≡ event_with (least_free node.replay.shape node.replay.history) told → Says (on_last (with_event told) nodes) self.new }
+    {
+        let NodeAtHand { replay, next_line } = node;
+        match replay.admit(event) {
+            Ok(replay) => {
+                self.node = Some(NodeAtHand {
+                    replay,
+                    next_line: next_line + 1,
+                });
+            }
+            Err(misfit) => {
+                self.illegal = Some(Illegal {
+                    line: next_line,
+                    event: *event,
+                    misfit,
+                });
+            }
+        }
+    }
+
+    /// One more event of the last node, if there is one: an allocation in the least free block.
     fn admit(&mut self, event: &Event)
         requires { HasRoom self.old }
         ensures { (nodes : List NodeJournal) → Says nodes self.old → Says (on_last (with_event event.now) nodes) self.new }
     {
-        match std::mem::replace(self, Verdict::Nothing) {
-            Verdict::Legal { replay, next_line } => {
-                *self = verdict_on(next_line, admit(replay, event));
+        let Some(node) = self.node.take() else {
+            return;
+        };
+        match event.what {
+            What::Alloc { page, .. } => {
+                let block = node.replay.least_free_block();
+                let what = What::Alloc { page, block };
+                self.go_on(
+                    node,
+                    &Event {
+                        caller: event.caller,
+                        what,
+                    },
+                );
             }
-            Verdict::Illegal { line } => *self = Verdict::Illegal { line },
-            Verdict::Nothing => {}
+            _ => self.go_on(node, event),
         }
     }
 
     /// One more line, which has this number.
-    fn follow(&mut self, alloc: Global, number: u32, line: &Line) -> Result<(), AllocError>
+    fn follow(&mut self, alloc: Global, number: u64, line: &Line) -> Result<(), AllocError>
         requires room { HasRoom self.old }
         requires in_range { IsInRange line.now }
-        requires number { number < 4294967295 }
+        requires number { number ≤ max_counted }
         ensures { OnOk result ((nodes : List NodeJournal) → Says nodes self.old → Says (with_line number nodes line.now) self.new) }
     {
         match line {
@@ -110,24 +119,10 @@ impl Verdict {
     }
 }
 
-/// What is known once the event on this line was admitted, or wasn't.
-fn verdict_on(line: u32, admitted: Result<Replay, Misfit>) -> Verdict
-    requires { line < 4294967295 }
-    ensures { result ≡ verdict_on line admitted }
-{
-    match admitted {
-        Ok(replay) => Verdict::Legal {
-            replay,
-            next_line: line + 1,
-        },
-        Err(_) => Verdict::Illegal { line },
-    }
-}
-
 /// What is known of the nodes that the lines so far tell.
 #[derive(Drop)]
 pub(crate) struct CheckedNodes {
-    pub(crate) verdict: Verdict,
+    verdict: Verdict,
     // takes no bytes
     pub(crate) lines: PastLines,
 }
@@ -136,12 +131,22 @@ impl CheckedNodes {
     /// No line has come.
     pub(crate) fn new() -> CheckedNodes
         ensures lines { result.lines ≡ [] }
-        ensures verdict { result.verdict ≡ Nothing }
+        ensures verdict { result.verdict ≡ record { node = None; illegal = None } }
     {
         CheckedNodes {
-            verdict: Verdict::Nothing,
+            verdict: Verdict {
+                node: None,
+                illegal: None,
+            },
             lines: PastLines::new(),
         }
+    }
+
+    /// The first event that isn't legal, if there is one.
+    pub(crate) fn illegal(&self) -> Option<Illegal>
+        ensures { result ≡ self.now.verdict.illegal }
+    {
+        self.verdict.illegal
     }
 }
 
@@ -150,7 +155,9 @@ impl KeepsNodes for CheckedNodes {
 
     ghost goes_along = { λ number nodes. GoesWith number nodes };
 
-    fn add(&mut self, alloc: Global, number: u32, line: &Line) -> Result<(), ReadFault> {
+    ghost last_line = { max_counted };
+
+    fn add(&mut self, alloc: Global, number: u64, line: &Line) -> Result<(), AllocError> {
         self.verdict.follow(alloc, number, line)?;
         self.lines.push(number, line);
         Ok(())

@@ -8,30 +8,30 @@ ghost use Rattle.thp_text.specs.Scripts.{TellsFault};
 ghost use Rattle.thp_text.specs.Words.{Text};
 ghost use Rattle.thp_text.specs.declared.fault.ReadFault.TheVariants.{OutOfMemory};
 
-use crate::checked_nodes::CheckedNodes;
-use crate::text_reader::TextReader;
+use crate::long_check::LongCheck;
 use std::alloc::Global;
 use std::marker::Model;
-use thp_text::ReadFault;
+use thp_text::{ReadFault, TextInParts};
 
-/// A check of journals whose text comes in parts of any length. It keeps what lives on the node at hand, of the text no more
-/// than the line begun, and no event.
+/// A check of journals of at most 16 MiB, whose text comes in parts of any length. It keeps what lives on the node at hand, of
+/// the text no more than the line begun, and no event.
 ///
 /// Blocks stand in no journal: each allocation is replayed in the least block that no live page holds.
 #[derive(Drop)]
 pub struct JournalCheck {
-    text: TextReader<CheckedNodes>,
+    check: LongCheck,
 }
 
 impl Model for JournalCheck {
-    ghost use Rattle.thp_journal_reader.specs.Checking.{nodes_told, GoesWith};
-    ghost use Rattle.thp_journal_reader.specs.Parts.{so_far, ReadSoFar};
+    ghost use Rattle.std.specs.Prelude.{◌≡◌};
+    ghost use Rattle.thp_journal_reader.specs.Parts.{ReadSoFar};
+    ghost use Rattle.thp_text.specs.Limits.{max_input};
 
     ghost Value = { ReadSoFar };
 
-    ghost view = { λ c. so_far (nodes_told c.text.nodes.lines) c.text.place c.text.text };
+    ghost view = { λ c. c.check };
 
-    ghost invariant = { λ c. GoesWith c.text.text.line c.text.nodes };
+    ghost invariant = { λ c. c.check.text.most ≡ max_input };
 }
 
 impl JournalCheck {
@@ -40,7 +40,7 @@ impl JournalCheck {
         ensures { (text : Text) → told_with result text ≡ journals_of text }
     {
         JournalCheck {
-            text: TextReader::new(alloc, CheckedNodes::new()),
+            check: LongCheck::of(alloc, TextInParts::new(alloc)),
         }
     }
 
@@ -50,8 +50,8 @@ impl JournalCheck {
         ensures text { IfOk result (λ check. (more : Text) → told_with check more ≡ told_with self (part.now ++ more)) }
         ensures memory { IfErr result (λ fault. fault ≡ OutOfMemory) }
     {
-        let text = self.text.read_part(part)?;
-        Ok(JournalCheck { text })
+        let check = self.check.read_part(part)?;
+        Ok(JournalCheck { check })
     }
 
     /// The line of the first illegal event that the whole text tells, in the order of the text, or none where each node's
@@ -61,9 +61,13 @@ impl JournalCheck {
         ensures fault { IfErr result (TellsFault (told_with self [])) }
         ensures no_memory { IfErr result (λ fault. fault ≢ OutOfMemory) }
     {
-        match self.text.fault() {
-            Some((line, kind)) => Err(ReadFault::Text { line, kind }),
-            None => Ok(self.text.nodes.verdict.illegal()),
+        match self.check.finish() {
+            Ok(None) => Ok(None),
+            Ok(Some(illegal)) => Ok(Some(illegal.line as u32)),
+            Err(fault) => Err(ReadFault::Text {
+                line: fault.line as u32,
+                kind: fault.kind,
+            }),
         }
     }
 }

@@ -11,7 +11,7 @@ use crate::reading::{Nodes, finish};
 use crate::text_reader::TextReader;
 use std::alloc::Global;
 use std::marker::Model;
-use thp_text::ReadFault;
+use thp_text::{ReadFault, TextInParts};
 
 /// A reader of journals whose text comes in parts of any length. It keeps the events that it has read, and of the text no
 /// more than the line begun. Each allocation gets the least block that no live page holds, as no journal tells blocks.
@@ -22,14 +22,16 @@ pub struct JournalReader {
 }
 
 impl Model for JournalReader {
+    ghost use Rattle.std.specs.Prelude.{◌≡◌};
     ghost use Rattle.thp_journal_reader.specs.Parts.{so_far, ReadSoFar};
     ghost use Rattle.thp_journal_reader.specs.Reading.{nodes_in, IsReading};
+    ghost use Rattle.thp_text.specs.Limits.{max_input};
 
     ghost Value = { ReadSoFar };
 
     ghost view = { λ r. so_far (nodes_in r.text.nodes) r.text.place r.text.text };
 
-    ghost invariant = { λ r. IsReading r.text.text.line r.text.nodes };
+    ghost invariant = { λ r. IsReading r.text.text.line r.text.nodes × (r.text.text.most ≡ max_input) };
 }
 
 impl JournalReader {
@@ -39,7 +41,7 @@ impl JournalReader {
     {
         JournalReader {
             alloc,
-            text: TextReader::new(alloc, None),
+            text: TextReader::new(alloc, TextInParts::new(alloc), None),
         }
     }
 
@@ -61,7 +63,10 @@ impl JournalReader {
         ensures fault { IfErr result (TellsFault (told_with self [])) }
     {
         match self.text.fault() {
-            Some((line, kind)) => Err(ReadFault::Text { line, kind }),
+            Some((line, kind)) => Err(ReadFault::Text {
+                line: line as u32,
+                kind,
+            }),
             None => finish(self.alloc, self.text.nodes),
         }
     }

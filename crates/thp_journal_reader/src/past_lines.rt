@@ -9,7 +9,7 @@ use std::snapshot::Snapshot;
 #[derive(Drop)]
 enum LineSteps {
     Start,
-    Then(u32, Line, Snapshot<LineSteps>),
+    Then(u64, Line, Snapshot<LineSteps>),
 }
 
 /// A list of numbered lines that takes no memory: only contracts see it.
@@ -39,7 +39,7 @@ impl PastLines {
     }
 
     /// One more line, which has this number.
-    pub(crate) fn push(&mut self, number: u32, line: &Line)
+    pub(crate) fn push(&mut self, number: u64, line: &Line)
         ensures { self.new ≡ self.old ++ (number, line.now) ∷ [] }
     {
         let start = Snapshot::of(&LineSteps::Start);

@@ -1,9 +1,10 @@
 //! The nodes of a journal as its lines are read.
-ghost use Rattle.std.specs.Prelude.{◌≡◌, ◌≤◌, ◌<◌, ◌+◌, ◌++◌, ◌∷◌, [], IfOk, IfErr, OnOk, IfSome};
+ghost use Rattle.std.specs.Prelude.{◌≡◌, ◌≤◌, ◌+◌, ◌++◌, ◌∷◌, [], IfOk, IfErr, OnOk, IfSome};
 ghost use Rattle.thp_model.specs.History.{by};
 ghost use Rattle.thp_journal_reader.specs.Later.{reads_later};
 ghost use Rattle.thp_journal_reader.specs.LineRanges.{IsInRange};
 ghost use Rattle.thp_journal_reader.specs.Reading.{began, journal_so_far, nodes_in, with_event, with_line, on_last, GoesAlong, IsReading};
+ghost use Rattle.thp_text.specs.Limits.{max_input};
 ghost use Rattle.thp_text.specs.declared.fault.ReadFault.TheVariants.{OutOfMemory};
 
 use crate::journals::{Journals, NodeJournal};
@@ -111,15 +112,15 @@ fn push(nodes: &mut Option<Nodes>, event: Event) -> Result<(), AllocError>
 fn add_node(
     alloc: Global,
     nodes: &mut Option<Nodes>,
-    number: u32,
+    number: u64,
     shape: Shape,
 ) -> Result<(), AllocError>
     requires blocks { 1 ≤ shape.blocks }
-    requires room { number < 4294967295 }
+    requires room { number ≤ max_input }
     ensures nodes { OnOk result (nodes_in nodes.new ≡ nodes_in nodes.old ++ began (number + 1) shape ∷ []) }
     ensures along { OnOk result (IfSome nodes.new (λ n. GoesAlong n.last)) }
 {
-    let node = OpenNode::new(alloc, number + 1, shape)?;
+    let node = OpenNode::new(alloc, number as u32 + 1, shape)?;
     begin(alloc, nodes, node)?;
     Ok(())
 }
@@ -129,7 +130,9 @@ impl KeepsNodes for Option<Nodes> {
 
     ghost goes_along = { λ number nodes. IsReading number nodes };
 
-    fn add(&mut self, alloc: Global, number: u32, line: &Line) -> Result<(), ReadFault> {
+    ghost last_line = { max_input };
+
+    fn add(&mut self, alloc: Global, number: u64, line: &Line) -> Result<(), AllocError> {
         match line {
             Line::Node { shape, .. } => add_node(alloc, self, number, *shape)?,
             Line::Happened(event) => push(self, *event)?,

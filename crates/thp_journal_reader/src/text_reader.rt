@@ -1,17 +1,15 @@
 //! Journals from bytes that come in parts, whatever is kept of their nodes.
-ghost use Rattle.std.specs.Prelude.{◌≡◌, ◌≤◌, ◌+◌, ◌++◌, Ok, Err, [], None, IfOk, IfErr, IfNone, IfSome};
+ghost use Rattle.std.specs.Prelude.{◌≡◌, ◌≤◌, ◌+◌, ◌++◌, Ok, Err, [], IfOk, IfNone, IfSome};
 ghost use Rattle.thp_journal_reader.specs.Parts.{journals_in, so_far, told_with};
 ghost use Rattle.thp_journal_reader.specs.Reading.{fault_at};
 ghost use Rattle.thp_journal_reader.specs.declared.place.Place.TheVariants.{Start};
-ghost use Rattle.thp_text.specs.Limits.{max_input};
 ghost use Rattle.thp_text.specs.Lines.{fault_behind};
 ghost use Rattle.thp_text.specs.Words.{Text};
-ghost use Rattle.thp_text.specs.declared.fault.ReadFault.TheVariants.{OutOfMemory};
 
 use crate::keeps_nodes::KeepsNodes;
 use crate::place::{Place, line_in, place_after};
-use std::alloc::Global;
-use thp_text::{ReadFault, TextInParts, TextKind, WholeLine, fault_behind};
+use std::alloc::{AllocError, Global};
+use thp_text::{TextInParts, TextKind, WholeLine, fault_behind};
 
 /// The fault of what stands behind the last line, at this place.
 fn fault_at(behind: &[u8], place: Place) -> Option<TextKind>
@@ -35,27 +33,28 @@ pub(crate) struct TextReader<N> {
 }
 
 impl<N: KeepsNodes + Drop> TextReader<N> {
-    /// Nothing has come.
-    pub(crate) fn new(alloc: Global, nodes: N) -> TextReader<N>
+    /// Nothing was read of this text.
+    pub(crate) fn new(alloc: Global, text: TextInParts, nodes: N) -> TextReader<N>
         ensures nodes { result.nodes ≡ nodes }
         ensures place { result.place ≡ Start }
-        ensures text { result.text ≡ record { begun = []; line = 1; given = 0; fault = None } }
+        ensures text { result.text ≡ text }
     {
         TextReader {
             alloc,
             nodes,
             place: Place::Start,
-            text: TextInParts::new(alloc),
+            text,
         }
     }
 
-    /// Reads the next part of the text. Behind the first fault, and where more has come than an input may have, nothing is
-    /// read of it.
-    pub(crate) fn read_part(self, part: &[u8]) -> Result<TextReader<N>, ReadFault>
+    /// Reads the next part of the text. Behind the first fault, and where more has come than may come, nothing is read of
+    /// it.
+    pub(crate) fn read_part(self, part: &[u8]) -> Result<TextReader<N>, AllocError>
         requires along { N.goes_along self.text.line self.nodes }
+        requires limit { self.text.most ≤ N.last_line }
         ensures text { IfOk result (λ r. (more : Text) → told_with (so_far (N.told r.nodes) r.place r.text) more ≡ told_with (so_far (N.told self.nodes) self.place self.text) (part.now ++ more)) }
         ensures along { IfOk result (λ r. N.goes_along r.text.line r.nodes) }
-        ensures memory { IfErr result (λ fault. fault ≡ OutOfMemory) }
+        ensures limit { IfOk result (λ r. r.text.most ≡ self.text.most) }
     {
         let TextReader {
             alloc,
@@ -73,7 +72,7 @@ impl<N: KeepsNodes + Drop> TextReader<N> {
                     place = place_after(place, &said);
                 }
                 Err(kind) => {
-                    text.note_fault(number, kind);
+                    text.note_fault(kind);
                     break;
                 }
             }
@@ -87,10 +86,11 @@ impl<N: KeepsNodes + Drop> TextReader<N> {
     }
 
     /// The first fault of the text, where nothing more comes.
-    pub(crate) fn fault(&self) -> Option<(u32, TextKind)>
+    pub(crate) fn fault(&self) -> Option<(u64, TextKind)>
         ensures wrong { IfSome result (λ fault. told_with (so_far (N.told self.now.nodes) self.now.place self.now.text) [] ≡ Err fault) }
         ensures sound { IfNone result (told_with (so_far (N.told self.now.nodes) self.now.place self.now.text) [] ≡ Ok (journals_in (N.told self.now.nodes))) }
-        ensures lines { self.now.text.line ≤ max_input + 1 }
+        ensures line { IfSome result (λ fault. fault.0 ≤ self.now.text.most + 1) }
+        ensures lines { self.now.text.line ≤ self.now.text.most + 1 }
     {
         let (line, behind) = self.text.last_line();
         match (self.text.fault(), fault_at(behind, self.place)) {

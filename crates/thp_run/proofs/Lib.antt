@@ -1,5 +1,3 @@
-pub mod CallLaws
-pub mod DeviceLaws
 pub mod PassageLaws
 pub mod OutcomeLaws
 pub mod KeptLaws

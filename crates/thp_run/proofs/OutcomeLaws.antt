@@ -1,36 +1,19 @@
 -- From what each part of the program did to what the whole of it did.
 use Rattle.std.proofs.Common.{◌≡◌, ℕ, List, Ok, Err, inl, inr}
 use Rattle.std.specs.Prelude.{Result}
-use Rattle.clap.specs.Words.{kind_of}
+use Rattle.clap.specs.declared.error.Error.{Error}
+use Rattle.thp_options.specs.CommandLine.{FailsAsWords}
 use Rattle.thp_options.specs.declared.line.Line.{Line}
 use Rattle.thp_text.specs.declared.fault.TextKind.{TextKind}
-use Rattle.thp_run.specs.Outcomes.{clap_text, ended_by, Answers, Device, Does, IsEndedAs, IsToldAs, Served, Source, WasAnswered}
-use Rattle.thp_run.specs.declared.ending.ProgramFault.{ProgramFault}
-use Rattle.thp_run.specs.declared.ending.ProgramFault.TheVariants.{Run, Usage, NoText, Orders, Underused}
-use Rattle.thp_run.specs.declared.ending.WordsFault.{WordsFault}
-use Rattle.thp_run.specs.declared.ending.WordsFault.TheVariants as words
-use Rattle.thp_run.specs.declared.fault.RunFault.{RunFault}
-use Rattle.thp_run.specs.declared.fault.RunFault.TheVariants.{Text, OutOfMemory, Read, Write}
-
--- an answer of `clap` doesn't end at a text's fault
-no_text_fault : (given : List (List ℕ)) (input : Source) (output : Device) (line : ℕ) (kind : TextKind) → WasAnswered given input output (Err (Run (Text line kind))) → ⊥
-no_text_fault given input output line kind a = go a.answer a.answered a.ended
-  where
-    go : (r : Result (Unit {0}) ProgramFault) → Answers (clap_text a.error) (kind_of a.error) output r → Err (Run (Text line kind)) ≡ ended_by r → ⊥
-    go (Ok u) h e = cc
-    go (Err (Run fault)) (inl (request, inl shown)) e =
-        let is : fault ≡ Write = shown.4 in
-        cc
-    go (Err (Run fault)) (inl (request, inr none)) e =
-        let is : fault ≡ OutOfMemory = none.1 in
-        cc
-    go (Err (Run fault)) (inr none) e =
-        let is : fault ≡ OutOfMemory = none.1 in
-        cc
-    go (Err (Usage text)) h e = cc
-    go (Err Orders) h e = absurd h
-    go (Err Underused) h e = absurd h
-    go (Err NoText) h e = absurd h
+use Rattle.thp_streams.specs.Outcomes.{Device, IsEndedAs, IsToldAs, Source}
+use Rattle.thp_streams.proofs.OutcomeLaws.{no_text_fault}
+use Rattle.thp_run.specs.Outcomes.{Does, Served}
+use Rattle.thp_streams.specs.declared.ending.ProgramFault.{ProgramFault}
+use Rattle.thp_streams.specs.declared.ending.ProgramFault.TheVariants.{Run, Usage, NoText, Orders, Underused}
+use Rattle.thp_streams.specs.declared.ending.WordsFault.{WordsFault}
+use Rattle.thp_streams.specs.declared.ending.WordsFault.TheVariants as words
+use Rattle.thp_streams.specs.declared.fault.RunFault.{RunFault}
+use Rattle.thp_streams.specs.declared.fault.RunFault.TheVariants.{Text, OutOfMemory, Read, Write}
 
 module _ (input : Source) (output : Device) where
   -- what ended at a text's fault ended, too, as it does without memory
@@ -40,7 +23,7 @@ module _ (input : Source) (output : Device) where
 
   served_short : (given : Result (List (List ℕ)) WordsFault) (number : ℕ) (kind : TextKind) → Served given input output (Err (Run (Text number kind))) → Served given input output (Err (Run OutOfMemory))
   served_short (Ok words) number kind (inl did) = inl (record { line = did.line; held = did.held; accepted = did.accepted; does = short did.line number kind did.does })
-  served_short (Ok words) number kind (inr (inl answered)) = absurd (no_text_fault words input output number kind answered)
+  served_short (Ok words) number kind (inr (inl answered)) = absurd (no_text_fault (λ error. FailsAsWords words (Err error)) input output number kind answered)
   served_short (Ok words) number kind (inr (inr none)) = let is = none.0 in absurd cc
   served_short (Err words.NotText) number kind s = let is = s.0 in absurd cc
   served_short (Err words.OutOfMemory) number kind s = let is = s.0 in absurd cc

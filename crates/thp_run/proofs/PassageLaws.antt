@@ -1,89 +1,20 @@
--- How the program's passages end, from what their parts did.
-use Rattle.std.proofs.Common.{◌≡◌, ◌∙◌, ◌<◌, ℕ, Bool, true, false, List, Option, Some, None, Ok, Err, ap, arith, inl, inr, is_some, length, not, refl, sym}
+-- How a run ends, from what its parts did.
+use Rattle.std.proofs.Common.{◌≡◌, ◌∙◌, ◌<◌, ℕ, Bool, true, false, List, Option, Some, None, Ok, Err, ap, arith, inl, inr, length, refl, sym}
 use Rattle.std.specs.Prelude.{IfNone, IfSome, Result, ok_or}
-use Rattle.std.specs.Io.KnownBytes.{Keeps, Appends}
-use Rattle.std.proofs.lemmas.Bool.{cases_lt, lt-ltb}
+use Rattle.std.specs.Io.KnownBytes.{Appends}
+use Rattle.std.proofs.lemmas.Bool.{cases_lt}
 use Rattle.std.proofs.lemmas.List.{append-nil, length-append}
 use Rattle.thp_text.specs.declared.fault.ReadFault.{ReadFault}
-use Rattle.thp_text.specs.declared.fault.ReadFault.TheVariants as reading
 use Rattle.thp_text.specs.declared.settings.Settings.{Settings}
 use Rattle.thp_text.specs.Limits.{max_input}
 use Rattle.thp_text.specs.Scripts.{Fault, TellsFault, script_of}
-use Rattle.thp_text.specs.declared.fault.TextKind.TheVariants.{TooLong}
 use Rattle.thp_text.proofs.ScriptLaws.{too_long}
-use Rattle.thp_journal_reader.specs.Journals.{journals_of}
-use Rattle.thp_run.specs.declared.fault.RunFault.{RunFault}
-use Rattle.thp_run.specs.declared.fault.RunFault.TheVariants.{Text, OutOfMemory, Read, Write}
-use Rattle.thp_run.specs.Devices.{IsInputOf, WritesFront}
-use Rattle.thp_run.specs.Calls.{WritesOn}
-use Rattle.thp_run.specs.declared.calls.Call.{Call}
-use Rattle.thp_run.specs.Passages.{Ends, WritesAnswer}
+use Rattle.thp_streams.specs.declared.fault.RunFault.{RunFault}
+use Rattle.thp_streams.specs.declared.fault.RunFault.TheVariants.{Write}
+use Rattle.thp_streams.specs.Devices.{IsInputOf, WritesFront}
+use Rattle.thp_streams.specs.RunFaults.{run_fault}
+use Rattle.thp_streams.proofs.PassageLaws.{ends_cut, ends_early, ends_written, tells_of}
 use Rattle.thp_run.specs.Programs.{IsReport, RunEnds}
-use Rattle.thp_run.specs.RunFaults.{run_fault, IsReadingFault}
-use Rattle.thp_run.specs.Verdicts.{is_legal, CheckEnds, IsVerdict}
-
-pub keeps_same : (known : Option (List ℕ)) → Keeps known known
-keeps_same None = tt
-keeps_same (Some xs) = refl
-
--- what is at fault with the bytes that a reading tells
-abbrev pub TellsOf : (Fault → Type 0) → ReadFault → Type 0
-TellsOf HasFault (reading.Text line kind) = HasFault (line, kind)
-TellsOf HasFault reading.OutOfMemory = Unit {0}
-
--- an answer, and a fault, that goes for what was read goes for the whole input
-module _ {A : Type 0} (IsAnswer : List ℕ → A → List ℕ → Type 0) (HasFault : List ℕ → Fault → Type 0)
-    (answers : (input bytes text : List ℕ) (x : A) → IsInputOf bytes input → IsAnswer bytes x text → IsAnswer input x text)
-    (faults : (input bytes : List ℕ) (fault : Fault) → IsInputOf bytes input → HasFault bytes fault → HasFault input fault)
-    (known : Option (List ℕ)) (bytes : List ℕ) (read : IfSome known (IsInputOf bytes)) where
-  fault_of_input : (o : Option (List ℕ)) → IfSome o (IsInputOf bytes) → (fault : Fault) → HasFault bytes fault → IfSome o (λ input. HasFault input fault)
-  fault_of_input None read fault told = tt
-  fault_of_input (Some input) read fault told = faults input bytes fault read told
-
-  -- the text was at fault, or memory was refused
-  pub ends_early : (old : Option (List ℕ)) (reader_failed writer_failed : Bool) (fault : ReadFault) (r : Result A RunFault) → TellsOf (HasFault bytes) fault → reader_failed ≡ false → writer_failed ≡ false → r ≡ Err (run_fault fault)
-      → Ends IsAnswer HasFault known old old reader_failed writer_failed r
-  ends_early old rf wf (reading.Text line kind) r told e f is = rw is (fault_of_input known read (line, kind) told, keeps_same old, e, f)
-  ends_early old rf wf reading.OutOfMemory r told e f is = rw is (keeps_same old, e, f)
-
-  written_of_input : (o : Option (List ℕ)) → IfSome o (IsInputOf bytes) → (x : A) (text : List ℕ) (P : List ℕ → Type 0) → IsAnswer bytes x text → P text → IfSome o (λ input. (t : List ℕ) × IsAnswer input x t × P t)
-  written_of_input None read x text P answer p = tt
-  written_of_input (Some input) read x text P answer p = (text, answers input bytes text x read answer, p)
-
-  front_of_input : (o : Option (List ℕ)) → IfSome o (IsInputOf bytes) → (x : A) (text : List ℕ) (P : List ℕ → Type 0) → IsAnswer bytes x text → P text → IfSome o (λ input. (y : A) × (t : List ℕ) × IsAnswer input y t × P t)
-  front_of_input None read x text P answer p = tt
-  front_of_input (Some input) read x text P answer p = (x, text, answers input bytes text x read answer, p)
-
-  -- the answer was written
-  pub ends_written : (old new : Option (List ℕ)) (reader_failed writer_failed : Bool) (x : A) (text : List ℕ) (r : Result A RunFault) → IsAnswer bytes x text → Appends old new text → reader_failed ≡ false → writer_failed ≡ false → r ≡ Ok x
-      → Ends IsAnswer HasFault known old new reader_failed writer_failed r
-  ends_written old new rf wf x text r answer done e f is = rw is (written_of_input known read x text (λ t. Appends old new t) answer done, e, f)
-
-  -- the writer failed, and took a front of the answer
-  pub ends_cut : (old new : Option (List ℕ)) (reader_failed writer_failed : Bool) (x : A) (text : List ℕ) (r : Result A RunFault) → IsAnswer bytes x text → WritesFront old new text → reader_failed ≡ false → writer_failed ≡ true → r ≡ Err Write
-      → Ends IsAnswer HasFault known old new reader_failed writer_failed r
-  ends_cut old new rf wf x text r answer cut e f is = rw is (front_of_input known read x text (λ t. WritesFront old new t) answer cut, e, f)
-
--- ---- calls of the writer
-
--- none was made where the reading failed
-pub none_at_reading : {A : Type 0} (r : Result A RunFault) (reader_failed writer_failed : Bool) (fault : RunFault) (calls : List Call) → IsReadingFault reader_failed fault → r ≡ Err fault → WritesAnswer r writer_failed calls calls
-none_at_reading r rf wf Read calls reading is = rw is refl
-none_at_reading r rf wf OutOfMemory calls reading is = rw is refl
-none_at_reading r rf wf Write calls reading is = absurd reading
-none_at_reading r rf wf (Text line kind) calls reading is = absurd reading
-
--- none was made where the text was at fault
-pub none_at_fault : {A : Type 0} (r : Result A RunFault) (writer_failed : Bool) (fault : ReadFault) (calls : List Call) → r ≡ Err (run_fault fault) → WritesAnswer r writer_failed calls calls
-none_at_fault r wf (reading.Text line kind) calls is = rw is refl
-none_at_fault r wf reading.OutOfMemory calls is = rw is refl
-
--- those of the answer, whether or not the writer failed
-pub of_answer : (o : Option (Unit {0})) (failed : Bool) (old new : List Call) → WritesOn failed old new → WritesAnswer (ok_or o Write) failed old new
-of_answer (Some u) failed old new w = w
-of_answer None failed old new w = w
-
--- ---- scripts
 
 pub same_script : (s : Settings) (input bytes : List ℕ) → IsInputOf bytes input → script_of s bytes ≡ script_of s input
 same_script s input bytes read =
@@ -98,72 +29,17 @@ report_of_input s input bytes text u read r = record { script = r.script; spelle
 pub fault_of_script : (s : Settings) (input bytes : List ℕ) (fault : Fault) → IsInputOf bytes input → script_of s bytes ≡ Err fault → script_of s input ≡ Err fault
 fault_of_script s input bytes fault read told = sym (same_script s input bytes read) ∙ told
 
--- a fault of reading, as a fault that the bytes have
-pub tells_of : {A : Type 0} (read : Result A Fault) (fault : ReadFault) → TellsFault read fault → TellsOf (λ f. read ≡ Err f) fault
-tells_of read (reading.Text line kind) told = told
-tells_of read reading.OutOfMemory told = tt
-
 -- the writer took the report, or a front of it
 pub run_ends : (s : Settings) (known old new : Option (List ℕ)) (bytes text : List ℕ) (reader_failed writer_failed : Bool) (o : Option (Unit {0})) → IfSome known (IsInputOf bytes) → IsReport s bytes text
     → IfSome o (λ _. Appends old new text) → IfNone o (WritesFront old new text) → IfSome o (λ _. writer_failed ≡ false) → IfNone o (writer_failed ≡ true) → reader_failed ≡ false
     → RunEnds s known old new reader_failed writer_failed (ok_or o Write)
 run_ends s known old new bytes text rf wf (Some u) read r done cut flag failed e =
-    ends_written (λ input v t. IsReport s input t) (λ input f. script_of s input ≡ Err f) (report_of_input s) (fault_of_script s) known bytes read old new rf wf u text (Ok u) r done e flag refl
+    ends_written max_input (λ input v t. IsReport s input t) (λ input f. script_of s input ≡ Err f) (report_of_input s) (fault_of_script s) known bytes read old new rf wf u text (Ok u) r done e flag refl
 run_ends s known old new bytes text rf wf None read r done cut flag failed e =
-    ends_cut (λ input v t. IsReport s input t) (λ input f. script_of s input ≡ Err f) (report_of_input s) (fault_of_script s) known bytes read old new rf wf tt text (Err Write) r cut e failed refl
+    ends_cut max_input (λ input v t. IsReport s input t) (λ input f. script_of s input ≡ Err f) (report_of_input s) (fault_of_script s) known bytes read old new rf wf tt text (Err Write) r cut e failed refl
 
 -- the script was at fault, or memory was refused
 pub run_ends_early : (s : Settings) (known old : Option (List ℕ)) (bytes : List ℕ) (reader_failed writer_failed : Bool) (fault : ReadFault) (r : Result (Unit {0}) RunFault) → IfSome known (IsInputOf bytes) → TellsFault (script_of s bytes) fault
     → reader_failed ≡ false → writer_failed ≡ false → r ≡ Err (run_fault fault) → RunEnds s known old old reader_failed writer_failed r
 run_ends_early s known old bytes rf wf fault r read told e f is =
-    ends_early (λ input v t. IsReport s input t) (λ input f. script_of s input ≡ Err f) (report_of_input s) (fault_of_script s) known bytes read old rf wf fault r (tells_of (script_of s bytes) fault told) e f is
-
--- ---- journals
-
-journal_too_long : (text : List ℕ) → max_input < length text → journals_of text ≡ Err (0, TooLong)
-unfolding journals_of
-journal_too_long text lt = rw (lt-ltb max_input (length text) lt) refl
-
-same_journals : (input bytes : List ℕ) → IsInputOf bytes input → journals_of bytes ≡ journals_of input
-same_journals input bytes read =
-    elim (cases_lt max_input (length bytes)) [
-      | inl more ↦ journal_too_long bytes more ∙ sym (journal_too_long input (rw read.front (omega (arith, length-append bytes read.rest))))
-      | inr less ↦ ap journals_of (sym (read.front ∙ rw (read.all less, append-nil) refl))
-    ]
-
-pub verdict_of_input : (input bytes text : List ℕ) (legal : Bool) → IsInputOf bytes input → IsVerdict bytes legal text → IsVerdict input legal text
-verdict_of_input input bytes text legal read v = record { journals = v.journals; spelled = sym (same_journals input bytes read) ∙ v.spelled; illegal = v.illegal; told = v.told; free_choice = v.free_choice; answer = v.answer; written = v.written }
-
-pub fault_of_journal : (input bytes : List ℕ) (fault : Fault) → IsInputOf bytes input → journals_of bytes ≡ Err fault → journals_of input ≡ Err fault
-fault_of_journal input bytes fault read told = sym (same_journals input bytes read) ∙ told
-
--- a writer that failed is told as that
-pub cut_from : (o : Option (Unit {0})) (fault : RunFault) → ok_or o Write ≡ Err fault → (o ≡ None) × (Write ≡ fault)
-cut_from (Some u) fault e = absurd cc
-cut_from None fault e = (refl, cc)
-
--- the writer took a front of the verdict
-pub check_ends_cut : (known old new : Option (List ℕ)) (bytes text : List ℕ) (reader_failed writer_failed : Bool) (illegal : Option ℕ) (o : Option (Unit {0})) (r : Result Bool RunFault) → IfSome known (IsInputOf bytes) → IsVerdict bytes (is_legal illegal) text
-    → o ≡ None → IfNone o (WritesFront old new text) → IfNone o (writer_failed ≡ true) → reader_failed ≡ false → r ≡ Err Write → CheckEnds known old new reader_failed writer_failed r
-check_ends_cut known old new bytes text rf wf illegal o r read v none cut failed e is =
-    ends_cut IsVerdict (λ input f. journals_of input ≡ Err f) verdict_of_input fault_of_journal known bytes read old new rf wf (is_legal illegal) text r v (rw none at cut) e (rw none at failed) is
-
--- what isn't there is no line
-pub legal_is : (illegal : Option ℕ) (legal : Bool) → is_some illegal ≡ not legal → legal ≡ is_legal illegal
-legal_is None true e = refl
-legal_is None false e = absurd cc
-legal_is (Some line) true e = absurd cc
-legal_is (Some line) false e = refl
-
--- the verdict was written
-pub check_ends_written : (known old new : Option (List ℕ)) (bytes text : List ℕ) (reader_failed writer_failed : Bool) (illegal : Option ℕ) (o : Option (Unit {0})) (u : Unit {0}) (legal : Bool) → IfSome known (IsInputOf bytes) → IsVerdict bytes (is_legal illegal) text
-    → ok_or o Write ≡ Ok u → IfSome o (λ _. Appends old new text) → IfSome o (λ _. writer_failed ≡ false) → reader_failed ≡ false → legal ≡ is_legal illegal → CheckEnds known old new reader_failed writer_failed (Ok legal)
-check_ends_written known old new bytes text rf wf illegal (Some v) u legal read verdict some done flag e is =
-    ends_written IsVerdict (λ input f. journals_of input ≡ Err f) verdict_of_input fault_of_journal known bytes read old new rf wf legal text (Ok legal) (rw is verdict) done e flag refl
-check_ends_written known old new bytes text rf wf illegal None u legal read verdict some done flag e is = absurd cc
-
--- the journal was at fault, or memory was refused
-pub check_ends_early : (known old : Option (List ℕ)) (bytes : List ℕ) (reader_failed writer_failed : Bool) (fault : ReadFault) (r : Result Bool RunFault) → IfSome known (IsInputOf bytes) → TellsFault (journals_of bytes) fault
-    → reader_failed ≡ false → writer_failed ≡ false → r ≡ Err (run_fault fault) → CheckEnds known old old reader_failed writer_failed r
-check_ends_early known old bytes rf wf fault r read told e f is =
-    ends_early IsVerdict (λ input g. journals_of input ≡ Err g) verdict_of_input fault_of_journal known bytes read old rf wf fault r (tells_of (journals_of bytes) fault told) e f is
+    ends_early max_input (λ input v t. IsReport s input t) (λ input f. script_of s input ≡ Err f) (report_of_input s) (fault_of_script s) known bytes read old rf wf fault r (tells_of (script_of s bytes) fault told) e f is

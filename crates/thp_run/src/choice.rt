@@ -5,8 +5,8 @@ ghost use Rattle.thp_text.specs.Limits.{max_nodes};
 ghost use Rattle.thp_options.specs.CommandLine.{IsLineWithinLimits};
 ghost use Rattle.thp_run.specs.Choices.{Chooses, HasBadOrders, HasBadThresholds, HasOrders, HasThresholds};
 
-use crate::ending::ProgramFault;
 use thp_options::Line;
+use thp_streams::ProgramFault;
 use thp_text::{Settings, read_orders, read_underused};
 
 /// The line's numbers and report as settings.

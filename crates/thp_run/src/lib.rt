@@ -1,22 +1,11 @@
 //! The program `thpsplit`: what it does with the words of its command line, its input and its outputs.
 #![tactic(auto)]
 
-mod answering;
-mod calls;
-mod checking;
 mod choice;
-mod device;
-mod ending;
-mod fault;
 mod listed;
 mod program;
 mod running;
-mod telling;
-mod watched;
 
-pub use checking::check_run;
-pub use ending::{Ending, ProgramFault, WordsFault};
-pub use fault::RunFault;
 pub use listed::{Section, Worked, report_text, work, work_rest};
 pub use program::run_program;
 pub use running::run;
@@ -29,8 +18,11 @@ pub use thp_sections::{
     Answer, Gate, NoGate, NodeCall, NodePass, NodePasses, Passes, Reply, Rest, Step, Steps,
     run_range, run_workers,
 };
+pub use thp_streams::{
+    Ending, ProgramFault, RunFault, Watched, WordsFault, check_run, words_of,
+};
 pub use thp_text::{
     Command, MAX_INPUT, Op, ReadFault, Report, Script, Sequence, Settings, TextKind, read_orders,
     read_script, read_underused,
 };
-pub use watched::Watched;
+

@@ -1,32 +1,20 @@
 //! The program: from the words of its command line to its exit status.
-ghost use Rattle.std.specs.Prelude.{◌≡◌, IfOk, false, map, string_bytes};
+ghost use Rattle.std.specs.Prelude.{◌≡◌, false};
 ghost use Rattle.thp_options.specs.CommandLine.{IsLineWithinLimits};
-ghost use Rattle.thp_run.specs.Outcomes.{device_of, given_words, source_of, Does, Finishes, Served};
+ghost use Rattle.thp_run.specs.Outcomes.{Does, Finishes, Served};
+ghost use Rattle.thp_streams.specs.Outcomes.{device_of, given_words, source_of};
 
-use crate::answering::answer;
-use crate::checking::check_run;
 use crate::choice::settings_of;
-use crate::ending::{Ending, ProgramFault, WordsFault};
-use crate::fault::RunFault;
 use crate::running::run;
-use crate::telling::{status_of_ending, tell};
-use crate::watched::Watched;
-use std::alloc::{AllocError, Global};
+use std::alloc::Global;
 use std::io::{Read, Write};
 use std::thread::Threads;
 use thp_options::{Line, read_line};
 use thp_sections::NoGate;
-
-/// The words as texts.
-fn texts_of<'a>(alloc: Global, words: &'a [String]) -> Result<Vec<&'a str>, AllocError>
-    ensures { IfOk result (λ texts. map (λ text. text.now) texts.items ≡ map string_bytes words.entry.now) }
-{
-    let mut texts = Vec::new(alloc);
-    for word in words {
-        texts.push(word.as_str())?;
-    }
-    Ok(texts)
-}
+use thp_streams::{
+    Ending, Program, ProgramFault, RunFault, Watched, WordsFault, answer, check_run,
+    status_of_ending, tell, texts_of,
+};
 
 /// Runs a script or checks a journal, as a command line asks for.
 fn do_line<T: Threads + Sync, R: Read, W: Write>(
@@ -100,6 +88,6 @@ pub fn run_program<T: Threads + Sync, R: Read, W: Write, E: Write>(
 {
     match serve(rt, alloc, &words, reader, output) {
         Ok(ending) => status_of_ending(ending),
-        Err(fault) => tell(alloc, fault, errors),
+        Err(fault) => tell(alloc, Program::Thpsplit, fault, errors),
     }
 }

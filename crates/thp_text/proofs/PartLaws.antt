@@ -11,11 +11,13 @@ use Rattle.thp_text.specs.declared.settings.Settings.{Settings}
 use Rattle.thp_text.specs.declared.statement.Statement.{Statement}
 use Rattle.thp_text.specs.declared.statement.Statement.TheVariants.{Nothing, Section, Call}
 use Rattle.thp_text.specs.Commands.{IsCommandFor}
+use Rattle.thp_text.specs.Limits.{max_input}
 use Rattle.thp_text.specs.Lines.{fault_behind}
 use Rattle.thp_text.specs.Parts.{lines_spell, script_in, spelled_with, with_commands}
 use Rattle.thp_text.specs.Readings.{◌>>=◌}
 use Rattle.thp_text.specs.Scripts.{Fault, IsScriptFor, Placed, commands_from, placed, script_of, script_with}
 use Rattle.thp_text.specs.Statements.{IsInRange, section_after, statement_in}
+use Rattle.thp_text.specs.TextInParts.{nothing_of}
 use Rattle.thp_text.specs.Words.{Text, lines_of}
 pub use Rattle.thp_model.proofs.Options.{not_there}
 use Rattle.thp_text.proofs.TextLaws.{whole_comes}
@@ -51,11 +53,11 @@ bind_same (Err fault) f g same = refl
 
 -- nothing has come: the text to come is the whole
 pub spells_all : (s : Settings) (sections : List (List Command)) (text : Text) → sections ≡ replicate (s.workers + 1) []
-    → spelled_with (record { settings = s; sections = sections; section = None; text = record { begun = []; line = 1; given = 0; fault = None } }) text ≡ script_of s text
+    → spelled_with (record { settings = s; sections = sections; section = None; text = nothing_of max_input }) text ≡ script_of s text
 unfolding script_of lines_spell
 spells_all s sections text none =
     rw (none, bind_same (commands_from s 1 None (lines_of text)) (λ ps. Ok (script_in (with_commands (replicate (s.workers + 1) []) ps))) (λ ps. Ok (script_with s.workers ps)) (λ ps. ap (λ (t : Script). Ok t) (from_none s.workers ps)))
-    (whole_comes text (commands_from s 1 None (lines_of text) >>= λ ps. Ok (script_with s.workers ps)))
+    (whole_comes max_input text (commands_from s 1 None (lines_of text) >>= λ ps. Ok (script_with s.workers ps)))
 
 -- the commands of a line before those of the lines behind it
 behind_spells : (s : Settings) (sections : List (List Command)) (before : List Placed) (read : Result (List Placed) Fault)

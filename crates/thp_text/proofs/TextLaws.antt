@@ -1,11 +1,11 @@
 -- Texts that come in parts: lines that are joined, and what is told once a part has come.
-use Rattle.std.proofs.Common.{◌≡◌, ◌+◌, ◌==◌, ℕ, Bool, true, false, cond, List, [], ◌∷◌, ◌++◌, length, Option, Some, None, Result, Err, refl, sym, append_assoc, arith}
+use Rattle.std.proofs.Common.{◌≡◌, ◌+◌, ◌-◌, ◌==◌, ℕ, Bool, true, false, cond, List, [], ◌∷◌, ◌++◌, length, Option, Some, None, Result, Err, refl, sym, append_assoc, arith}
 use Rattle.std.specs.List.{onto_first}
 use Rattle.std.specs.Prelude.{nat_lt, if◌then◌else◌}
+use Rattle.thp_text.specs.declared.fault.TextKind.{TextKind}
 use Rattle.thp_text.specs.declared.fault.TextKind.TheVariants.{TooLong}
-use Rattle.thp_text.specs.Limits.{max_input}
 use Rattle.thp_text.specs.Scripts.{Fault}
-use Rattle.thp_text.specs.TextInParts.{fault_with, first_fault, told_behind, unless, with_begun, with_fault, TextSoFar}
+use Rattle.thp_text.specs.TextInParts.{after_line, fault_with, first_fault, nothing_of, told_behind, unless, with_begun, with_fault, TextSoFar}
 use Rattle.thp_text.specs.Words.{Text, lines_of, pieces_at}
 use Rattle.thp_text.proofs.PieceLaws.{has_first, HasFirst}
 
@@ -64,10 +64,10 @@ too_much true long read = refl
 too_much false long read = refl
 
 -- nothing has come: the text to come is the whole
-pub whole_comes : {A : Type 0} (text : Text) (read : Result A Fault) → told_behind (record { begun = []; line = 1; given = 0; fault = None }) text read ≡ (if nat_lt max_input (length text) then Err (0, TooLong) else read)
-whole_comes text read =
+pub whole_comes : {A : Type 0} (most : ℕ) (text : Text) (read : Result A Fault) → told_behind (nothing_of most) text read ≡ (if nat_lt most (length text) then Err (0, TooLong) else read)
+whole_comes most text read =
     let all : 0 + length text ≡ length text = omega arith in
-    rw all (too_much (nat_lt max_input (length text)) (0, TooLong) read)
+    rw all (too_much (nat_lt most (length text)) (0, TooLong) read)
 
 -- what is left of a part has begun a line
 pub line_begins : {A : Type 0} (t new : TextSoFar) (rest more : Text) (reads : ℕ → Text → Result A Fault) → new ≡ with_begun t rest
@@ -81,8 +81,14 @@ either_way false long None fault read = refl
 
 -- a line is at fault, and nothing behind it is read
 pub fault_comes : {A : Type 0} (t new : TextSoFar) (fault : Fault) (more : Text) (read : Result A Fault) → new ≡ with_fault t fault → told_behind new more read ≡ told_behind t more (Err fault)
-fault_comes t new fault more read is = rw is (either_way (nat_lt max_input (t.given + length more)) (0, TooLong) t.fault fault read)
+fault_comes t new fault more read is = rw is (either_way (nat_lt t.most (t.given + length more)) (0, TooLong) t.fault fault read)
 
 -- where nothing is at fault so far, what is read counts
 pub told_end : {A : Type 0} (t : TextSoFar) (read : Result A Fault) → fault_with t [] ≡ None → told_behind t [] read ≡ read
 told_end t read sound = rw sound refl
+
+-- a fault that is noted behind a line is that line's
+pub noted : (new t : TextSoFar) (kind : TextKind) → new ≡ after_line t → with_fault new (new.line - 1, kind) ≡ with_fault (after_line t) (t.line, kind)
+noted new t kind e =
+    let line : t.line + 1 - 1 ≡ t.line = omega arith in
+    rw (e, line) refl

@@ -1,5 +1,5 @@
 -- The limits of a run and of its texts (this project's profile), each once.
-use Rattle.std.specs.Prelude.{ℕ, ◌-◌}
+use Rattle.std.specs.Prelude.{ℕ, ◌-◌, ◌^◌}
 use Rattle.thp_model.specs.Limits.{max_callers}
 
 -- the most nodes of a run
@@ -13,3 +13,7 @@ max_workers = max_callers - 1
 -- the most bytes of an input, 16 MiB
 abbrev pub max_input : ℕ
 max_input = 16777216
+
+-- the most bytes of a text whose bytes and lines are counted in 64 bits
+abbrev pub max_counted : ℕ
+max_counted = 2 ^ 64 - 2

@@ -4,6 +4,7 @@ use Rattle.thp_text.specs.declared.script.Command.{Command}
 use Rattle.thp_text.specs.declared.script.Script.{Script}
 use Rattle.thp_text.specs.declared.settings.Settings.{Settings}
 use Rattle.thp_text.specs.Commands.{IsCommandFor}
+use Rattle.thp_text.specs.Limits.{max_input}
 use Rattle.thp_text.specs.Readings.{◌>>=◌}
 use Rattle.thp_text.specs.Scripts.{Fault, Placed, commands_from}
 use Rattle.thp_text.specs.Statements.{IsSectionFor}
@@ -41,3 +42,4 @@ pub record IsReading (r : ReadSoFar) : Type 0 where
   pub sections : length r.sections ≡ r.settings.workers + 1
   pub section : IfSome r.section (IsSectionFor r.settings)
   pub commands : All (λ commands. All (IsCommandFor r.settings.nodes) commands) r.sections
+  pub most : r.text.most ≡ max_input

@@ -15,7 +15,7 @@ mod text_in_parts;
 mod words;
 
 pub use fault::{ReadFault, TextKind};
-pub use limits::{MAX_INPUT, MAX_NODES, MAX_WORKERS, run_limits_are_defined};
+pub use limits::{MAX_COUNTED, MAX_INPUT, MAX_NODES, MAX_WORKERS, run_limits_are_defined};
 pub use lines::{fault_behind, fault_of_line, has_empty_word, is_printable};
 pub use lists::{read_orders, read_underused};
 pub use script::{Command, Op, Script};

@@ -108,7 +108,7 @@ impl<'a> ScriptReader<'a> {
             mut text,
         } = self;
         let mut rest = text.next_part(part);
-        while let Some(WholeLine { number, bytes }) = text.next_line(&mut rest)? {
+        while let Some(WholeLine { bytes, .. }) = text.next_line(&mut rest)? {
             let said = statement_in(settings, section, bytes.as_slice());
             drop(bytes);
             match said {
@@ -117,7 +117,7 @@ impl<'a> ScriptReader<'a> {
                     section = section_after(section, statement);
                 }
                 Err(kind) => {
-                    text.note_fault(number, kind);
+                    text.note_fault(kind);
                     break;
                 }
             }
@@ -138,11 +138,17 @@ impl<'a> ScriptReader<'a> {
         ensures memory { IfErr result (λ fault. fault ≢ OutOfMemory) }
     {
         if let Some((line, kind)) = self.text.fault() {
-            return Err(ReadFault::Text { line, kind });
+            return Err(ReadFault::Text {
+                line: line as u32,
+                kind,
+            });
         }
         let (line, behind) = self.text.last_line();
         match fault_behind(behind) {
-            Some(kind) => Err(ReadFault::Text { line, kind }),
+            Some(kind) => Err(ReadFault::Text {
+                line: line as u32,
+                kind,
+            }),
             None => Ok(script_of_sections(self.sections)),
         }
     }

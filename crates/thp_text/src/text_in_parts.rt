@@ -1,12 +1,12 @@
 //! Texts that come in parts.
-ghost use Rattle.std.specs.Prelude.{◌≡◌, ◌≤◌, ◌<◌, ◌+◌, ◌++◌, ◌∷◌, [], None, IfOk, IfSome, IfNone, OnOk, OnErr, length};
+ghost use Rattle.std.specs.Prelude.{◌≡◌, ◌≤◌, ◌<◌, ◌+◌, ◌-◌, ◌++◌, ◌∷◌, [], IfOk, IfSome, IfNone, OnOk, OnErr, length};
 ghost use Rattle.std.specs.Cow.{cow_slice_items};
-ghost use Rattle.thp_text.specs.Limits.{max_input};
-ghost use Rattle.thp_text.specs.TextInParts.{after_line, fault_with, read_unless, with_begun, with_fault, with_part, IsCounted};
+ghost use Rattle.thp_text.specs.Limits.{max_counted, max_input};
+ghost use Rattle.thp_text.specs.TextInParts.{after_line, fault_with, nothing_of, read_unless, with_begun, with_fault, with_part, IsCounted};
 ghost use Rattle.thp_text.specs.Words.{Text, lines_of};
 
 use crate::fault::TextKind;
-use crate::limits::MAX_INPUT;
+use crate::limits::{MAX_COUNTED, MAX_INPUT};
 use crate::words::cut_at;
 use std::alloc::{AllocError, Global};
 use std::borrow::CowSlice;
@@ -16,7 +16,7 @@ use std::marker::Model;
 #[derive(Drop)]
 pub struct WholeLine<'p> {
     /// Lines count from 1.
-    pub number: u32,
+    pub number: u64,
     /// Its bytes without the line feed: lent from a part, or put together of several.
     pub bytes: CowSlice<'p, u8, Global>,
 }
@@ -27,11 +27,12 @@ pub struct TextInParts {
     alloc: Global,
     // what has come of a line, by its number
     begun: Vec<u8>,
-    line: u32,
-    // how many bytes have come
+    line: u64,
+    // how many bytes have come, and how many may come
     given: usize,
+    most: usize,
     // the first, and in which line
-    fault: Option<(u32, TextKind)>,
+    fault: Option<(u64, TextKind)>,
 }
 
 impl Model for TextInParts {
@@ -39,27 +40,42 @@ impl Model for TextInParts {
 
     ghost Value = { TextSoFar };
 
-    ghost view = { λ t. record { begun = t.begun.items; line = t.line; given = t.given; fault = t.fault } };
+    ghost view = { λ t. record { begun = t.begun.items; line = t.line; given = t.given; most = t.most; fault = t.fault } };
 
-    ghost invariant = { λ t. HasCome (record { begun = t.begun.items; line = t.line; given = t.given; fault = t.fault }) };
+    ghost invariant = { λ t. HasCome (record { begun = t.begun.items; line = t.line; given = t.given; most = t.most; fault = t.fault }) };
 }
 
 impl TextInParts {
-    /// A text of which nothing has come.
+    /// An input of which nothing has come: a text of at most 16 MiB.
     pub fn new(alloc: Global) -> TextInParts
-        ensures { result ≡ record { begun = []; line = 1; given = 0; fault = None } }
+        ensures { result ≡ nothing_of max_input }
+    {
+        TextInParts::of_at_most(alloc, MAX_INPUT)
+    }
+
+    /// A text of any length that a machine can read, of which nothing has come.
+    pub fn unlimited(alloc: Global) -> TextInParts
+        ensures { result ≡ nothing_of max_counted }
+    {
+        TextInParts::of_at_most(alloc, MAX_COUNTED)
+    }
+
+    fn of_at_most(alloc: Global, most: usize) -> TextInParts
+        requires { most ≤ max_counted }
+        ensures { result ≡ nothing_of most }
     {
         TextInParts {
             alloc,
             begun: Vec::new(alloc),
             line: 1,
             given: 0,
+            most,
             fault: None,
         }
     }
 
-    /// Counts the next part, and gives what is to be read of it: nothing behind a fault, or where more has come than an
-    /// input may have.
+    /// Counts the next part, and gives what is to be read of it: nothing behind a fault, or where more has come than may
+    /// come.
     pub fn next_part<'p>(&mut self, part: &'p [u8]) -> &'p [u8]
         ensures part { self.new ≡ with_part self.old part.now }
         ensures to_read { result.now ≡ read_unless (fault_with self.new []) part.now }
@@ -107,29 +123,30 @@ impl TextInParts {
         Ok(Some(WholeLine { number, bytes }))
     }
 
-    /// Notes a fault of a line. Only the first is kept.
-    pub fn note_fault(&mut self, line: u32, kind: TextKind)
-        ensures { self.new ≡ with_fault self.old (line, kind) }
+    /// Notes a fault of the whole line that was given last. Only the first is kept.
+    pub fn note_fault(&mut self, kind: TextKind)
+        ensures { self.new ≡ with_fault self.old (self.old.line - 1, kind) }
     {
         if self.fault.is_none() {
-            self.fault = Some((line, kind));
+            self.fault = Some((self.line - 1, kind));
         }
     }
 
     /// The fault so far, whatever stands behind the last line feed: too much has come, or a line is at fault.
-    pub fn fault(&self) -> Option<(u32, TextKind)>
-        ensures { result ≡ fault_with self.now [] }
+    pub fn fault(&self) -> Option<(u64, TextKind)>
+        ensures fault { result ≡ fault_with self.now [] }
+        ensures line { IfSome result (λ fault. fault.0 ≤ self.now.most) }
     {
-        if self.given > MAX_INPUT {
+        if self.given > self.most {
             return Some((0, TextKind::TooLong));
         }
         self.fault
     }
 
     /// What stands behind the last line feed, and the number of that line.
-    pub fn last_line(&self) -> (u32, &[u8])
+    pub fn last_line(&self) -> (u64, &[u8])
         ensures number { result.0 ≡ self.now.line }
-        ensures most { result.0 ≤ max_input + 1 }
+        ensures most { result.0 ≤ self.now.most + 1 }
         ensures line { result.1.now ≡ self.now.begun }
         ensures one_line { lines_of result.1.now ≡ result.1.now ∷ [] }
     {

@@ -1,5 +1,6 @@
 use Rattle.std.proofs.Common.{◌≡◌, ℕ, List, Option, subst}
 use Rattle.thp_journal_reader.specs.declared.journals.NodeJournal.{NodeJournal}
+use Rattle.thp_text.specs.Limits.{max_input}
 use Rattle.thp_journal_reader.specs.Answers.{TellsIllegal}
 use Rattle.thp_journal_reader.proofs.AnswerLaws.{free_choice}
 use Rattle.thp_journal_reader.proofs.NodeLaws.{if_ok}
@@ -17,4 +18,4 @@ returns-clause-line c =
 pub returns-clause-free_choice : goal.returns-clause-free_choice
 returns-clause-free_choice c =
     if_ok c.first_illegal_line.result (TellsIllegal c.as_slice.result.now) _ c.first_illegal_line.ensures
-    (λ line told. λ text is. free_choice text c.args.journals.now line is (same_nodes c.as_slice.result.now c.args.journals.now.nodes line c.as_slice.ensures told) c.args.journals.now is)
+    (λ line told. λ text is. free_choice max_input text c.args.journals.now line is (same_nodes c.as_slice.result.now c.args.journals.now.nodes line c.as_slice.ensures told) c.args.journals.now is)

@@ -1,5 +1,6 @@
 use Rattle.std.proofs.Common.{◌≡◌, ◌∙◌, ◌++◌, [], ap, sym}
 use Rattle.std.proofs.lemmas.List.{append-nil}
+use Rattle.thp_text.specs.Limits.{max_input}
 use Rattle.thp_journal_reader.specs.Journals.{journals_of}
 use Rattle.thp_journal_reader.specs.Parts.{told_with}
 use Rattle.thp_journal_reader.proofs.AnswerLaws.{free_choice}
@@ -16,4 +17,4 @@ pub returns-clause-free_choice : goal.returns-clause-free_choice
 returns-clause-free_choice c =
     let text = c.args.text.now in
     let read : told_with c.in_ok-read_part.field-0 [] ≡ journals_of text = c.in_ok-read_part.ensures.text [] ∙ c.new.ensures (text ++ []) ∙ ap journals_of (append-nil text) in
-    if_ok c.finish.result _ _ c.finish.ensures.line (λ line told. λ journals is can. free_choice text told.0 line (sym read ∙ told.1) told.2 journals is can)
+    if_ok c.finish.result _ _ c.finish.ensures.line (λ line told. λ journals is can. free_choice max_input text told.0 line (sym read ∙ told.1) told.2 journals is can)

@@ -1,24 +1,13 @@
-use Rattle.std.proofs.Common.{◌≡◌, ◌∙◌, subst, sym}
-use Rattle.thp_journal_reader.specs.declared.checked_nodes.Verdict.{Verdict}
-use Rattle.thp_journal_reader.specs.Checking.{Says}
+use Rattle.std.proofs.Common.{◌≡◌, ◌∙◌, None, Option, refl, subst, sym}
+use Rattle.thp_model.proofs.Options.{not_there}
+use Rattle.thp_journal_reader.specs.Checking.{SaysBy}
 use Rattle.thp_journal_reader.specs.Reading.{on_last, with_event}
-use Rattle.thp_journal_reader.proofs.CheckLaws.{illegal_grows, says_nothing, says_on}
+use Rattle.thp_journal_reader.specs.declared.checked_nodes.NodeAtHand.{NodeAtHand}
+use Rattle.thp_journal_reader.proofs.CheckLaws.{says_nothing}
 use Rattle.thp_journal_reader.proofs.checked_nodes.Verdict.admit.Goals as goal
 
-pub returns-in-Legal : goal.returns-in-Legal
-returns-in-Legal c = λ nodes says.
-    let P : Verdict → Type 0 = λ v. Says nodes v in
-    let Q : Verdict → Type 0 = λ v. Says (on_last (with_event c.args.event.now) nodes) v in
-    let legal = subst P (sym c.replace.ensures.value ∙ c.in-Legal.is) says in
-    subst Q (sym c.verdict_on.ensures) (says_on nodes c.in-Legal.replay c.in-Legal.next_line c.args.event.now c.admit.result legal c.admit.ensures.admitted c.admit.ensures.legal c.admit.ensures.misfit)
-
-pub returns-in-Illegal : goal.returns-in-Illegal
-returns-in-Illegal c = λ nodes says.
-    let P : Verdict → Type 0 = λ v. Says nodes v in
-    illegal_grows nodes c.in-Illegal.line c.args.event.now (subst P (sym c.replace.ensures.value ∙ c.in-Illegal.is) says)
-
-pub returns-in-Nothing : goal.returns-in-Nothing
-returns-in-Nothing c = λ nodes says.
-    let P : Verdict → Type 0 = λ v. Says nodes v in
-    let Q : Verdict → Type 0 = λ v. Says (on_last (with_event c.args.event.now) nodes) v in
-    subst Q (sym c.replace.ensures.after) (says_nothing nodes c.args.event.now (subst P (sym c.replace.ensures.value ∙ c.in-Nothing.is) says))
+pub returns-in_default : goal.returns-in_default
+returns-in_default c = λ nodes says.
+    let none : c.args.self.now.node ≡ None = sym c.take.ensures.value ∙ not_there c.take.result c.in_default.not-Some in
+    let P : Option NodeAtHand → Type 0 = λ node. SaysBy (on_last (with_event c.args.event.now) nodes) node c.args.self.now.illegal in
+    subst P (none ∙ sym c.take.ensures.after) (says_nothing nodes c.args.self.now.node c.args.self.now.illegal c.args.event.now none says)

@@ -1,4 +1,4 @@
-use Rattle.std.proofs.Common.{◌≡◌, ◌∙◌, [], ap, sym, List, Ok}
+use Rattle.std.proofs.Common.{◌≡◌, ◌∙◌, [], ap, arith, sym, List, Ok}
 use Rattle.std.specs.Prelude.{All}
 use Rattle.thp_journal_reader.specs.declared.journals.NodeJournal.{NodeJournal}
 use Rattle.thp_journal_reader.specs.Journals.{IsNodeJournal}
@@ -15,7 +15,7 @@ returns-in-None-clause-journals c =
 pub returns-in-None-clause-in_range : goal.returns-in-None-clause-in_range
 returns-in-None-clause-in_range c =
     let r = c.self.inside.text in
-    let all : All IsNodeJournal (nodes_in r.nodes) = all_in_range r.text.line (nodes_in r.nodes) c.in-None.ensures.lines c.self.invariant.each in
+    let all : All IsNodeJournal (nodes_in r.nodes) = all_in_range r.text.line (nodes_in r.nodes) (omega (arith, c.in-None.ensures.lines, c.self.invariant.1)) c.self.invariant.0.each in
     if_ok c.finish.result _ _ c.finish.ensures.nodes (λ journals is. rw is all)
 
 pub returns-in-None-clause-fault : goal.returns-in-None-clause-fault

@@ -11,7 +11,7 @@ returns-in-None-Some-clause-wrong g c =
     let r = c.args.self.now in
     let last = c.last_line-line in
     let kind = c.in-None-Some.kind in
-    let sound : fault_with r.text [] ≡ None = sym c.fault.ensures ∙ c.in-None-Some.is-0 in
+    let sound : fault_with r.text [] ≡ None = sym c.fault.ensures.fault ∙ c.in-None-Some.is-0 in
     rw last.ensures.number (told_end r.text (lines_tell (told r.nodes) r.place r.text.line (r.text.begun ++ [])) sound
     ∙ end_is_wrong (told r.nodes) r.place r.text.line r.text.begun kind (rw (← last.ensures.line) last.ensures.one_line) (rw (← last.ensures.line) (sym c.in-None-Some.is-1 ∙ c.fault_at.ensures)))
 
@@ -20,6 +20,6 @@ returns-in-None-None-clause-sound g c =
     let told = g.N.KeepsNodes.told in
     let r = c.args.self.now in
     let last = c.last_line-line in
-    let sound : fault_with r.text [] ≡ None = sym c.fault.ensures ∙ c.in-None-None.is-0 in
+    let sound : fault_with r.text [] ≡ None = sym c.fault.ensures.fault ∙ c.in-None-None.is-0 in
     told_end r.text (lines_tell (told r.nodes) r.place r.text.line (r.text.begun ++ [])) sound
     ∙ end_tells (told r.nodes) r.place r.text.line r.text.begun (rw (← last.ensures.line) last.ensures.one_line) (rw (← last.ensures.line) (sym c.in-None-None.is-1 ∙ c.fault_at.ensures))

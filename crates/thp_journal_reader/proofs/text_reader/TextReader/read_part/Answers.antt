@@ -1,7 +1,7 @@
 use Rattle.std.proofs.Common.{◌≡◌, ◌∙◌, ◌++◌, ◌∷◌, ◌+◌, ℕ, ap, refl, rules, subst, sym, Ok}
 use Rattle.thp_text.specs.TextInParts.{after_line, told_behind, with_begun, with_fault, TextSoFar}
 use Rattle.thp_text.specs.Words.{Text, lines_of}
-use Rattle.thp_text.proofs.TextLaws.{fault_comes, line_begins}
+use Rattle.thp_text.proofs.TextLaws.{fault_comes, line_begins, noted}
 use Rattle.thp_journal_reader.specs.JournalLines.{line_in}
 use Rattle.thp_journal_reader.specs.Parts.{lines_tell}
 use Rattle.thp_journal_reader.specs.Reading.{with_line}
@@ -25,6 +25,7 @@ loop-text-preserved g c =
           (ap (told_behind l.text more) (sym (line_tells (told l.nodes) l.place l.text.line (l.text.begun ++ (l.rest.now ++ more)) bytes (c.next_line.new.rest.now ++ more) said (lines more) says)) ∙ l.invariant.tells more);
       counted = search rules;
       along = let P : ℕ → Type 0 = λ k. g.N.KeepsNodes.goes_along (k + 1) c.add.new.self in rw after (subst P number c.in_ok-add-in-Ok.ensures.along);
+      limit = rw after l.invariant.limit;
     }
 
 pub returns-clause-text : goal.returns-clause-text
@@ -37,9 +38,8 @@ returns-clause-text g c = λ more.
       | in-Some+in-Err w ↦ (
           let kind = w.in-Err.kind in
           let after : c.next_line.new.self ≡ after_line l.text = search rules in
-          let number : w.in-Some.field-0.number ≡ l.text.line = rw w.in-Some.is at c.in_ok-number.ensures.number in
           let line : lines_of (l.text.begun ++ (l.rest.now ++ more)) ≡ w.as_slice.result.now ∷ lines_of (c.next_line.new.rest.now ++ more) = rw w.as_slice.ensures.value ((rw w.in-Some.is at c.in_ok-number.ensures.line) more) in
-          let is : new ≡ with_fault (after_line l.text) (l.text.line, kind) = rw (w.text-is, w.note_fault.ensures, after, number) refl in
+          let is : new ≡ with_fault (after_line l.text) (l.text.line, kind) = w.text-is ∙ w.note_fault.ensures ∙ noted c.next_line.new.self l.text kind after in
           let wrong = line_is_wrong (told l.nodes) l.place l.text.line (l.text.begun ++ (l.rest.now ++ more)) w.as_slice.result.now (c.next_line.new.rest.now ++ more) kind line w.in-Err.ensures.value in
           fault_comes (after_line l.text) new (l.text.line, kind) more (reads new.line (new.begun ++ more)) is ∙ ap (told_behind l.text more) (sym wrong) ∙ l.invariant.tells more
           )
@@ -56,11 +56,26 @@ returns-clause-along g c =
     elim c.match-branch-2.branch [
       | in-Some+in-Err w ↦ (
           let after : c.next_line.new.self ≡ after_line l.text = search rules in
-          let is : c.match-branch-2.text ≡ with_fault (after_line l.text) (w.in-Some.field-0.number, w.in-Err.kind) = rw (w.text-is, w.note_fault.ensures, after) refl in
+          let is : c.match-branch-2.text ≡ with_fault (after_line l.text) (l.text.line, w.in-Err.kind) = w.text-is ∙ w.note_fault.ensures ∙ noted c.next_line.new.self l.text w.in-Err.kind after in
           subst P (sym is) (g.met.N.KeepsNodes.later l.text.line l.nodes l.invariant.along)
           )
       | in_default w ↦ (
           let begun : c.next_line.new.self ≡ with_begun l.text l.rest.now = search rules in
           subst P (sym (w.text-is ∙ begun)) l.invariant.along
+          )
+    ]
+
+pub returns-clause-limit : goal.returns-clause-limit
+returns-clause-limit g c =
+    let l = c.loop-text in
+    let P : TextSoFar → Type 0 = λ t. t.most ≡ c.args.self.text.most in
+    elim c.match-branch-2.branch [
+      | in-Some+in-Err w ↦ (
+          let after : c.next_line.new.self ≡ after_line l.text = search rules in
+          subst P (sym (w.text-is ∙ w.note_fault.ensures ∙ noted c.next_line.new.self l.text w.in-Err.kind after)) l.invariant.limit
+          )
+      | in_default w ↦ (
+          let begun : c.next_line.new.self ≡ with_begun l.text l.rest.now = search rules in
+          subst P (sym (w.text-is ∙ begun)) l.invariant.limit
           )
     ]

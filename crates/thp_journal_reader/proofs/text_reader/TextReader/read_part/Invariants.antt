@@ -15,4 +15,5 @@ invariant-loop-text g l =
       tells : (more : Text) → told_behind l.text more (lines_tell (told l.nodes) l.place l.text.line (l.text.begun ++ (l.rest ++ more))) ≡ told_with (so_far (told l.fn.self.nodes) l.fn.self.place l.fn.self.text) (l.part ++ more);
       counted : IsCounted l.rest l.text;
       along : g.N.KeepsNodes.goes_along l.text.line l.nodes;
+      limit : l.text.most ≡ l.fn.self.text.most;
     }

@@ -11,7 +11,7 @@ pub returns-in-Some-fault_behind-clause-fault : goal.returns-in-Some-fault_behin
 returns-in-Some-fault_behind-clause-fault c =
     let r = c.self.inside in
     let last = c.last_line-line in
-    let sound : fault_with r.text [] ≡ None = sym c.fault.ensures ∙ not_there c.fault.result c.in_default.not-Some in
+    let sound : fault_with r.text [] ≡ None = sym c.fault.ensures.fault ∙ not_there c.fault.result c.in_default.not-Some in
     rw (← c.self.view_is, last.ensures.number) (told_end r.text (lines_spell r.settings.now r.sections.items r.section r.text.line (r.text.begun ++ [])) sound
     ∙ end_is_wrong r.settings.now r.sections.items r.section r.text.line r.text.begun c.in-Some-fault_behind.kind (rw (← last.ensures.line) last.ensures.one_line) (rw (← last.ensures.line) c.in-Some-fault_behind.ensures))
 
@@ -19,7 +19,7 @@ pub returns-in-None-clause-script : goal.returns-in-None-clause-script
 returns-in-None-clause-script c =
     let r = c.self.inside in
     let last = c.last_line-line in
-    let sound : fault_with r.text [] ≡ None = sym c.fault.ensures ∙ not_there c.fault.result c.in_default.not-Some in
+    let sound : fault_with r.text [] ≡ None = sym c.fault.ensures.fault ∙ not_there c.fault.result c.in_default.not-Some in
     rw (← c.self.view_is) (told_end r.text (lines_spell r.settings.now r.sections.items r.section r.text.line (r.text.begun ++ [])) sound
     ∙ end_spells r.settings.now r.sections.items r.section r.text.line r.text.begun (rw (← last.ensures.line) last.ensures.one_line) (rw (← last.ensures.line) c.in-None.ensures)
     ∙ ap (λ (script : Script). Ok script) (sym c.script_of_sections.ensures))

@@ -6,7 +6,7 @@ use Rattle.thp_text.specs.Words.{Text, lines_of}
 use Rattle.thp_text.proofs.GrammarLaws.{statement_in_range}
 use Rattle.thp_text.proofs.PartLaws.{added_in_range, count_stays, line_is_wrong, line_spells}
 use Rattle.thp_text.proofs.ScriptLaws.{section_has_place, section_in_range}
-use Rattle.thp_text.proofs.TextLaws.{fault_comes, line_begins}
+use Rattle.thp_text.proofs.TextLaws.{fault_comes, line_begins, noted}
 use Rattle.thp_text.proofs.script_reader.ScriptReader.read_part.Goals as goal
 use Rattle.thp_text.proofs.script_reader.ScriptReader.read_part.Goals.{in-Some+in-Err, in_default}
 
@@ -29,6 +29,7 @@ loop-text-preserved c =
       sections = rw (added, count_stays l.sections.items l.section statement) l.invariant.sections;
       section = rw c.section_after-section.ensures (section_in_range s l.section statement l.invariant.section in-range);
       commands = rw added (added_in_range s l.sections.items l.section statement place in-range l.invariant.commands);
+      most = rw after l.invariant.most;
     }
 
 pub returns-clause-text : goal.returns-clause-text
@@ -41,9 +42,8 @@ returns-clause-text c = λ more.
       | in-Some+in-Err w ↦ (
           let kind = w.in-Err.kind in
           let after : c.next_line.new.self ≡ after_line l.text = search rules in
-          let number : w.in-Some.field-0.number ≡ l.text.line = rw w.in-Some.is at c.in_ok-number.ensures.number in
-          let line : lines_of (l.text.begun ++ (l.rest.now ++ more)) ≡ w.as_slice.result.now ∷ lines_of (c.next_line.new.rest.now ++ more) = rw w.as_slice.ensures.value ((rw w.in-Some.is at c.in_ok-number.ensures.line) more) in
-          let is : new ≡ with_fault (after_line l.text) (l.text.line, kind) = rw (w.text-is, w.note_fault.ensures, after, number) refl in
+          let line : lines_of (l.text.begun ++ (l.rest.now ++ more)) ≡ w.as_slice.result.now ∷ lines_of (c.next_line.new.rest.now ++ more) = rw w.as_slice.ensures.value ((rw w.in-Some.is at c.in_ok-bytes.ensures.line) more) in
+          let is : new ≡ with_fault (after_line l.text) (l.text.line, kind) = w.text-is ∙ w.note_fault.ensures ∙ noted c.next_line.new.self l.text kind after in
           let wrong = line_is_wrong s l.sections.items l.section l.text.line (l.text.begun ++ (l.rest.now ++ more)) w.as_slice.result.now (c.next_line.new.rest.now ++ more) kind line w.in-Err.ensures in
           fault_comes (after_line l.text) new (l.text.line, kind) more (reads new.line (new.begun ++ more)) is ∙ ap (told_behind l.text more) (sym wrong) ∙ l.invariant.spells more
           )

@@ -1,6 +1,7 @@
 use Rattle.std.proofs.Common.{◌≡◌, ◌+◌, ◌++◌, length}
 use Rattle.std.specs.Prelude.{IfSome, All}
 use Rattle.thp_text.specs.Commands.{IsCommandFor}
+use Rattle.thp_text.specs.Limits.{max_input}
 use Rattle.thp_text.specs.Parts.{lines_spell, spelled_with}
 use Rattle.thp_text.specs.Statements.{IsSectionFor}
 use Rattle.thp_text.specs.TextInParts.{told_behind, IsCounted}
@@ -18,4 +19,5 @@ invariant-loop-text l = record {
   sections : length l.sections.items ≡ l.settings.workers + 1;
   section : IfSome l.section (IsSectionFor l.settings);
   commands : All (λ commands. All (IsCommandFor l.settings.nodes) commands) l.sections.items;
+  most : l.text.most ≡ max_input;
 }

@@ -19,6 +19,9 @@ invariant_of-self-in_default c =
       one_line = rw text (still_one_line c.self.inside.begun.items piece c.self.invariant.one_line one);
       lines = omega arith;
       most = omega arith;
+      first = c.self.invariant.first;
+      counted = c.self.invariant.counted;
+      fault_inside = c.self.invariant.fault_inside;
     }
 
 pub returns-clause-line : goal.returns-clause-line

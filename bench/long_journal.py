@@ -1,0 +1,74 @@
+"""How fast a program checks a long journal, and in how much memory. The journal is piped and stored nowhere.
+
+    bench/long_journal.py PROGRAM [MEBIBYTES]
+
+The program reads standard input and takes no words (`thpcheck`); the journal has 1,024 MiB where nothing else is asked for.
+It says rounds of a node that works: pages are allocated, mapped, unmapped in part, queued, taken, split and freed. The status
+is 0 where the journal was called legal.
+"""
+
+from __future__ import annotations
+
+import os
+import resource
+import subprocess
+import sys
+import time
+
+PAGES = 4096
+"""Blocks of the node, and pages that live at a time."""
+
+KEPT = 1 << 20
+"""About so many bytes are written at a time."""
+
+
+def rounds() -> "list[bytes]":
+    """What happens to one page after another: formats, in which `%d` is the page."""
+    lines = (
+        "0 alloc %d", "0 splitpmd %d", "0 mapsub %d 0 256", "0 unmapsub %d 0 256 stays -", "0 pin %d", "0 unpin %d stays -",
+        "0 unmapsub %d 0 128 queued -", "0 unmapsub %d 128 64 stays -", "0 taken %d", "0 split %d 0-191",
+        "0 unmapsub %d 192 320 freed 192-511",
+    )
+    return [f"{line}\n".encode() for line in lines]
+
+
+def journal(most: int) -> "Iterator[bytes]":
+    """A journal of at least so many bytes, in parts."""
+    yield f"thp-journal 1\nnode 0 blocks {PAGES}\n".encode()
+    one = b"".join(rounds())
+    count, given = one.count(b"%d"), 0
+    page = 0
+    while given < most:
+        parts = []
+        size = 0
+        while size < KEPT:
+            parts.append(one % ((page,) * count))
+            size += len(parts[-1])
+            page += 1
+        given += size
+        yield b"".join(parts)
+    yield b"end\n"
+
+
+def main() -> None:
+    """Pipes the journal into the program, and tells how it went."""
+    program = sys.argv[1]
+    most = int(sys.argv[2] if len(sys.argv) > 2 else 1024) << 20
+    began = time.monotonic()
+    child = subprocess.Popen([program], stdin=subprocess.PIPE, stdout=subprocess.PIPE)
+    given = 0
+    for part in journal(most):
+        child.stdin.write(part)
+        given += len(part)
+    child.stdin.close()
+    verdict = child.stdout.read().decode().strip()
+    _, status, used = os.wait4(child.pid, 0)
+    took = time.monotonic() - began
+    busy = used.ru_utime + used.ru_stime
+    print(f"{given / 2**20:.0f} MiB: {verdict}, {took:.1f} s, {busy:.1f} s of the processor, "
+          f"{given / busy / 2**20:.1f} MiB a second of it, peak {used.ru_maxrss / 1024:.1f} MiB")
+    sys.exit(0 if verdict == "legal" and os.waitstatus_to_exitcode(status) == 0 else 1)
+
+
+if __name__ == "__main__":
+    main()

@@ -1,0 +1,40 @@
+//! What ends the program without what it was asked for.
+ghost use Rattle.std.specs.Prelude.{◌≡◌};
+ghost use Rattle.thp_streams.specs.declared.long_fault.LongRunFault.TheVariants.{OutOfMemory};
+ghost use Rattle.thp_check_run.specs.declared.end_fault.EndFault.TheVariants.{Check, Words};
+
+use std::alloc::AllocError;
+use thp_streams::{LongRunFault, ProgramFault};
+
+/// Why the program didn't do what it was asked for.
+#[derive(Debug, Drop)]
+pub enum EndFault {
+    /// The check ended so.
+    Check(LongRunFault),
+    /// The words of the command line were answered so, or can't be had.
+    Words(ProgramFault),
+}
+
+impl From<LongRunFault> for EndFault {
+    ghost from_gives = { λ fault end. end ≡ Check fault };
+
+    fn from(fault: LongRunFault) -> EndFault {
+        EndFault::Check(fault)
+    }
+}
+
+impl From<ProgramFault> for EndFault {
+    ghost from_gives = { λ fault end. end ≡ Words fault };
+
+    fn from(fault: ProgramFault) -> EndFault {
+        EndFault::Words(fault)
+    }
+}
+
+impl From<AllocError> for EndFault {
+    ghost from_gives = { λ _ end. end ≡ Check OutOfMemory };
+
+    fn from(_error: AllocError) -> EndFault {
+        EndFault::Check(LongRunFault::OutOfMemory)
+    }
+}

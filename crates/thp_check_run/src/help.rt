@@ -1,0 +1,25 @@
+//! What `--version` and `--help` tell.
+
+/// What `--version` tells behind the program's name.
+pub(crate) const VERSION: &str = "0.1.0";
+
+/// What `--help` says behind the options.
+pub(crate) const AFTER_HELP: &str = "\
+The journal is read from standard input, to its end, and 'legal' or 'illegal line L' is written to standard output, L being
+the line of the first illegal event. A journal may have any length: memory is taken for what lives on one node, not for
+what was. A journal of at most 16 MiB is told the same by 'thpsplit --check', which writes such journals, too:
+
+    thpsplit --report journal < SCRIPT | thpcheck
+
+Exit status:
+  0  the journal is legal, or this help or the version was written
+  1  the journal is illegal
+  2  the journal or the command line is at fault
+  3  memory was refused, or a read or a write failed
+
+Told on standard error:
+  2  'thpcheck: line L: FAULT', of the first faulty line of the journal: bad-byte, cut, bad-word, bad-count, bad-number,
+     bad-set, bad-order. Lines end with a line feed alone: a tab or a carriage return is a bad-byte. A fault is told
+     wherever it stands, also behind an illegal event.
+  2  what is wrong with the words of the command line
+  3  'thpcheck: out of memory', 'thpcheck: read failed', 'thpcheck: write failed'";

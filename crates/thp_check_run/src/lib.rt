@@ -1,0 +1,15 @@
+//! The program `thpcheck`: what it does with the words of its command line, its input and its outputs. What it shares with the
+//! program `thpsplit` is `thp_streams`'s: devices, verdicts, faults, exit statuses, and answers to words.
+#![tactic(auto)]
+
+mod checking;
+mod end_fault;
+mod help;
+mod options;
+mod program;
+
+pub use checking::check_long;
+pub use end_fault::EndFault;
+pub use options::read_words;
+pub use program::run_check_program;
+pub use thp_streams::{LongRunFault, Watched, WordsFault, words_of};

@@ -1,0 +1,4 @@
+pub mod CallLaws
+pub mod DeviceLaws
+pub mod PassageLaws
+pub mod OutcomeLaws

@@ -1,0 +1,24 @@
+//! What the programs of this project do with their streams and their words: texts that are read part by part and written once,
+//! the check of a journal, faults, exit statuses, and answers to words.
+#![tactic(auto)]
+
+mod answering;
+mod calls;
+mod checking;
+mod device;
+mod ending;
+mod fault;
+mod long_fault;
+mod telling;
+mod watched;
+mod words;
+
+pub use answering::{WordsAnswer, answer};
+pub use checking::{check_run, verdict};
+pub use device::{ReadsParts, read_parts, read_script_parts, write_text};
+pub use ending::{Ending, Program, ProgramFault, WordsFault};
+pub use fault::RunFault;
+pub use long_fault::LongRunFault;
+pub use telling::{status_of_ending, tell, tell_run};
+pub use watched::Watched;
+pub use words::{texts_of, words_of};
