@@ -1,5 +1,5 @@
 -- Sets as words.
-use Rattle.std.proofs.Common.{rules, ◌≡◌, ◌≢◌, ℕ, suc, zero, ◌+◌, ◌-◌, ◌*◌, ◌/◌, ◌%◌, ◌^◌, ◌<◌, ◌≤◌, max, min, Bool, true, false, cond, not, ◌&&◌, ◌||◌, List, [], ◌∷◌, ◌++◌, length, map, set, get_or, refl, ap, sym, ◌∙◌, subst, arith, inl, inr, nat_eq, nat_le, nat_lt, All, eq-eqb, ne_eqb, lt-ltb}
+use Rattle.std.proofs.Common.{rules, ◌≡◌, ◌≢◌, ℕ, suc, zero, ◌+◌, ◌-◌, ◌*◌, ◌/◌, ◌%◌, ◌^◌, ◌<◌, ◌≤◌, max, min, Bool, true, false, cond, not, ◌&&◌, ◌||◌, List, [], ◌∷◌, ◌++◌, length, map, set, get_or, refl, ap, sym, ◌∙◌, subst, arith, inl, inr, nat_eq, nat_lt, All, eq-eqb, ne_eqb, lt-ltb}
 use Rattle.std.specs.Int.{bit_at, w64}
 use Rattle.std.specs.Prelude.{bit_and, bit_or, bit_xor, count_ones, count_by, sum_by, if◌then◌else◌}
 use Rattle.std.specs.List.{range_with_len}

@@ -1,5 +1,5 @@
 -- The words of a range: full ones, of which the first and the last are cut.
-use Rattle.std.proofs.Common.{◌≡◌, ◌≢◌, ℕ, ◌+◌, ◌-◌, ◌*◌, ◌/◌, ◌%◌, ◌^◌, ◌<◌, ◌≤◌, Bool, true, false, not, ◌&&◌, min, List, [], ◌∷◌, length, set, get_or, refl, ap, ap₂, sym, ◌∙◌, arith, nat_eq, nat_le, nat_lt, inl, inr}
+use Rattle.std.proofs.Common.{◌≡◌, ◌≢◌, ℕ, ◌+◌, ◌-◌, ◌*◌, ◌/◌, ◌%◌, ◌^◌, ◌<◌, ◌≤◌, Bool, true, false, not, ◌&&◌, min, List, [], ◌∷◌, set, get_or, refl, ap, ap₂, sym, ◌∙◌, arith, nat_eq, nat_le, nat_lt, inl, inr}
 use Rattle.std.specs.Int.{bit_at, w64}
 use Rattle.std.specs.Prelude.{bit_and}
 use Rattle.std.proofs.lemmas.List.{get_or-set_same, get_or-set_other}

@@ -331,13 +331,7 @@ fn of_unpin(events: &[Event], page: PageId) -> Option<Refusal>
 }
 
 // Of a write, of data or of zeros.
-fn of_write(
-    shape: Shape,
-    events: &[Event],
-    page: PageId,
-    first: u32,
-    count: u32,
-) -> Option<Refusal>
+fn of_write(shape: Shape, events: &[Event], page: PageId, first: u32, count: u32) -> Option<Refusal>
     requires { shape.order ≤ max_order }
     ensures data { result ≡ refusal shape events.now (call.write page first count) }
     ensures zeros { result ≡ refusal shape events.now (call.zero_fill page first count) }

@@ -1,4 +1,4 @@
-use Rattle.std.proofs.Common.{◌≡◌, sym, ◌∙◌, Bool, false}
+use Rattle.std.proofs.Common.{◌≡◌, sym, ◌∙◌, false}
 use Rattle.std.specs.Cmp.{unsigned_Decides}
 use Rattle.std.proofs.lemmas.Slice.Eq.{slice_eq-Decides}
 use Rattle.thp_model.specs.Sets.{set_of, same_set}
@@ -8,8 +8,7 @@ use Rattle.thp_model.proofs.sub_set.SubSet.is_empty.Goals as goal
 pub returns-clause-empty : goal.returns-clause-empty
 returns-clause-empty c =
     let tells : c.eq.result ≡ same_set c.args.self.now (set_of (λ i. false)) =
-    same_none c.self.inside.words c.args.self.now c.self.view_is c.self.invariant c.eq.result (slice_eq-Decides unsigned_Decides c.self.inside.words _ c.eq.result c.eq.ensures) in
-    (
+    same_none c.self.inside.words c.args.self.now c.self.view_is c.self.invariant c.eq.result (slice_eq-Decides unsigned_Decides c.self.inside.words _ c.eq.result c.eq.ensures) in (
       λ holds. (same_set-Decides c.args.self.now (set_of (λ i. false))).0 (sym tells ∙ holds),
       λ same. tells ∙ (same_set-Decides c.args.self.now (set_of (λ i. false))).1 same,
     )
