@@ -60,8 +60,7 @@ fn kept_and_unkept(rt: HostRuntime) {
             underused,
         };
         let mut kept: Node = Node::new(rt.alloc(), shape).expect(&rt, "a node");
-        let mut unkept: Node<Unkept> =
-            Node::with_recorder(rt.alloc(), shape).expect(&rt, "a node");
+        let mut unkept: Node<Unkept> = Node::with_recorder(rt.alloc(), shape).expect(&rt, "a node");
         assert!(rt; answer_alike(&mut kept, &mut unkept));
         assert!(rt; kept.scan(1, 1) == unkept.scan(1, 1));
         assert!(rt; kept.scan(2, 8) == unkept.scan(2, 8));

@@ -18,11 +18,8 @@ pub use thp_sections::{
     Answer, Gate, NoGate, NodeCall, NodePass, NodePasses, Passes, Reply, Rest, Step, Steps,
     run_range, run_workers,
 };
-pub use thp_streams::{
-    Ending, ProgramFault, RunFault, Watched, WordsFault, check_run, words_of,
-};
+pub use thp_streams::{Ending, ProgramFault, RunFault, Watched, WordsFault, check_run, words_of};
 pub use thp_text::{
     Command, MAX_INPUT, Op, ReadFault, Report, Script, Sequence, Settings, TextKind, read_orders,
     read_script, read_underused,
 };
-

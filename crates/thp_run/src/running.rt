@@ -32,8 +32,9 @@ fn report_of<T: Threads + Sync, G: Gate + Sync>(
             totals_text(alloc, ran.nodes.as_slice())
         }
         Report::Answers => {
-            let Ran { nodes, sections }: Ran<Unkept> =
-                run_recorded(rt, alloc, settings, script, gate)?;
+            let Ran { nodes, sections }: Ran<Unkept> = run_recorded(
+                rt, alloc, settings, script, gate,
+            )?;
             let kept = kept_sections(alloc, sections)?;
             answers_text(alloc, nodes.as_slice(), kept.as_slice())
         }
