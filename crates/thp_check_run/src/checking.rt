@@ -1,7 +1,9 @@
 //! From the bytes of a journal of any length to whether it is legal.
-ghost use Rattle.std.specs.Prelude.{◌≡◌, ℕ, List, IfOk, IfSome, false, option_map};
+ghost use Rattle.std.specs.Prelude.{◌≡◌, ℕ, List, [], Ok, Err, IfOk, IfErr, IfSome, false};
+ghost use Rattle.thp_journal_reader.specs.Answers.{TellsIllegal};
 ghost use Rattle.thp_journal_reader.specs.Journals.{journals_within};
 ghost use Rattle.thp_journal_reader.specs.Parts.{told_with};
+ghost use Rattle.thp_journal_reader.specs.declared.journals.Journals.{Journals};
 ghost use Rattle.thp_text.specs.Limits.{max_counted};
 ghost use Rattle.thp_streams.specs.Calls.{ReadsOn};
 ghost use Rattle.thp_streams.specs.Devices.{IsFrontOf};
@@ -12,15 +14,14 @@ ghost use Rattle.thp_check_run.specs.Outcomes.{seen};
 
 use std::alloc::Global;
 use std::io::{Read, Write};
-use thp_journal_reader::{Illegal, LongCheck};
+use thp_check::Misfit;
+use thp_journal_reader::{LongCheck, TextFault};
+use thp_model::{Outcome, Refusal, What};
 use thp_streams::{LongRunFault, RunFault, Watched, read_parts, verdict, write_text};
 use thp_text::MAX_COUNTED;
 
 /// The check of the journal whose text a reader gives, part by part.
-fn read_check_parts<R: Read>(
-    alloc: Global,
-    reader: &mut Watched<R>,
-) -> Result<LongCheck, RunFault>
+fn read_check_parts<R: Read>(alloc: Global, reader: &mut Watched<R>) -> Result<LongCheck, RunFault>
     requires { reader.old.failed ≡ false }
     ensures parts { IfOk result (λ check. (bytes : List ℕ) × IfSome (R.remaining reader.old.device) (IsFrontOf max_counted bytes) × (told_with check [] ≡ journals_within max_counted bytes)) }
     ensures flag { IfOk result (λ _. reader.new.failed ≡ false) }
@@ -30,11 +31,18 @@ fn read_check_parts<R: Read>(
     read_parts(LongCheck::new(alloc), MAX_COUNTED, reader)
 }
 
-/// The line of an illegal event.
-fn line_of(illegal: Option<Illegal>) -> Option<u64>
-    ensures { result ≡ option_map (λ i. i.line) illegal }
+/// The line of the first illegal event, if there is one, or the first fault of the text.
+fn finish(check: LongCheck) -> Result<Option<u64>, TextFault>
+    ensures line { IfOk result (λ line. (journals : Journals) × (told_with check [] ≡ Ok journals) × TellsIllegal journals.nodes line) }
+    ensures fault { IfErr result (λ fault. told_with check [] ≡ Err (fault.line, fault.kind)) }
 {
-    Some(illegal?.line)
+    // the toolchain finds these types, which stand in illegal events, only in functions that name them
+    let _in_illegal = (What::Close, Outcome::Stays, Refusal::NoPage, Misfit::Block);
+    match check.finish() {
+        Ok(None) => Ok(None),
+        Ok(Some(illegal)) => Ok(Some(illegal.line)),
+        Err(fault) => Err(fault),
+    }
 }
 
 /// Checks the journal that the reader gives, whatever its length: writes `legal`, or `illegal line L` with the line of the first
@@ -53,7 +61,7 @@ pub fn check_long<R: Read, W: Write>(
     ensures writes { WritesAnswer (seen result) writer.new.failed writer.old.calls writer.new.calls }
 {
     let check = read_check_parts(alloc, reader)?;
-    let illegal = line_of(check.finish()?);
+    let illegal = finish(check)?;
     let text = verdict(alloc, illegal)?;
     write_text(writer, text.as_bytes()).ok_or(LongRunFault::Write)?;
     Ok(illegal.is_none())

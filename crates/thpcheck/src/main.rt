@@ -14,12 +14,6 @@ fn main(rt: HostRuntime) -> ExitCode {
     let mut reader = Watched::new(rt.reader());
     let mut output = Watched::new(rt.stdout());
     let mut errors = Watched::new(rt.stderr());
-    let status = run_check_program(
-        rt.alloc(),
-        words,
-        &mut reader,
-        &mut output,
-        &mut errors,
-    );
+    let status = run_check_program(rt.alloc(), words, &mut reader, &mut output, &mut errors);
     ExitCode::from(status)
 }
