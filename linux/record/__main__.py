@@ -1,6 +1,6 @@
 """Records a memory control group's deferred split queue, writes it as a journal, and lets `thpsplit --check` judge it.
 
-    thprecord [--own THREADS,STEPS,SEED[,zeros][,collapse]]     a workload of its own
+    thprecord [--own THREADS,STEPS,SEED[,zeros][,collapse][,areas]]  a workload of its own
     thprecord --own .. --groups 3 --order 9,4        a workload for each order in each of three control groups
     thprecord -- COMMAND ARGS..                      a command in a control group of its own
 
@@ -47,7 +47,7 @@ def words() -> argparse.Namespace:
     form = argparse.RawDescriptionHelpFormatter
     parser = argparse.ArgumentParser(prog=NAME, description=__doc__, formatter_class=form)
     parser.add_argument("--program", metavar="PATH", help="the thpsplit that judges")
-    parser.add_argument("--own", default="1,300,1", metavar="THREADS,STEPS,SEED[,zeros][,collapse]")
+    parser.add_argument("--own", default="1,300,1", metavar="THREADS,STEPS,SEED[,WORDS]")
     parser.add_argument("--order", default=str(PMD_ORDER), metavar="LIST", help="the orders of pages that are followed")
     parser.add_argument("--groups", type=int, default=1, metavar="N", help="control groups, each with the workload")
     parser.add_argument("--underused", default="off", help="off, a threshold, or as-is: leave the machine's setting")
@@ -219,8 +219,8 @@ def orders_of(text: str) -> List[int]:
 
 def record(asked: argparse.Namespace) -> int:
     own = asked.own.split(",")
-    if len(own) < 3 or not all(word.isdigit() for word in own[:3]) or not {*own[3:]} <= {"zeros", "collapse"}:
-        raise InputFault("--own wants THREADS,STEPS,SEED, and perhaps zeros and collapse")
+    if len(own) < 3 or not all(word.isdigit() for word in own[:3]) or not {*own[3:]} <= {"zeros", "collapse", "areas"}:
+        raise InputFault("--own wants THREADS,STEPS,SEED, and perhaps zeros, collapse and areas")
     if asked.underused not in ("off", "as-is") and not asked.underused.isdigit():
         raise InputFault("--underused wants off, a number, or as-is")
     asked.orders = orders_of(asked.order)

@@ -16,6 +16,7 @@ from ..common.btf import Missing
 from ..common.errors import Unavailable
 from ..common.files import PMD_ORDER
 from ..common.kernel_memory import KernelMemory, symbols
+from .calls import BRK, MADVISE, MAP_FIXED, MAP_FIXED_NOREPLACE, MMAP, MPROTECT, MREMAP, MUNMAP
 from .records import COUNT_AT, FOLIOS_AT, QUEUE_MOST, SIZE, VALUES_AT, Kind, Record, record_of
 
 RING = 1 << 26  # bytes of the ring buffer
@@ -23,7 +24,6 @@ LENGTH_AT = 104
 TRIES = 3  # of sending a record, of copying a queue
 HOMES = 65536  # pages whose places are known
 SEEN_FREED = 64  # bytes with a bit for each frame of a block, set once its free was recorded
-MUNMAP, MPROTECT, MREMAP, MADVISE = 11, 10, 25, 28  # system calls of x86-64
 BASE_BITS, FRAME_END = 12, 52  # the bits of an entry that say the frame (arch/x86/include/asm/pgtable_types.h)
 FLAGS = 7  # low bits of memcg_data (include/linux/memcontrol.h)
 _HEAD_PAGE = mmap.PAGESIZE
@@ -38,10 +38,12 @@ class Tap:
         self.lacking: List[str] = []
         field = memory.types.offset
         self._mm = field("task_struct", "mm", "pointer")
+        self._break = field("mm_struct", "brk", size=8)
         self._tgid = field("task_struct", "tgid", size=4)
         self._scan_objects = field("shrinker", "scan_objects", "pointer")
         self._scanned_group = field("shrink_control", "memcg", "pointer")
         self._registers = [field("pt_regs", name, size=8) for name in ("orig_ax", "di", "si", "dx")]
+        self._flags = field("pt_regs", "r10", size=8)  # of mmap
         self._no_memalloc = 1 << memory.types.enumerator("___GFP_NOMEMALLOC_BIT")
         self._movable = 1 << memory.types.enumerator("___GFP_MOVABLE_BIT")
         self._page_size = memory.types.struct_size("page")
@@ -207,9 +209,13 @@ class Tap:
     # the programs
 
     def _some_calls(self, code: Assembler) -> Assembler:
-        for number in (MUNMAP, MPROTECT, MREMAP, MADVISE):
+        """Goes on only for calls that may change mappings; of mmap, those that replace what is there."""
+        for number in (MUNMAP, MPROTECT, MREMAP, MADVISE, BRK):
             code.jump("asked", "==", 1, number)
-        return code.jump("out").label("asked")
+        code.jump("out", "!=", 1, MMAP)
+        self._through(0, self._flags)(code)
+        code.bit_and(1, MAP_FIXED | MAP_FIXED_NOREPLACE).jump("out", "!=", 1, MAP_FIXED)
+        return code.label("asked")
 
     def _asked(self) -> List[Tuple[int, Value]]:
         return [(i, self._through(0, offset)) for i, offset in enumerate(self._registers)]
@@ -217,7 +223,12 @@ class Tap:
     def _sys_enter(self) -> Assembler:
         """A call's allocations aren't those of the task's last fault: that is forgotten."""
         code = self._task_key(self._own_only(self._some_calls(self._start().load(1, 6, 8)))).store_number(10, -48, 0)
-        return self._short(self._record(self._keep(code, self._faulting, -40, -48), Kind.ENTER, self._asked()))
+        self._record(self._keep(code, self._faulting, -40, -48), Kind.ENTER, [*self._asked(), (4, self._program_break)])
+        return self._short(code)
+
+    def _program_break(self, code: Assembler) -> None:
+        """The program break of the space that the record names."""
+        code.store_number(10, -16, 0).load(3, 7, 24).read_kernel(-16, 8, self._break).load(1, 10, -16)
 
     def _sys_exit(self) -> Assembler:
         code = self._start()

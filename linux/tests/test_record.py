@@ -243,7 +243,7 @@ class ScanTest(unittest.TestCase):
         story.add(Kind.FREE, [pages[0], 9])
         self.by_another(story, Kind.SCANNED, [0], pages[1:])
         story.add(Kind.EXIT, [*call, 0], pages[1:])
-        words = self.told(story, None, "calls told before their end")
+        words = self.told(story, None, "pages told before their call's end")
         self.assertEqual(words[-5:], ["unmapsub 0 8 504 freed 0-511", "taken 1", "pin 1", "pinned 1", "back 1"])
 
     def test_a_page_written_while_it_is_split_is_left_out(self) -> None:
