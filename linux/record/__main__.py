@@ -32,7 +32,7 @@ from ..common.keeper import Keeper
 from ..common.kernel_memory import KernelMemory
 from ..common.program import Program
 from .journalist import Journalist, Settings
-from .records import Record, record_from
+from .records import Record, record_from, record_of
 from .tampering import Spoil, tampered
 from .tap import Tap
 
@@ -93,7 +93,7 @@ class Recorder:
         """The records of these commands in each group, and how many were lost."""
         taps = [Tap(self._memory, self._memory.group(path), self._asked.orders) for path in self._paths]
         self.lacking = taps[0].lacking
-        records: List[List[Record]] = [[] for _ in taps]
+        records: List[List[bytes]] = [[] for _ in taps]
 
         def take() -> None:
             for own, tap in zip(records, taps):
@@ -115,7 +115,7 @@ class Recorder:
                 self._keeper.disown(child.pid)
             time.sleep(AFTER)
             take()
-            return records, sum(tap.lost() for tap in taps)
+            return [[record_of(raw) for raw in own] for own in records], sum(tap.lost() for tap in taps)
         finally:
             for tap in taps:
                 tap.close()

@@ -20,7 +20,8 @@ CUTTING = (10, 11, 12, 13, 14, 15, 16, 17, 18, 19)  # advice that cuts an area i
 LOSING = (8, 9, 20, 21)  # MADV_FREE and its like: not followed
 MADV_COLLAPSE = 25
 NO_MEMORY = 12  # of madvise: a part of the range isn't mapped; the rest was done
-_WORD, _ERRORS = (1 << 64) - 1, 4095
+ERRORS = 4095  # answers from -ERRORS on are errors
+_WORD = (1 << 64) - 1
 
 
 class Does(enum.Enum):
@@ -54,7 +55,7 @@ def _upward(address: int) -> int:
 def has_succeeded(asked: Record, answer: int) -> bool:
     """Whether a call has done what it was asked."""
     number, start = asked.values[:2]
-    error = -answer & _WORD if -answer & _WORD <= _ERRORS else 0
+    error = -answer & _WORD if -answer & _WORD <= ERRORS else 0
     if number == BRK:
         return answer == start
     return not error or (number == MADVISE and error == NO_MEMORY)

@@ -391,7 +391,7 @@ class Journalist:
         if not mapping.whole or bits != page.every:
             if mapping.whole:
                 self._split_pmd(record, page, mapping)
-            steps = list(runs(mapping.bits & bits))
+            steps = list(self._parts(page, mapping, mapping.bits & bits))
         for step in steps:
             before = page.used()
             if step is None:
@@ -413,6 +413,12 @@ class Journalist:
             for space in [space for space, other in page.maps.items() if other is mapping]:
                 del page.maps[space]
                 self._spaces[space].pop(page, None)
+
+    def _parts(self, page: Page, mapping: Mapping, bits: int) -> Iterator[Tuple[int, int]]:
+        """The runs that the kernel unmaps one by one: a page that was moved may lie in two page tables."""
+        border = -mapping.base // BASE % (1 << PMD_ORDER)
+        yield from runs(bits & bits_of(0, border))
+        yield from runs(bits & ~bits_of(0, border))
 
     def _outcome(
         self, record: Record, page: Page, before: int, queue: Optional[List[int]], last: bool

@@ -16,8 +16,8 @@ from ..common.btf import Missing
 from ..common.errors import Unavailable
 from ..common.files import PMD_ORDER
 from ..common.kernel_memory import KernelMemory, symbols
-from .calls import BRK, MADVISE, MAP_FIXED, MAP_FIXED_NOREPLACE, MMAP, MPROTECT, MREMAP, MUNMAP
-from .records import COUNT_AT, FOLIOS_AT, QUEUE_MOST, SIZE, VALUES_AT, Kind, Record, record_of
+from .calls import BRK, ERRORS, MADVISE, MAP_FIXED, MAP_FIXED_NOREPLACE, MMAP, MPROTECT, MREMAP, MUNMAP
+from .records import COUNT_AT, FOLIOS_AT, QUEUE_MOST, SIZE, VALUES_AT, Kind
 
 RING = 1 << 26  # bytes of the ring buffer
 LENGTH_AT = 104
@@ -96,9 +96,9 @@ class Tap:
         """How many records found no room."""
         return struct.unpack("<Q", self._losses[:8])[0]
 
-    def read(self) -> List[Record]:
-        """The records since the last call."""
-        out: List[Record] = []
+    def read(self) -> List[bytes]:
+        """The records since the last call, as bytes: taking them must not be slower than their making."""
+        out: List[bytes] = []
         done, end = struct.unpack_from("<Q", self._consumer)[0], struct.unpack_from("<Q", self._data)[0]
         while done < end:
             head = struct.unpack_from("<I", self._data, _HEAD_PAGE + done % RING)[0]
@@ -107,7 +107,7 @@ class Tap:
             size = head & _LENGTH
             if not head & _DISCARDED:
                 at = _HEAD_PAGE + done % RING + 8
-                out.append(record_of(self._data[at : at + size]))
+                out.append(self._data[at : at + size])
             done += (size + 8 + 7) & ~7
         struct.pack_into("<Q", self._consumer, 0, done)
         return out
@@ -258,7 +258,17 @@ class Tap:
         code.store_number(10, -16, 0).move(3, 8).read_kernel(-16, 8, flags).load(1, 10, -16)
         code.shift_right(1, head).bit_and(1, 1).jump("homeless", "!=", 1, 0)
         code.set(1, 1).store(7, VALUES_AT + 8 * 8 + 4, 1, 4)  # it is split: what stands there are no counts
-        return code.label("homeless")
+        return self._new_home(code.label("homeless"))
+
+    def _new_home(self, code: Assembler) -> Assembler:
+        """Keeps where mremap has moved the page: in one block of its order, or in two."""
+        code.load(1, 7, VALUES_AT).jump("at home", "!=", 1, MREMAP)
+        code.load(1, 7, VALUES_AT + 8 * 5).jump("at home", "==", 1, 0)
+        code.store(10, -72, 1).load(1, 7, VALUES_AT + 8 * 4).jump("at home", ">=", 1, -ERRORS)
+        code.load(2, 10, -56).bit_and(2, 15).move(3, 2).add(3, BASE_BITS).shift_right_register(1, 3)
+        code.shift_left(1, 4).add_register(1, 2).store(10, -56, 1)
+        self._keep(code, self._homes, -64, -72).load(1, 10, -56).add(1, 16).store(10, -56, 1)
+        return self._keep(code, self._homes, -64, -72).label("at home")
 
     def _map_counts(self) -> List[int]:
         """Where struct folio counts mappings: all, those by PMD entries, subpages that PTEs map."""
