@@ -21,6 +21,7 @@ from .calls import COLLAPSE, MADV_COLLAPSE, MADVISE, TAKING, Does, Effect, effec
 from .folios import Line, Mapping, Page
 from .records import Kind, Record, lines_with_ends
 
+NEVER_MAPPED = "another thread's fault was first"  # why such a page isn't told; it counts as none
 BATCH = 128  # pages that a scan takes at most
 MOST_BLOCKS, CALLERS = 4096, 64
 WRITTEN = 3  # bits of a fault's error code: present, written
@@ -66,7 +67,8 @@ class Journalist:
         self._ends: Dict[int, List[Record]] = defaultdict(list)  # of address spaces, the next one first
         self._remapped: Set[int] = set()  # address spaces in which mremap moved an area
         self._scans: Dict[int, Tuple[Record, List[Optional[Page]]]] = {}
-        self._joining: Dict[int, Page] = {}
+        self._faulted: Dict[int, Page] = {}  # by tasks whose last record was this allocation
+        self._joining: Dict[int, Page] = {}  # of these the pages that join the queue at once
         self._live = self._most = self._now = 0
         self._is_missing = False  # a scan wasn't followed
         self._scanned_at = 0  # when the last scan that is told had ended
@@ -86,10 +88,10 @@ class Journalist:
         return NodeJournal(blocks, self._settings.order, self._settings.threshold, events)
 
     def lost_pages(self) -> int:
-        return sum(bool(page.lost) for page in self._pages)
+        return sum(page.lost not in ("", NEVER_MAPPED) for page in self._pages)
 
     def pages(self) -> int:
-        return len(self._pages)
+        return sum(page.lost != NEVER_MAPPED for page in self._pages)
 
     # small steps
 
@@ -146,6 +148,7 @@ class Journalist:
                 self.seen["copies begun before the end of a scan, not used"] += 1
             if record.kind is not Kind.FREE:  # an interrupt frees in any task's name
                 self._joining.pop(record.task, None)
+                self._faulted.pop(record.task, None)
             if not record.done:
                 steps[record.kind](record)
 
@@ -173,6 +176,7 @@ class Journalist:
             self.seen["collapses that failed" if fails else "allocations without a fault, not followed"] += 1
             return
         page = self._new(record.task, record.space, folio, fault.values[0])
+        self._faulted[record.task] = page
         if page in self._queue:
             self._joining[record.task] = page  # it joins between this record and the task's next one
 
@@ -257,6 +261,11 @@ class Journalist:
             return
         if record.values[1] == self._settings.order and record.values[0] == page.folio:
             if self._migrated(record.task, page):
+                return
+            if self._faulted.get(record.task) is page:
+                page.lost = NEVER_MAPPED
+                self.seen[f"huge pages given up: {NEVER_MAPPED}"] += 1
+                self._gone(page)
                 return
             page.freed = True
             if not page.used():  # the last pin went

@@ -107,6 +107,22 @@ class ByHandTest(unittest.TestCase):
         story.journal()
         self.assertEqual(story.seen["pages left out: queued for no reason seen"], 1)
 
+    def test_a_page_that_another_thread_mapped_first_is_none(self) -> None:
+        """Two threads fault in one place; the page of the one that comes late is freed in its own fault."""
+        story = Story()
+        page = story.page(0)
+        story.add(Kind.FAULT, [HUGE * 10, 6])
+        story.records[-1].task += 1
+        story.add(Kind.ALLOC, [folio_of(1), 9])
+        story.records[-1].task += 1
+        story.add(Kind.FREE, [folio_of(1), 9])
+        story.records[-1].task += 1
+        story.drop(0, 0, 8, [page])
+        self.assertEqual(story.journal().splitlines()[2:-1], [
+            "0 alloc 0", "0 splitpmd 0", "0 unmapsub 0 0 8 queued -"])
+        self.assertEqual(story.seen["huge pages given up: another thread's fault was first"], 1)
+        self.assertEqual(story.seen["queues that differ"], 0)
+
     def test_a_page_unmapped_whole_is_freed(self) -> None:
         story = Story()
         page = story.page(0)
