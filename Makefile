@@ -3,6 +3,7 @@
 #               first script
 # make install: puts the proved program and thpwhatif, their manual pages and completions below PREFIX (default /usr/local;
 #               DESTDIR as usual); make uninstall takes them away
+# make deb:     the Debian package of the proved program and of thpwhatif, into DEBS (default out; wants dpkg-dev, debhelper)
 # make test:    every check (proofs from nothing, must-fail edits, tests, stored runs, examples, documents); ends in
 #               'N passed, M failed'. What a machine lacks is named and counted neither way, or as failed with STRICT=1
 # make outside: examples and documents alone; PROGRAM=path: by that program, and all that is asked of it from outside:
@@ -10,18 +11,24 @@
 # make fuzz:    random scripts, journals and words on the built program and on a plain reading of the model in Python:
 #               CASES=n SEED=s; ends in a table of what was covered
 # make memory:  each growth of memory and each start of a thread refused in turn (wants Python 3 and a C compiler)
-# make edits:   the wrong bodies that the gate has no time for (tests/edits), beside those that it tries
+# make edits:   the wrong bodies that the gate has no time for (tests/edits), beside those that it tries; CRATES=names: of
+#               these alone
 # make linux:   random scripts on the running kernel and on the built program: CASES=n SEED=s PROGRAM=path (wants root;
 #               status 77 where this machine can't compare anything)
 # make bench:   times on large scripts, beside plain Rust, and of single calls (docs/PROOFS.md has the figures)
+# make help:    these lines
 # How long each takes: README.md, "First minutes".
 PREFIX ?= /usr/local
 PROGRAM = crates/thpsplit/out/thpsplit
 SCRIPT = examples/first.script
+DEBS ?= out
 CASES ?= 2000
 SEED ?= 1
 
-.PHONY: try run install put put-whatif uninstall test outside toolchain fuzz memory edits linux bench
+.PHONY: help try run install put put-whatif uninstall deb test outside toolchain fuzz memory edits linux bench
+
+help:
+	@sed -n '/^[^#]/q; s/^# //p' Makefile
 
 # tells by a line where another toolchain is installed than everything was proved with
 toolchain:
@@ -61,6 +68,9 @@ uninstall:
 	@for pair in $(INSTALLED); do rm -f "$(DESTDIR)$(PREFIX)/$${pair%%=*}"; done
 	@$(MAKE) --no-print-directory -s -C linux/whatif uninstall PREFIX="$(PREFIX)" DESTDIR="$(abspath $(DESTDIR))"
 
+deb: run
+	@python3 debian/build.py $(PROGRAM) $(DEBS)
+
 test: toolchain
 	@python3 tests/gate.py
 
@@ -77,6 +87,7 @@ outside:
 	@$(if $(GIVEN),python3 tests/outside.py $(GIVEN))
 	@$(if $(GIVEN),python3 tests/outside.py --self-test $(GIVEN))
 	@$(if $(GIVEN),python3 tests/large.py $(GIVEN))
+	@$(if $(GIVEN),python3 tests/package.py $(GIVEN) || test $$? = 77)
 
 fuzz: run
 	@python3 tests/fuzz.py $(PROGRAM) --cases $(CASES) --seed $(SEED)
@@ -86,7 +97,7 @@ memory: run
 	@python3 tests/memory.py $(PROGRAM) crates/tests_spoilt/out/tests_spoilt_tests:memory::
 
 edits:
-	@bash tests/edits/run
+	@bash tests/edits/run $(CRATES)
 
 linux:
 	@python3 -m linux.replay --program $(PROGRAM) --random $(CASES) --seed $(SEED) --quiet

@@ -28,7 +28,7 @@ BUILT = ("crates/thpsplit/out/thpsplit", "crates/thpsplit/out/thpsplit.by-rattle
 BY_EACH = ("tests/examples.py", "tests/rows.py", "tests/outside.py", "tests/large.py")
 """What looks at a program."""
 
-BY_ONE = ("tests/spoilt.py",)
+BY_ONE = ("tests/spoilt.py", "tests/package.py")
 """What looks at a program and takes longer: at one of them."""
 
 SPOILT = "crates/tests_spoilt/out/tests_spoilt_tests"

@@ -1,4 +1,4 @@
-"""Rows of scripts by their names: what the program answers to each, and what its totals and its journal are to say.
+"""Rows of scripts by their names: what the program answers to each, and what its totals and its journal say.
 
     tests/rows.py PROGRAM
 
@@ -277,6 +277,129 @@ ROWS = (
     ),
 )
 
+TOTALS = ("pages", "queue", "frames_held", "frames_given", "thp_split_page", "thp_split_page_failed",
+          "thp_deferred_split_page", "thp_split_pmd")
+"""What the totals of a node tell, in this order."""
+
+
+@dataclass(frozen=True)
+class Totals:
+    """A script on one node, and the numbers that the report of its totals is to tell."""
+
+    name: str
+    script: str
+    numbers: tuple[int, ...]
+    words: str = ""
+
+    def wrong(self, program: Path) -> Optional[str]:
+        """What the report says otherwise, or None."""
+        script = lines(self.script) if self.script else b""
+        wanted = lines(" / ".join(["node 0", *(f"{name} {number}" for name, number in zip(TOTALS, self.numbers))]))
+        return run(program, Call(tuple(self.words.split()), script)).differs_from(Ended(0, wanted))
+
+
+WHOLE = (
+    Totals(
+        "first_run",
+        "setup / alloc 0 / splitpmd 0 0 / unmap 0 0 0 256 / scan 0 8",
+        (1, 0, 256, 256, 1, 0, 1, 1),
+    ),
+    Totals(
+        "empty_input",
+        "",
+        (0, 0, 0, 0, 0, 0, 0, 0),
+    ),
+    Totals(
+        "empty_input",
+        "# nothing /  / setup",
+        (0, 0, 0, 0, 0, 0, 0, 0),
+    ),
+    Totals(
+        "two_of_three_oldest",
+        "setup / alloc 0 / splitpmd 0 0 / unmap 0 0 0 1 / alloc 0 / splitpmd 0 1 / unmap 0 1 0 1 / "
+        "alloc 0 / splitpmd 0 2 / unmap 0 2 0 1 / scan 0 2",
+        (3, 1, 1534, 2, 2, 0, 3, 3),
+    ),
+    Totals(
+        "freed_from_the_middle",
+        "setup / alloc 0 / splitpmd 0 0 / unmap 0 0 0 1 / alloc 0 / splitpmd 0 1 / unmap 0 1 0 1 / "
+        "alloc 0 / splitpmd 0 2 / unmap 0 2 0 1 / unmap 0 1 1 511 / scan 0 3",
+        (3, 0, 1022, 514, 2, 0, 3, 3),
+    ),
+    Totals(
+        "freed_while_queued",
+        "setup / alloc 0 / splitpmd 0 0 / unmap 0 0 0 1 / unmap 0 0 1 511 / alloc 0 / splitpmd 0 1 / "
+        "unmap 0 1 0 1 / scan 0 8",
+        (2, 0, 511, 513, 1, 0, 2, 2),
+    ),
+    Totals(
+        "no_free_block",
+        "setup / alloc 0 / alloc 0 / splitpmd 0 0 / unmap 0 0 1 511 / scan 0 1 / alloc 0 / unmap 0 0 0 1 / "
+        "alloc 0",
+        (2, 0, 512, 512, 1, 0, 1, 1),
+        "--blocks 1",
+    ),
+    Totals(
+        "pinned_goes_to_the_tail",
+        "setup / alloc 0 / splitpmd 0 0 / unmap 0 0 0 1 / alloc 0 / splitpmd 0 1 / unmap 0 1 0 1 / "
+        "alloc 0 / splitpmd 0 2 / unmap 0 2 0 1 / pin 0 1 / scan 0 3",
+        (3, 1, 1534, 2, 2, 1, 3, 3),
+    ),
+    Totals(
+        "pinned_goes_to_the_tail",
+        "setup / alloc 0 / splitpmd 0 0 / unmap 0 0 0 1 / alloc 0 / splitpmd 0 1 / unmap 0 1 0 1 / "
+        "alloc 0 / splitpmd 0 2 / unmap 0 2 0 1 / pin 0 1 / scan 0 3 / unpin 0 1 / scan 0 3",
+        (3, 0, 1533, 3, 3, 1, 3, 3),
+    ),
+    Totals(
+        "all_pinned_rotate",
+        "setup / alloc 0 / splitpmd 0 0 / unmap 0 0 0 1 / alloc 0 / splitpmd 0 1 / unmap 0 1 0 1 / "
+        "alloc 0 / splitpmd 0 2 / unmap 0 2 0 1 / pin 0 0 / pin 0 1 / pin 0 2 / scan 0 2 / scan 0 3",
+        (3, 3, 1536, 0, 0, 5, 3, 3),
+    ),
+    Totals(
+        "split_of_a_mapped_page",
+        "setup / alloc 0 / splitpmd 0 0 / unmap 0 0 0 1 / mapwhole 0 0 / scan 0 1",
+        (1, 0, 512, 0, 1, 0, 1, 2),
+    ),
+    Totals(
+        "pinned_page_is_freed_by_unpin",
+        "setup / alloc 0 / pin 0 0 / unmapwhole 0 0",
+        (1, 0, 512, 0, 0, 0, 0, 0),
+    ),
+    Totals(
+        "pinned_page_is_freed_by_unpin",
+        "setup / alloc 0 / pin 0 0 / unmapwhole 0 0 / unpin 0 0 / pin 0 0",
+        (1, 0, 0, 512, 0, 0, 0, 0),
+    ),
+    Totals(
+        "bad_ranges",
+        "setup / alloc 0 / splitpmd 0 0 / unmap 0 0 511 1 / map 0 0 511 2 / unmap 0 0 0 0 / "
+        "unmap 0 0 512 1 / unmap 0 0 511 1 / map 0 0 511 1 / unmap 0 1 0 0 / scan 0 1",
+        (1, 0, 512, 0, 1, 0, 1, 1),
+    ),
+    Totals(
+        "refusals_after_a_split",
+        "setup / alloc 0 / splitpmd 0 0 / unmap 0 0 1 511 / scan 0 1 / map 0 0 1 1 / unmap 0 0 1 1 / "
+        "map 0 0 0 1 / mapwhole 0 0 / unmapwhole 0 0 / splitpmd 0 0 / pin 0 0 / unpin 0 0 / "
+        "unmap 0 0 0 1 / unmap 0 0 0 1 / unmap 0 0 0 1",
+        (1, 0, 0, 512, 1, 0, 1, 1),
+    ),
+    Totals(
+        "refusals_before_a_split",
+        "setup / alloc 0 / unmap 0 0 0 1 / unpin 0 0 / splitpmd 0 0 / splitpmd 0 0 / unmapwhole 0 0 / "
+        "unmap 0 0 0 1 / unmap 0 0 3 1 / scan 0 1 / unmap 0 0 5 2",
+        (1, 0, 508, 4, 1, 0, 1, 1),
+    ),
+    Totals(
+        "closed_node",
+        "setup / alloc 0 / splitpmd 0 0 / unmap 0 0 0 1 / alloc 0 / splitpmd 0 1 / pin 0 0 / close 0 / "
+        "alloc 0 / close 0 / unmap 0 1 0 1 / scan 0 8",
+        (2, 0, 1024, 0, 0, 1, 1, 2),
+    ),
+)
+"""Whole reports, word by word."""
+
 MOST = 65_535
 """No count of a page goes beyond it."""
 
@@ -344,6 +467,8 @@ def main() -> None:
     tally = Tally()
     for row in ROWS:
         tally.run(row.name, lambda row=row: row.wrong(program))
+    for whole in WHOLE:
+        tally.run(f"{whole.name}: totals", lambda whole=whole: whole.wrong(program))
     tally.run("counts_at_their_limit", lambda: counts_at_their_limit(program))
     tally.run("two_workers", lambda: two_workers(program))
     tally.end()

@@ -46,7 +46,8 @@ impl Gate for InTurns {
         }
         let (own, wanted) = self.bits(worker, index);
         let _before = self.made.fetch_or(own, Ordering::SeqCst);
-        for _ in 0..50_000_000u32 {
+        // some seconds, for a machine whose cores are all taken
+        for _ in 0..u32::MAX {
             if self.made.load(Ordering::SeqCst) & wanted != 0 {
                 return;
             }

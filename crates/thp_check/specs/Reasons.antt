@@ -3,7 +3,7 @@ use Rattle.std.specs.Prelude.{◌≡◌, ◌≢◌, ℕ, ◌<◌, Bool, true, fa
 use Rattle.thp_model.specs.declared.events.Event.{Event}
 use Rattle.thp_model.specs.declared.events.Outcome.{Outcome}
 use Rattle.thp_model.specs.declared.events.What.{What}
-use Rattle.thp_model.specs.declared.events.What.TheVariants.{Alloc, MapWhole, UnmapWhole, MapSub, UnmapSub, SplitPmd, Pin, Unpin, Write, Zero, Taken, Split, Pinned, Used, Back, Dropped, Close}
+use Rattle.thp_model.specs.declared.events.What.TheVariants.{Alloc, UnmapWhole, UnmapSub, Unpin, Taken, Split, Pinned, Used, Back, Dropped}
 use Rattle.thp_model.specs.declared.refusal.Refusal.{Refusal}
 use Rattle.thp_model.specs.declared.refusal.Refusal.TheVariants as reason
 use Rattle.thp_model.specs.declared.shape.Shape.{Shape}
@@ -12,26 +12,10 @@ use Rattle.thp_model.specs.Frames.{block_in_use}
 use Rattle.thp_model.specs.History.{History, by}
 use Rattle.thp_model.specs.Legal.{Fits, is_dropped}
 use Rattle.thp_model.specs.Places.{flight, has_page, is_taking, no_pages, queue}
-use Rattle.thp_model.specs.Refusals.{refusal}
-use Rattle.thp_model.specs.Refusals as call
+use Rattle.thp_model.specs.PageCalls.{refusal_of}
 use Rattle.thp_model.specs.Underused.{is_worth_split}
 use Rattle.thp_check.specs.declared.misfit.Misfit.{Misfit}
 use Rattle.thp_check.specs.declared.misfit.Misfit.TheVariants as misfit
-
--- the refusal at h of the call that an event tells; why an allocation, a take, a try or a return doesn't fit is told in other
--- words
-abbrev pub refusal_of : Shape → History → What → Option Refusal
-refusal_of s h (MapWhole p) = refusal s h (call.map_whole p)
-refusal_of s h (UnmapWhole o p set) = refusal s h (call.unmap_whole p)
-refusal_of s h (MapSub p first count) = refusal s h (call.map_sub p first count)
-refusal_of s h (UnmapSub o p first count set) = refusal s h (call.unmap_sub p first count)
-refusal_of s h (SplitPmd p) = refusal s h (call.split_pmd p)
-refusal_of s h (Pin p) = refusal s h (call.pin p)
-refusal_of s h (Unpin o p set) = refusal s h (call.unpin p)
-refusal_of s h (Write p first count) = refusal s h (call.write p first count)
-refusal_of s h (Zero p first count) = refusal s h (call.zero_fill p first count)
-refusal_of s h Close = refusal s h call.close
-refusal_of s h w = None
 
 -- the same unmap or unpin with this outcome and these frames
 abbrev pub with_outcome : Outcome → List Bool → What → What

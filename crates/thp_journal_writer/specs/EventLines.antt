@@ -1,10 +1,11 @@
 -- Events as lines of a journal (this project's journal format). A line stands here without its line feed.
-use Rattle.std.specs.Prelude.{ℕ, List, [], ◌∷◌, codes}
+use Rattle.std.specs.Prelude.{◌≡◌, ℕ, ◌<◌, ◌^◌, Bool, List, [], ◌∷◌, length, codes, ⊤}
 use Rattle.std.specs.List.{join_with_byte}
 use Rattle.std.specs.Fmt.{decimal}
 use Rattle.thp_model.specs.declared.events.Event.{Event}
 use Rattle.thp_model.specs.declared.events.Outcome.{Outcome}
 use Rattle.thp_model.specs.declared.events.Outcome.TheVariants.{Stays, Queued, Freed}
+use Rattle.thp_model.specs.Limits.{max_subpages}
 use Rattle.thp_model.specs.declared.events.What.{What}
 use Rattle.thp_model.specs.declared.events.What.TheVariants.{Alloc, MapWhole, UnmapWhole, MapSub, UnmapSub, SplitPmd, Pin, Unpin, Write, Zero, Taken, Split, Pinned, Used, Back, Dropped, Close}
 use Rattle.thp_journal_writer.specs.SetTexts.{set_text}
@@ -55,3 +56,31 @@ event_words e = decimal e.caller ∷ what_words e.what
 -- the line of an event
 unfoldable pub event_line : Event → List ℕ
 event_line e = line_of (event_words e)
+
+-- the numbers of a range of subpages fit an operand
+abbrev pub IsSmallRange : ℕ → ℕ → ℕ → Type 0
+IsSmallRange page first count = (page < 2 ^ 64) × (first < 2 ^ 16) × (count < 2 ^ 16)
+
+-- a page's number, and a set of subpages
+abbrev pub IsSmallLoss : ℕ → List Bool → Type 0
+IsSmallLoss page set = (page < 2 ^ 64) × (length set ≡ max_subpages)
+
+-- the numbers of what happened fit the operands of its line
+abbrev pub HasSmallNumbers : What → Type 0
+HasSmallNumbers (Alloc page block) = page < 2 ^ 64
+HasSmallNumbers (MapWhole page) = page < 2 ^ 64
+HasSmallNumbers (UnmapWhole outcome page set) = IsSmallLoss page set
+HasSmallNumbers (MapSub page first count) = IsSmallRange page first count
+HasSmallNumbers (UnmapSub outcome page first count set) = (page < 2 ^ 64) × (first < 2 ^ 16) × (count < 2 ^ 16) × (length set ≡ max_subpages)
+HasSmallNumbers (SplitPmd page) = page < 2 ^ 64
+HasSmallNumbers (Pin page) = page < 2 ^ 64
+HasSmallNumbers (Unpin outcome page set) = IsSmallLoss page set
+HasSmallNumbers (Write page first count) = IsSmallRange page first count
+HasSmallNumbers (Zero page first count) = IsSmallRange page first count
+HasSmallNumbers (Taken page) = page < 2 ^ 64
+HasSmallNumbers (Split page set) = IsSmallLoss page set
+HasSmallNumbers (Pinned page) = page < 2 ^ 64
+HasSmallNumbers (Used page) = page < 2 ^ 64
+HasSmallNumbers (Back page) = page < 2 ^ 64
+HasSmallNumbers (Dropped page) = page < 2 ^ 64
+HasSmallNumbers Close = ⊤

@@ -18,7 +18,7 @@ use Rattle.thp_text.specs.Readings.{◌>>=◌}
 use Rattle.thp_text.specs.Words.{Text, words_of}
 use Rattle.thp_text.proofs.NumberLaws.{number_of-decimal}
 use Rattle.thp_journal_writer.specs.EventLines as written
-use Rattle.thp_journal_writer.specs.EventLines.{event_words, outcome_word, what_words}
+use Rattle.thp_journal_writer.specs.EventLines.{event_words, outcome_word, what_words, HasSmallNumbers}
 use Rattle.thp_journal_writer.specs.SetTexts.{set_text}
 use Rattle.thp_journal_reader.specs.declared.event_word.EventWord.{EventWord}
 use Rattle.thp_journal_reader.specs.declared.event_word.EventWord.TheVariants as word
@@ -35,7 +35,7 @@ use Rattle.thp_journal_reader.specs.EventLines.{caller_number, page_number, rang
 use Rattle.thp_journal_reader.specs.EventWords.{common_word, later_word, event_word, outcome_of, page_what, range_what, loss_what}
 use Rattle.thp_journal_reader.specs.JournalLines as read
 use Rattle.thp_journal_reader.specs.JournalLines.{line_by, by_words}
-use Rattle.thp_laws.specs.Tellable.{HasSmallNumbers, IsOfVersion, IsTellable}
+use Rattle.thp_laws.specs.Tellable.{IsOfVersion, IsTellable}
 use Rattle.thp_laws.proofs.PlainWords.{decimal_plain, is_plain, line_printable, no_number, none_empty, words_back}
 use Rattle.thp_laws.proofs.SetsBack.{set_back, set_plain}
 

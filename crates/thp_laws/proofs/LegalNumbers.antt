@@ -22,7 +22,7 @@ use Rattle.thp_model.proofs.FlightLaws.{left_alone}
 use Rattle.thp_model.proofs.LegalSteps.{legal_take}
 use Rattle.thp_model.proofs.Numbers.{live_below}
 use Rattle.thp_model.proofs.Sizes.{few_subpages}
-use Rattle.thp_laws.specs.Tellable.{HasSmallNumbers}
+use Rattle.thp_journal_writer.specs.EventLines.{HasSmallNumbers}
 
 -- pages are numbered by the events before them
 few_pages : (h : History) → allocations h ≤ length h

@@ -1,5 +1,5 @@
 -- Definitions and tests of one event more, and of one number more.
-use Rattle.std.proofs.Common.{◌≡◌, ℕ, suc, zero, ◌+◌, ◌<◌, Bool, true, false, cond, not, ◌&&◌, ◌||◌, nat_eq, nat_lt, List, map, [], ◌∷◌, ◌++◌, take, drop, length, get_or, set, Option, Some, None, refl, ap, sym, ◌∙◌, arith, inl, inr, ◌≢◌, eq-eqb, lt-ltb, add-one}
+use Rattle.std.proofs.Common.{◌≡◌, ℕ, suc, ◌+◌, ◌<◌, Bool, true, false, cond, not, ◌&&◌, ◌||◌, nat_eq, nat_lt, List, map, [], ◌∷◌, ◌++◌, take, drop, length, get_or, set, Option, Some, None, refl, ap, sym, ◌∙◌, arith, inl, inr, ◌≢◌, eq-eqb, lt-ltb, add-one}
 use Rattle.std.proofs.lemmas.Bool.{le-ltb}
 use Rattle.std.proofs.lemmas.Bool.Decides.{eqb_tells}
 use Rattle.std.proofs.lemmas.Bool.{cases_lt}
@@ -16,7 +16,7 @@ use Rattle.thp_model.specs.History.{History, count_of, some_event}
 use Rattle.thp_model.specs.Counts.{is_mapped, loses_use}
 use Rattle.thp_model.specs.Places.{queue, queue_after, flights, flights_after, is_taking, takes_by}
 use Rattle.thp_model.specs.Refusals.{first_of}
-use Rattle.thp_model.specs.Sets.{set_of, has, some_below, each_below}
+use Rattle.thp_model.specs.Sets.{set_of, some_below, each_below}
 use Rattle.thp_model.specs.Underused.{is_partly_mapped, unmaps_some}
 use Rattle.thp_model.specs.Words.{get_or-set_of, length-set_of}
 use Rattle.thp_model.proofs.Bools.{and-false}

@@ -1,5 +1,5 @@
 -- A range of which an operand was kept in 16 bits is refused as the range itself is.
-use Rattle.std.proofs.Common.{◌≡◌, ℕ, ◌+◌, ◌<◌, ◌≤◌, min, Bool, true, false, not, ◌||◌, cond, nat_eq, nat_lt, Option, Some, None, refl, ap, ap₂, sym, ◌∙◌, arith}
+use Rattle.std.proofs.Common.{◌≡◌, ℕ, ◌+◌, ◌≤◌, min, Bool, true, false, not, ◌||◌, cond, nat_eq, nat_lt, Option, Some, None, refl, ap₂, sym, ◌∙◌, arith}
 use Rattle.std.proofs.lemmas.Bool.Decides.{nat_tests}
 use Rattle.std.specs.Prelude.{Result, OnOk, IfOk, Ok, Err}
 use Rattle.std.specs.Result.{result_err}

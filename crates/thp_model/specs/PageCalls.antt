@@ -1,10 +1,13 @@
 -- What a call asks of one page: the call, its event, and what it does to the page.
-use Rattle.std.specs.Prelude.{ℕ, List, Bool, false, nat_eq}
+use Rattle.std.specs.Prelude.{ℕ, List, Bool, false, nat_eq, Option, None}
 use Rattle.thp_model.specs.declared.events.Outcome.{Outcome}
 use Rattle.thp_model.specs.declared.events.What.{What}
 use Rattle.thp_model.specs.declared.events.What.TheVariants as what
+use Rattle.thp_model.specs.declared.refusal.Refusal.{Refusal}
+use Rattle.thp_model.specs.declared.shape.Shape.{Shape}
+use Rattle.thp_model.specs.History.{History}
 use Rattle.thp_model.specs.Pages.{PageState, WholeMapped, WholeUnmapped, RangeMapped, RangeUnmapped, PmdSplit, Pinned, RangeWritten, RangeZeroed}
-use Rattle.thp_model.specs.Refusals.{Call}
+use Rattle.thp_model.specs.Refusals.{Call, refusal}
 use Rattle.thp_model.specs.Refusals as call
 use Rattle.thp_model.specs.declared.page_call.Gain.{Gain}
 use Rattle.thp_model.specs.declared.page_call.Gain.TheVariants as gain
@@ -83,3 +86,17 @@ is_about p (what.Used q) = false
 is_about p (what.Back q) = false
 is_about p (what.Dropped q) = false
 is_about p what.Close = false
+
+-- the refusal at h of the page call or the close that an event tells
+abbrev pub refusal_of : Shape → History → What → Option Refusal
+refusal_of s h (what.MapWhole p) = refusal s h (call.map_whole p)
+refusal_of s h (what.UnmapWhole o p set) = refusal s h (call.unmap_whole p)
+refusal_of s h (what.MapSub p first count) = refusal s h (call.map_sub p first count)
+refusal_of s h (what.UnmapSub o p first count set) = refusal s h (call.unmap_sub p first count)
+refusal_of s h (what.SplitPmd p) = refusal s h (call.split_pmd p)
+refusal_of s h (what.Pin p) = refusal s h (call.pin p)
+refusal_of s h (what.Unpin o p set) = refusal s h (call.unpin p)
+refusal_of s h (what.Write p first count) = refusal s h (call.write p first count)
+refusal_of s h (what.Zero p first count) = refusal s h (call.zero_fill p first count)
+refusal_of s h what.Close = refusal s h call.close
+refusal_of s h w = None

@@ -7,19 +7,17 @@ ghost use Rattle.thp_model.specs.Limits.{max_order, min_order};
 ghost use Rattle.thp_model.specs.Checks.{Tells};
 ghost use Rattle.thp_model.specs.Legal.{IsLegal};
 
-mod fitting;
 mod frames;
 mod kinds;
 mod pages;
 mod passing;
 mod places;
-mod refusals;
 mod underused;
 
 use crate::check_fault::CheckFault;
 use crate::events::Event;
 use crate::shape::Shape;
-use fitting::fits;
+use kinds::fits;
 use std::alloc::{AllocError, Global};
 
 /// Whether a history is legal on a node of this shape: whether each of its events fits those before it (`IsLegal`). The node

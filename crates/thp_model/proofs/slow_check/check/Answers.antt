@@ -1,4 +1,4 @@
-use Rattle.std.proofs.Common.{ℕ, List, take, ◌+◌, sym, subst}
+use Rattle.std.proofs.Common.{List, take, sym, subst}
 use Rattle.thp_model.specs.declared.events.Event.{Event}
 use Rattle.thp_model.specs.Legal.{IsLegal, FitsBy}
 use Rattle.thp_model.proofs.LegalSteps.{first_misfit, legal_push}

@@ -1,4 +1,4 @@
-use Rattle.std.proofs.Common.{rules, ℕ, Bool, ◌≡◌, ◌&&◌, not, nat_lt, slice_set, true, ap, sym, ◌∙◌, arith, refl}
+use Rattle.std.proofs.Common.{ℕ, Bool, ◌≡◌, ◌&&◌, not, nat_lt, slice_set, true, ap, sym, ◌∙◌, arith}
 use Rattle.thp_model.specs.Frames.{is_held}
 use Rattle.thp_model.specs.Sets.{set_of}
 use Rattle.thp_model.proofs.Asked.{set_more, set_same, set_all}

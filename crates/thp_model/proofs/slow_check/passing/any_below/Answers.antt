@@ -1,5 +1,4 @@
-use Rattle.std.proofs.Common.{◌≡◌, ℕ, Bool, true, false, sym, ◌∙◌, arith, below_more}
-use Rattle.thp_model.specs.Asking.{AsksBelow}
+use Rattle.std.proofs.Common.{◌≡◌, false, sym, ◌∙◌, arith, below_more}
 use Rattle.thp_model.proofs.Below.{some_yes, some_no}
 use Rattle.thp_model.proofs.slow_check.passing.any_below.Goals as goal
 

@@ -1,6 +1,4 @@
-use Rattle.std.proofs.Common.{◌≡◌, Bool, true, false, ◌||◌, take, refl, ap, sym, ◌∙◌, arith}
-use Rattle.thp_model.specs.declared.events.What.{What}
-use Rattle.thp_model.specs.Asking.{AsksEvents}
+use Rattle.std.proofs.Common.{◌≡◌, ◌||◌, refl, ap, sym, ◌∙◌}
 use Rattle.thp_model.specs.History.{some_event}
 use Rattle.thp_model.proofs.Asked.{some_next}
 use Rattle.thp_model.proofs.ListPlaces.{get_at}

@@ -1,7 +1,5 @@
-use Rattle.std.proofs.Common.{◌≡◌, Bool, true, false, cond, take, refl, ap, sym, ◌∙◌, arith}
+use Rattle.std.proofs.Common.{◌≡◌, refl, ap, sym, ◌∙◌, arith}
 use Rattle.std.proofs.lemmas.List.{take_all}
-use Rattle.thp_model.specs.declared.events.What.{What}
-use Rattle.thp_model.specs.Asking.{AsksEvents}
 use Rattle.thp_model.specs.History.{count_of}
 use Rattle.thp_model.proofs.Asked.{count_next}
 use Rattle.thp_model.proofs.Bools.{one_if, none_if}

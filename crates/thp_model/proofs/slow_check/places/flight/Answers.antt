@@ -1,4 +1,4 @@
-use Rattle.std.proofs.Common.{ℕ, Bool, [], ◌∷◌, ◌++◌, cond, nat_eq, take, ap, sym, ◌∙◌, eq-eqb, ne_eqb}
+use Rattle.std.proofs.Common.{[], ◌∷◌, ◌++◌, cond, take, ap, sym, ◌∙◌, eq-eqb, ne_eqb}
 use Rattle.thp_model.proofs.Asked.{flight_next, pages_by}
 use Rattle.thp_model.proofs.ListPlaces.{append_none}
 use Rattle.thp_model.proofs.slow_check.places.flight.Goals as goal

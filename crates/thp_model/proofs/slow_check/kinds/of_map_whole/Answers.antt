@@ -1,0 +1,12 @@
+use Rattle.std.proofs.Common.{rules, ℕ, Bool, nat_eq, ap, ◌∙◌}
+use Rattle.thp_model.specs.Counts.{total}
+use Rattle.thp_model.specs.Refusals.{refusal, most}
+use Rattle.thp_model.specs.Sets.{some_below}
+use Rattle.thp_model.proofs.slow_check.kinds.of_map_whole.Goals as goal
+
+pub returns : goal.returns
+unfolding refusal
+returns c =
+    let test : ℕ → Bool = λ i. nat_eq (total c.args.events.now c.args.page i) most in
+    let full = c.any_below-is_full.ensures test (λ i b below k. search rules) ∙ ap (λ n. some_below n test) c.subpages.ensures in
+    rw (c.no_page.ensures, c.split_page.ensures, full) at c.first_of.ensures

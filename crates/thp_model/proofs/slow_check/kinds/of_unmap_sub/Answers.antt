@@ -1,0 +1,12 @@
+use Rattle.std.proofs.Common.{rules, ℕ, Bool, ◌&&◌, nat_eq, ap, ◌∙◌}
+use Rattle.thp_model.specs.Counts.{own}
+use Rattle.thp_model.specs.Refusals.{refusal}
+use Rattle.thp_model.specs.Sets.{covers, some_below}
+use Rattle.thp_model.proofs.slow_check.kinds.of_unmap_sub.Goals as goal
+
+pub returns : goal.returns
+unfolding refusal
+returns c =
+    let test : ℕ → Bool = λ i. covers c.args.first c.args.count i && nat_eq (own c.args.events.now c.args.page i) 0 in
+    let unmapped = c.any_below-is_unmapped.ensures test (λ i b below k. search rules) ∙ ap (λ n. some_below n test) c.subpages.ensures in
+    rw (c.no_page.ensures, c.bad_range.ensures, unmapped) at c.first_of.ensures

@@ -1,7 +1,0 @@
-use Rattle.std.proofs.Common.{◌≡◌, drop}
-use Rattle.thp_model.specs.Refusals.{first_of}
-use Rattle.thp_model.proofs.slow_check.refusals.first_of.Given as goal
-
--- no reason so far holds
-abbrev pub invariant-loop-reason : goal.invariant-loop-reason
-invariant-loop-reason l = first_of l.reasons ≡ first_of (drop l.reason-index l.reasons)
