@@ -15,7 +15,6 @@ from __future__ import annotations
 import argparse
 import json
 import os
-import random
 import subprocess
 import threading
 import time
@@ -33,7 +32,7 @@ from ..common.kernel_memory import KernelMemory
 from ..common.program import Program
 from .journalist import Journalist, Settings
 from .records import Record, record_from, record_of
-from .tampering import Spoil, tampered
+from .tampering import try_copies
 from .tap import Tap
 
 NAME = "thprecord"
@@ -156,18 +155,6 @@ def judge(text: str, program: Program) -> Tuple[bool, str]:
     return verdict.legal, f"{verdict.text}{line} ({events} events)"
 
 
-def tamper(text: str, program: Program, copies: int) -> None:
-    """Tells how many spoilt copies are illegal."""
-    chance, found, legal = random.Random(1), Tallies(), Tallies()  # type: ignore[var-annotated]
-    for _ in range(copies):
-        spoil, spoilt = tampered(text, chance)
-        if spoilt:
-            found[spoil] += 1
-            legal[spoil] += program.check(spoilt).legal
-    for spoil in Spoil:
-        print(f"{found[spoil] - legal[spoil]:9} of {found[spoil]} copies with {spoil.value} are illegal")
-
-
 def tell(asked: argparse.Namespace, recorder: Recorder, records: List[List[Record]]) -> List[Journalist]:
     """What the records of each group say of each order."""
     out = []
@@ -205,7 +192,7 @@ def one(
     sums["events in journals"] += events_in(text)
     sums["pages"] += pages
     if asked.tamper and legal:
-        tamper(text, program, asked.tamper)
+        try_copies([("the journal", text)], program, asked.tamper, 1)
     return legal and not lost, events_in(text)
 
 

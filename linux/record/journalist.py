@@ -262,7 +262,7 @@ class Journalist:
         if record.values[1] == self._settings.order and record.values[0] == page.folio:
             if self._migrated(record.task, page):
                 return
-            if self._faulted.get(record.task) is page:
+            if self._faulted.get(record.task) is page and not self._is_ending(page):
                 page.lost = NEVER_MAPPED
                 self.seen[f"huge pages given up: {NEVER_MAPPED}"] += 1
                 self._gone(page)

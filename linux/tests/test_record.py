@@ -123,6 +123,12 @@ class ByHandTest(unittest.TestCase):
         self.assertEqual(story.seen["huge pages given up: another thread's fault was first"], 1)
         self.assertEqual(story.seen["queues that differ"], 0)
 
+    def test_a_page_that_its_process_leaves_at_its_end_was_mapped(self) -> None:
+        story = Story()
+        story.add(Kind.FREE, [story.page(0), 9])
+        story.add(Kind.EXIT_MMAP, [SPACE], [])
+        self.assertEqual(story.journal().splitlines()[2:-1], ["0 alloc 0", "0 unmapwhole 0 freed 0-511"])
+
     def test_a_page_unmapped_whole_is_freed(self) -> None:
         story = Story()
         page = story.page(0)
@@ -177,6 +183,13 @@ class StoredTest(unittest.TestCase):
         self.assertEqual((journalist.pages(), journalist.lost_pages()), (61, 1))
         self.assertEqual(verdict(journalist.text()), "legal")
 
+    def test_two_threads_that_move_and_replace_areas(self) -> None:
+        journalist = self.told("areas", True)
+        seen = [journalist.seen[f"map counts {what}"] for what in ("compared", "that differ")]
+        self.assertEqual((journalist.seen["pages whose mapping moved"], *seen), (11, 64, 0))
+        self.assertEqual((journalist.pages(), journalist.lost_pages()), (53, 0))
+        self.assertEqual(verdict(journalist.text()), "legal")
+
     def test_a_recording_is_legal_once_straightened(self) -> None:
         self.assertEqual(verdict(self.stored("one_thread", True)), "legal")
 
@@ -189,9 +202,10 @@ class StoredTest(unittest.TestCase):
     def test_spoilt_copies_are_illegal(self) -> None:
         text, chance, found = self.stored("one_thread", True), random.Random(3), set()
         for _ in range(12):
-            spoil, spoilt = tampered(text, chance)
-            found.add(spoil)
-            self.assertNotEqual(verdict(spoilt), "legal", spoil)
+            copy = tampered(text, chance)
+            assert copy
+            found.add(copy.spoil)
+            self.assertNotEqual(verdict(copy.text), "legal", copy)
         self.assertEqual(found, set(Spoil))
 
 
