@@ -12,8 +12,8 @@ from ..common.subpages import bits_of
 
 @dataclass(eq=False)
 class Mapping:
-    """One address space's mapping of a page: where subpage 0 is, whether by a PMD entry, which subpages, and when it was
-    made there."""
+    """One address space's mapping of a page: where subpage 0 is, whether by a PMD entry, which subpages, and since when
+    it is there."""
 
     base: int
     whole: bool

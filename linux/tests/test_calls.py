@@ -39,6 +39,7 @@ class EffectsTest(unittest.TestCase):
             ((MUNMAP, PLACE, HUGE - 1), 0, [(Does.REMOVES, PLACE, PLACE + HUGE, 0)]),
             ((MMAP, PLACE, BASE), PLACE, [(Does.REMOVES, PLACE, PLACE + BASE, 0)]),
             ((MADVISE, PLACE, BASE, 4), 0, [(Does.EMPTIES, PLACE, PLACE + BASE, 0)]),
+            ((MADVISE, PLACE, BASE, 102), 0, [(Does.EMPTIES, PLACE, PLACE + BASE, 0)]),
             ((MADVISE, PLACE, BASE, 16), 0, [(Does.CUTS, PLACE, PLACE + BASE, 0)]),
             ((MADVISE, PLACE, BASE, 8), 0, [(Does.LOSES, PLACE, PLACE + BASE, 0)]),
             ((MADVISE, PLACE, BASE, 25), 0, []),
@@ -112,7 +113,7 @@ class AreasTest(unittest.TestCase):
 
     def test_a_page_that_moves_to_another_place_loses_its_pmd_entry(self) -> None:
         story = Calls()
-        page = story.page(0)
+        story.page(0)
         story.call((MREMAP, PLACE, HUGE, HUGE), OTHER + BASE, [])
         self.assertEqual(words(told(story))[1:], ["splitpmd 0"])
         story = Calls()

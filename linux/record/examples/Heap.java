@@ -10,10 +10,11 @@ import java.util.Random;
  */
 public class Heap {
     public static void main(String[] words) throws InterruptedException {
-        int seed = Integer.parseInt(words[0]), threads = Integer.parseInt(words[1]), rounds = Integer.parseInt(words[2]);
+        long seed = Long.parseLong(words[0]);
+        int threads = Integer.parseInt(words[1]), rounds = Integer.parseInt(words[2]);
         List<Thread> all = new ArrayList<>();
         for (int number = 0; number < threads; number++) {
-            Random chance = new Random(seed * 1000L + number);
+            Random chance = new Random(seed * 1000 + number);
             all.add(new Thread(() -> work(chance, rounds)));
         }
         all.forEach(Thread::start);
