@@ -69,7 +69,7 @@ class Journalist:
         self._scans: Dict[int, Tuple[Record, List[Optional[Page]]]] = {}
         self._faulted: Dict[int, Page] = {}  # by tasks whose last record was this allocation
         self._joining: Dict[int, Page] = {}  # of these the pages that join the queue at once
-        self._live = self._most = self._now = 0
+        self._live = self._most = self._now = self._teller = 0  # time and task of the record that is being told
         self._is_missing = False  # a scan wasn't followed
         self._scanned_at = 0  # when the last scan that is told had ended
 
@@ -141,7 +141,7 @@ class Journalist:
             Kind.MOVED: self._moved,
         }
         for record in records:
-            self._now = record.time
+            self._now, self._teller = record.time, record.task
             if record.queue is not None and record.time < self._scanned_at:
                 # begun before the end of a scan whose record came first: the copy may show the queue before that
                 record.queue = None
@@ -268,13 +268,17 @@ class Journalist:
                 self._gone(page)
                 return
             page.freed = True
-            if not page.used():  # the last pin went
-                if not page.pins:
-                    self._say(record.task, page, "pin")
-                self._say(record.task, page, "unpin", outcome="freed", given=page.held)
-                self._gone(page)
+            if not page.used():
+                self._last_unpin(record.task, page)
         elif record.values[1] == 0:
             page.freed_frames |= 1 << (record.values[0] - page.folio) // self._settings.page_size
+
+    def _last_unpin(self, task: int, page: Page) -> None:
+        """The last pin of a page that nothing maps any more has gone."""
+        if not page.pins:
+            self._say(task, page, "pin")
+        self._say(task, page, "unpin", outcome="freed", given=page.held)
+        self._gone(page)
 
     def _fork(self, record: Record) -> None:
         parent, child = record.values[:2]
@@ -512,7 +516,10 @@ class Journalist:
                 continue
             running = [asked for asked in self._pending.values() if asked.space in page.maps]
             reaching = self._reaching(page)
-            if reaching:  # a call that still runs has freed it
+            if not page.used():  # its last pin has gone, and the record of its free comes
+                self._last_unpin(self._teller, page)
+                self.seen["pages told before the record of their free"] += 1
+            elif reaching:  # a call that still runs has freed it
                 page.freed = True
                 self._apply_early(reaching[0], page, queue)
             elif not running and not page.freed_frames and self._is_ending(page):

@@ -180,6 +180,17 @@ class RunningTest(unittest.TestCase):
         self.assertEqual(words(journalist)[-2:], ["splitpmd 2", "unmapsub 2 0 8 queued -"])
         self.assertEqual(journalist.lost_pages(), 0)
 
+    def test_a_page_whose_last_pin_goes_before_its_free_is_recorded(self) -> None:
+        story = Calls()
+        page = story.page(0)
+        story.drop(0, 0, 8, [page])
+        story.call((MUNMAP, PLACE, HUGE), 0, [page])  # something holds it
+        story.other(Kind.EXIT, [MADVISE, 0, 0, 0, 0], [])
+        story.add(Kind.FREE, [page, 9])
+        journalist = told(story)
+        self.assertEqual(words(journalist)[3:], ["pin 0", "unmapsub 0 8 504 stays -", "unpin 0 freed 0-511"])
+        self.assertEqual(journalist.lost_pages(), 0)
+
     def test_a_call_that_reaches_no_page_hides_no_queue(self) -> None:
         story = Calls()
         page = story.page(0)
