@@ -262,7 +262,7 @@ class Journalist:
         if record.values[1] == self._settings.order and record.values[0] == page.folio:
             if self._migrated(record.task, page):
                 return
-            if self._faulted.get(record.task) is page and not self._is_ending(page):
+            if self._faulted.get(record.task) is page and page.used() and not self._is_ending(page):
                 page.lost = NEVER_MAPPED
                 self.seen[f"huge pages given up: {NEVER_MAPPED}"] += 1
                 self._gone(page)
@@ -362,8 +362,8 @@ class Journalist:
         low, high = max(effect.start, mapping.base), min(effect.end, mapping.base + page.subpages * BASE)
         if low >= high:
             return 0
-        if effect.does is Does.REMOVES and mapping.since > record.time and not page.freed:
-            return 0  # it stands in an area that was made there once the call had removed the one before
+        if effect.does in (Does.REMOVES, Does.MOVES) and mapping.since > record.time and not page.freed:
+            return 0  # it stands in an area that was made there once the call had taken the one before away
         return bits_of((low - mapping.base) // BASE, (high - low) // BASE)
 
     def _reach(self, record: Record, effect: Effect, page: Page, queue: Optional[List[int]]) -> None:

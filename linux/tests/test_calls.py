@@ -180,6 +180,16 @@ class RunningTest(unittest.TestCase):
         self.assertEqual(words(journalist)[-2:], ["splitpmd 2", "unmapsub 2 0 8 queued -"])
         self.assertEqual(journalist.lost_pages(), 0)
 
+    def test_a_page_that_was_made_where_one_has_moved_away(self) -> None:
+        story = Calls()
+        story.page(0)
+        story.add(Kind.ENTER, [MREMAP, PLACE, HUGE, HUGE])
+        story.other(Kind.FAULT, [PLACE, 6])
+        story.other(Kind.ALLOC, [folio_of(5), 9])
+        story.add(Kind.EXIT, [MREMAP, PLACE, HUGE, HUGE, OTHER], [])
+        story.call((MADVISE, PLACE, 8 * BASE, 4), 0, [folio_of(5)])
+        self.assertEqual(words(told(story))[2:], ["splitpmd 1", "unmapsub 1 0 8 queued -"])
+
     def test_a_page_whose_last_pin_goes_before_its_free_is_recorded(self) -> None:
         story = Calls()
         page = story.page(0)
