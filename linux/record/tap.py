@@ -292,11 +292,12 @@ class Tap:
         return self._keep(self._key(code), self._tracked, -24, -144)
 
     def _alloc(self) -> Assembler:
-        """Huge pages (told by __GFP_NOMEMALLOC) of the group's tasks, and of kernel threads, which may be khugepaged's;
-        and base pages that can be copies."""
+        """Huge pages of the group's tasks, and of kernel threads, which may be khugepaged's; and base pages that can be
+        copies. Huge pages are told by __GFP_NOMEMALLOC, and all but the one of zeros are movable."""
+        huge = self._no_memalloc | self._movable
         code = self._start().load(1, 6, 0).jump("out", "==", 1, 0).load(1, 6, 16)
         code.load(2, 6, 8).jump("small", "==", 2, 0).jump("out", "<", 2, 2)
-        code.bit_and(1, self._no_memalloc).jump("out", "==", 1, 0)
+        code.bit_and(1, huge).jump("out", "!=", 1, huge)
         code.call(Helper.CURRENT_TASK).move(8, 0).move(3, 8).read_kernel(-8, 8, self._mm).load(1, 10, -8)
         code.store(10, -64, 1).jump("kernel", "==", 1, 0)
         self._in_group(code.move(3, 8)).jump("ours")
