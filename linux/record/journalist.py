@@ -337,7 +337,7 @@ class Journalist:
     def _apply(self, record: Record, queue: Optional[List[int]], answer: int = 0) -> None:
         """What a system call did to the pages that it reaches."""
         for effect in effects(record, answer):
-            for page in self._pages_of(record.space):
+            for page in self._pages_in(record.space, effect):
                 self._reach(record, effect, page, queue)
             if effect.does is Does.MOVES:
                 self._remapped.add(record.space)
@@ -352,9 +352,11 @@ class Journalist:
                 self._reach(record, effect, page, queue)
         self.seen["pages told before their call's end"] += 1
 
-    def _pages_of(self, space: int) -> List[Page]:
-        """The pages that an address space maps, by their addresses."""
-        return sorted(self._spaces[space], key=lambda page: page.maps[space].base)
+    def _pages_in(self, space: int, effect: Effect) -> List[Page]:
+        """The pages that an address space maps in a range, by their addresses."""
+        found = [(mapping.base, page) for page, mapping in self._spaces[space].items()
+                 if mapping.base < effect.end and mapping.base + page.subpages * BASE > effect.start]
+        return [page for _, page in sorted(found, key=lambda each: each[0])]
 
     def _reached(self, record: Record, effect: Effect, page: Page) -> int:
         """The subpages of a page in the range of a call of an address space that maps it."""
