@@ -1,6 +1,6 @@
 """Records a memory control group's deferred split queue, writes it as a journal, and lets `thpsplit --check` judge it.
 
-    thprecord [--own THREADS,STEPS,SEED[,zeros][,collapse]]     a workload of its own
+    thprecord [--own THREADS,STEPS,SEED[,zeros][,collapse][,areas]]  a workload of its own
     thprecord --own .. --groups 3 --order 9,4        a workload for each order in each of three control groups
     thprecord -- COMMAND ARGS..                      a command in a control group of its own
 
@@ -15,7 +15,6 @@ from __future__ import annotations
 import argparse
 import json
 import os
-import random
 import subprocess
 import threading
 import time
@@ -32,8 +31,8 @@ from ..common.keeper import Keeper
 from ..common.kernel_memory import KernelMemory
 from ..common.program import Program
 from .journalist import Journalist, Settings
-from .records import Record, record_from
-from .tampering import Spoil, tampered
+from .records import Record, record_from, record_of
+from .tampering import try_copies
 from .tap import Tap
 
 NAME = "thprecord"
@@ -47,7 +46,7 @@ def words() -> argparse.Namespace:
     form = argparse.RawDescriptionHelpFormatter
     parser = argparse.ArgumentParser(prog=NAME, description=__doc__, formatter_class=form)
     parser.add_argument("--program", metavar="PATH", help="the thpsplit that judges")
-    parser.add_argument("--own", default="1,300,1", metavar="THREADS,STEPS,SEED[,zeros][,collapse]")
+    parser.add_argument("--own", default="1,300,1", metavar="THREADS,STEPS,SEED[,WORDS]")
     parser.add_argument("--order", default=str(PMD_ORDER), metavar="LIST", help="the orders of pages that are followed")
     parser.add_argument("--groups", type=int, default=1, metavar="N", help="control groups, each with the workload")
     parser.add_argument("--underused", default="off", help="off, a threshold, or as-is: leave the machine's setting")
@@ -93,7 +92,7 @@ class Recorder:
         """The records of these commands in each group, and how many were lost."""
         taps = [Tap(self._memory, self._memory.group(path), self._asked.orders) for path in self._paths]
         self.lacking = taps[0].lacking
-        records: List[List[Record]] = [[] for _ in taps]
+        records: List[List[bytes]] = [[] for _ in taps]
 
         def take() -> None:
             for own, tap in zip(records, taps):
@@ -115,7 +114,7 @@ class Recorder:
                 self._keeper.disown(child.pid)
             time.sleep(AFTER)
             take()
-            return records, sum(tap.lost() for tap in taps)
+            return [[record_of(raw) for raw in own] for own in records], sum(tap.lost() for tap in taps)
         finally:
             for tap in taps:
                 tap.close()
@@ -156,18 +155,6 @@ def judge(text: str, program: Program) -> Tuple[bool, str]:
     return verdict.legal, f"{verdict.text}{line} ({events} events)"
 
 
-def tamper(text: str, program: Program, copies: int) -> None:
-    """Tells how many spoilt copies are illegal."""
-    chance, found, legal = random.Random(1), Tallies(), Tallies()  # type: ignore[var-annotated]
-    for _ in range(copies):
-        spoil, spoilt = tampered(text, chance)
-        if spoilt:
-            found[spoil] += 1
-            legal[spoil] += program.check(spoilt).legal
-    for spoil in Spoil:
-        print(f"{found[spoil] - legal[spoil]:9} of {found[spoil]} copies with {spoil.value} are illegal")
-
-
 def tell(asked: argparse.Namespace, recorder: Recorder, records: List[List[Record]]) -> List[Journalist]:
     """What the records of each group say of each order."""
     out = []
@@ -205,7 +192,7 @@ def one(
     sums["events in journals"] += events_in(text)
     sums["pages"] += pages
     if asked.tamper and legal:
-        tamper(text, program, asked.tamper)
+        try_copies([("the journal", text)], program, asked.tamper, 1)
     return legal and not lost, events_in(text)
 
 
@@ -219,8 +206,8 @@ def orders_of(text: str) -> List[int]:
 
 def record(asked: argparse.Namespace) -> int:
     own = asked.own.split(",")
-    if len(own) < 3 or not all(word.isdigit() for word in own[:3]) or not {*own[3:]} <= {"zeros", "collapse"}:
-        raise InputFault("--own wants THREADS,STEPS,SEED, and perhaps zeros and collapse")
+    if len(own) < 3 or not all(word.isdigit() for word in own[:3]) or not {*own[3:]} <= {"zeros", "collapse", "areas"}:
+        raise InputFault("--own wants THREADS,STEPS,SEED, and perhaps zeros, collapse and areas")
     if asked.underused not in ("off", "as-is") and not asked.underused.isdigit():
         raise InputFault("--underused wants off, a number, or as-is")
     asked.orders = orders_of(asked.order)

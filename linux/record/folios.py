@@ -12,11 +12,13 @@ from ..common.subpages import bits_of
 
 @dataclass(eq=False)
 class Mapping:
-    """One address space's mapping of a page: where subpage 0 is, whether by a PMD entry, and which subpages."""
+    """One address space's mapping of a page: where subpage 0 is, whether by a PMD entry, which subpages, and since when
+    it is there."""
 
     base: int
     whole: bool
     bits: int
+    since: int = 0
 
 
 @dataclass(eq=False)

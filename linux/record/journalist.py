@@ -17,15 +17,11 @@ from typing import Callable, Dict, Iterator, List, Optional, Set, Tuple
 from ..common.files import BASE, PMD_ORDER
 from ..common.journal import Event, NodeJournal, journal_text
 from ..common.subpages import bits_of, runs, size
+from .calls import COLLAPSE, MADV_COLLAPSE, MADVISE, TAKING, Does, Effect, effects, has_succeeded
 from .folios import Line, Mapping, Page
 from .records import Kind, Record, lines_with_ends
-from .tap import MADVISE, MPROTECT, MREMAP, MUNMAP
 
-DONTNEED = 4
-CUTTING = (10, 11, 12, 13, 14, 15, 16, 17, 18, 19)  # advice that cuts an area in two
-LOSING = (8, 9, 20, 21)  # MADV_FREE and its like: not followed
-MADV_COLLAPSE = 25
-COLLAPSE = -1  # in the place of a call's number: a collapse takes all mappings of a region away, and makes a page there
+NEVER_MAPPED = "another thread's fault was first"  # why such a page isn't told; it counts as none
 BATCH = 128  # pages that a scan takes at most
 MOST_BLOCKS, CALLERS = 4096, 64
 WRITTEN = 3  # bits of a fault's error code: present, written
@@ -71,8 +67,9 @@ class Journalist:
         self._ends: Dict[int, List[Record]] = defaultdict(list)  # of address spaces, the next one first
         self._remapped: Set[int] = set()  # address spaces in which mremap moved an area
         self._scans: Dict[int, Tuple[Record, List[Optional[Page]]]] = {}
-        self._joining: Dict[int, Page] = {}
-        self._live = self._most = self._now = 0
+        self._faulted: Dict[int, Page] = {}  # by tasks whose last record was this allocation
+        self._joining: Dict[int, Page] = {}  # of these the pages that join the queue at once
+        self._live = self._most = self._now = self._teller = 0  # time and task of the record that is being told
         self._is_missing = False  # a scan wasn't followed
         self._scanned_at = 0  # when the last scan that is told had ended
 
@@ -91,10 +88,10 @@ class Journalist:
         return NodeJournal(blocks, self._settings.order, self._settings.threshold, events)
 
     def lost_pages(self) -> int:
-        return sum(bool(page.lost) for page in self._pages)
+        return sum(page.lost not in ("", NEVER_MAPPED) for page in self._pages)
 
     def pages(self) -> int:
-        return len(self._pages)
+        return sum(page.lost != NEVER_MAPPED for page in self._pages)
 
     # small steps
 
@@ -144,13 +141,14 @@ class Journalist:
             Kind.MOVED: self._moved,
         }
         for record in records:
-            self._now = record.time
+            self._now, self._teller = record.time, record.task
             if record.queue is not None and record.time < self._scanned_at:
                 # begun before the end of a scan whose record came first: the copy may show the queue before that
                 record.queue = None
                 self.seen["copies begun before the end of a scan, not used"] += 1
             if record.kind is not Kind.FREE:  # an interrupt frees in any task's name
                 self._joining.pop(record.task, None)
+                self._faulted.pop(record.task, None)
             if not record.done:
                 steps[record.kind](record)
 
@@ -178,6 +176,7 @@ class Journalist:
             self.seen["collapses that failed" if fails else "allocations without a fault, not followed"] += 1
             return
         page = self._new(record.task, record.space, folio, fault.values[0])
+        self._faulted[record.task] = page
         if page in self._queue:
             self._joining[record.task] = page  # it joins between this record and the task's next one
 
@@ -187,7 +186,8 @@ class Journalist:
         self._pages.append(page)
         self._at[folio] = page
         length = BASE << self._settings.order
-        page.maps[space] = self._spaces[space][page] = Mapping(address // length * length, True, page.every)
+        mapping = Mapping(address // length * length, True, page.every, self._now)
+        page.maps[space] = self._spaces[space][page] = mapping
         self._live += 1
         self._most = max(self._most, self._live)
         self._say(task, page, "alloc")
@@ -262,21 +262,30 @@ class Journalist:
         if record.values[1] == self._settings.order and record.values[0] == page.folio:
             if self._migrated(record.task, page):
                 return
-            page.freed = True
-            if not page.used():  # the last pin went
-                if not page.pins:
-                    self._say(record.task, page, "pin")
-                self._say(record.task, page, "unpin", outcome="freed", given=page.held)
+            if self._faulted.get(record.task) is page and page.used() and not self._is_ending(page):
+                page.lost = NEVER_MAPPED
+                self.seen[f"huge pages given up: {NEVER_MAPPED}"] += 1
                 self._gone(page)
+                return
+            page.freed = True
+            if not page.used():
+                self._last_unpin(record.task, page)
         elif record.values[1] == 0:
             page.freed_frames |= 1 << (record.values[0] - page.folio) // self._settings.page_size
+
+    def _last_unpin(self, task: int, page: Page) -> None:
+        """The last pin of a page that nothing maps any more has gone."""
+        if not page.pins:
+            self._say(task, page, "pin")
+        self._say(task, page, "unpin", outcome="freed", given=page.held)
+        self._gone(page)
 
     def _fork(self, record: Record) -> None:
         parent, child = record.values[:2]
         if parent == child:
             return
         for page, mapping in list(self._spaces[parent].items()):
-            copy = page.maps[child] = self._spaces[child][page] = Mapping(mapping.base, mapping.whole, mapping.bits)
+            copy = page.maps[child] = self._spaces[child][page] = replace(mapping, since=self._now)
             if mapping.whole:
                 page.whole += 1
                 self._say(record.task, page, "mapwhole")
@@ -288,12 +297,12 @@ class Journalist:
                     page.own[i] += 1
 
     def _exit(self, record: Record) -> None:
-        call, done = (record.task, Kind.ENTER), record.values[4] == 0
-        if call in self._pending and done:
+        asked, answer = self._pending.get((record.task, Kind.ENTER)), record.values[4]
+        if asked and has_succeeded(asked, answer):
             self._end_scans_before(record.queue)
-        asked = self._pending.pop(call, None)
-        if asked and done:
-            self._apply(asked, record.queue)
+            del self._pending[record.task, Kind.ENTER]
+            self._apply(asked, record.queue, answer)
+        self._pending.pop((record.task, Kind.ENTER), None)
         self._compare(record)
         self._agree(record.queue)
 
@@ -325,26 +334,64 @@ class Journalist:
 
     # system calls
 
-    def _apply(self, record: Record, queue: Optional[List[int]]) -> None:
+    def _apply(self, record: Record, queue: Optional[List[int]], answer: int = 0) -> None:
         """What a system call did to the pages that it reaches."""
-        number, start, length, advice = record.values[:4]
-        end = start + (length + BASE - 1) // BASE * BASE
-        for page, mapping in sorted(self._spaces[record.space].items(), key=lambda each: each[1].base):
-            low, high = max(start, mapping.base), min(end, mapping.base + page.subpages * BASE)
-            if low >= high:
-                continue
-            bits = bits_of((low - mapping.base) // BASE, (high - low) // BASE)
-            page.changed = self._now
-            if number in (MUNMAP, COLLAPSE) or (number == MADVISE and advice == DONTNEED):
-                self._unmap(record, page, mapping, bits, queue)
-            elif number == MREMAP or (number == MADVISE and advice in LOSING):
-                self._lose(page, "mremap, or advice that isn't followed")
-            elif mapping.whole and bits != page.every and (number == MPROTECT or advice in CUTTING):
-                self._split_pmd(record, page, mapping)
-        if number == COLLAPSE:
+        for effect in effects(record, answer):
+            for page in self._pages_in(record.space, effect):
+                self._reach(record, effect, page, queue)
+            if effect.does is Does.MOVES:
+                self._remapped.add(record.space)
+        if record.values[0] == COLLAPSE:
             self._collapse(record)
-        elif number == MREMAP:
-            self._remapped.add(record.space)
+
+    def _apply_early(self, record: Record, page: Page, queue: Optional[List[int]]) -> None:
+        """What a call that still runs has done to one page. The others that it reaches are told at its end, or once
+        something shows them."""
+        for effect in effects(record):
+            if effect.does in TAKING and record.space in page.maps:
+                self._reach(record, effect, page, queue)
+        self.seen["pages told before their call's end"] += 1
+
+    def _pages_in(self, space: int, effect: Effect) -> List[Page]:
+        """The pages that an address space maps in a range, by their addresses."""
+        found = [(mapping.base, page) for page, mapping in self._spaces[space].items()
+                 if mapping.base < effect.end and mapping.base + page.subpages * BASE > effect.start]
+        return [page for _, page in sorted(found, key=lambda each: each[0])]
+
+    def _reached(self, record: Record, effect: Effect, page: Page) -> int:
+        """The subpages of a page in the range of a call of an address space that maps it."""
+        mapping = page.maps[record.space]
+        low, high = max(effect.start, mapping.base), min(effect.end, mapping.base + page.subpages * BASE)
+        if low >= high:
+            return 0
+        if effect.does in (Does.REMOVES, Does.MOVES) and mapping.since > record.time and not page.freed:
+            return 0  # it stands in an area that was made there once the call had taken the one before away
+        return bits_of((low - mapping.base) // BASE, (high - low) // BASE)
+
+    def _reach(self, record: Record, effect: Effect, page: Page, queue: Optional[List[int]]) -> None:
+        """What a call does to one page."""
+        mapping, bits = page.maps[record.space], self._reached(record, effect, page)
+        if not bits:
+            return
+        page.changed = self._now
+        if effect.does in TAKING:
+            self._unmap(record, page, mapping, bits, queue)
+        elif effect.does is Does.LOSES:
+            self._lose(page, "advice that isn't followed")
+        elif effect.does is Does.MOVES:
+            self._move(record, page, mapping, bits, effect.by)
+        elif mapping.whole and bits != page.every:
+            self._split_pmd(record, page, mapping)
+
+    def _move(self, record: Record, page: Page, mapping: Mapping, bits: int, by: int) -> None:
+        """Mappings go elsewhere in their address space. One by a PMD entry stays one where both places are aligned to
+        it (mm/mremap.c: move_page_tables)."""
+        if mapping.bits & ~bits:
+            self._lose(page, "a part of it moved (mremap)")
+        if mapping.whole and page.subpages == 1 << PMD_ORDER and by % (BASE << PMD_ORDER):
+            self._split_pmd(record, page, mapping)
+        mapping.base, mapping.since = mapping.base + by, self._now
+        self.seen["pages whose mapping moved"] += 1
 
     def _split_pmd(self, record: Record, page: Page, mapping: Mapping) -> None:
         mapping.whole = False
@@ -359,7 +406,7 @@ class Journalist:
         if not mapping.whole or bits != page.every:
             if mapping.whole:
                 self._split_pmd(record, page, mapping)
-            steps = list(runs(mapping.bits & bits))
+            steps = list(self._parts(page, mapping, mapping.bits & bits))
         for step in steps:
             before = page.used()
             if step is None:
@@ -381,6 +428,12 @@ class Journalist:
             for space in [space for space, other in page.maps.items() if other is mapping]:
                 del page.maps[space]
                 self._spaces[space].pop(page, None)
+
+    def _parts(self, page: Page, mapping: Mapping, bits: int) -> Iterator[Tuple[int, int]]:
+        """The runs that the kernel unmaps one by one: a page that was moved may lie in two page tables."""
+        border = -mapping.base // BASE % (1 << PMD_ORDER)
+        yield from runs(bits & bits_of(0, border))
+        yield from runs(bits & ~bits_of(0, border))
 
     def _outcome(
         self, record: Record, page: Page, before: int, queue: Optional[List[int]], last: bool
@@ -463,12 +516,14 @@ class Journalist:
         for page in list(self._queue):
             if page.folio in queue or page in self._joining.values() or page not in self._queue:
                 continue
-            running = [key for key, asked in self._pending.items() if asked.space in page.maps]
-            reaching = [key for key in running if self._reaches(self._pending[key], page)]
-            if reaching:  # a call that still runs has freed it
+            running = [asked for asked in self._pending.values() if asked.space in page.maps]
+            reaching = self._reaching(page)
+            if not page.used():  # its last pin has gone, and the record of its free comes
+                self._last_unpin(self._teller, page)
+                self.seen["pages told before the record of their free"] += 1
+            elif reaching:  # a call that still runs has freed it
                 page.freed = True
-                self._apply(self._pending.pop(reaching[0]), queue)
-                self.seen["calls told before their end"] += 1
+                self._apply_early(reaching[0], page, queue)
             elif not running and not page.freed_frames and self._is_ending(page):
                 page.freed = True
                 for space, mapping in list(page.maps.items()):
@@ -485,7 +540,7 @@ class Journalist:
                     told.append(page)
         found = [self._at.get(folio) for folio in queue]
         self._reorder([page for page in found if page and page in self._queue])
-        if not self._pending:
+        if not self._is_changing():
             skip = set(self._joining.values())
             mine = [page for page in self._queue if not page.lost and page not in skip]
             kernels = [page for page in found if page and not page.lost and page not in skip]
@@ -503,12 +558,19 @@ class Journalist:
         return "split by a migration (M)" if page.freed_frames else "a collapse (K) that isn't told, perhaps"
 
     def _reaches(self, asked: Record, page: Page) -> bool:
-        """Whether a call takes mappings of a page away."""
-        number, start, length, advice = asked.values[:4]
-        mapping = page.maps[asked.space]
-        first, end = mapping.base, mapping.base + page.subpages * BASE
-        takes = number in (MUNMAP, COLLAPSE) or (number == MADVISE and advice == DONTNEED)
-        return takes and start < end and start + length > first
+        """Whether a call that still runs takes mappings of a page away, which weren't told early."""
+        mapping = page.maps.get(asked.space)
+        taking = [effect for effect in effects(asked) if effect.does in TAKING]
+        return mapping is not None and any(self._reached(asked, each, page) & mapping.bits for each in taking)
+
+    def _reaching(self, page: Page) -> List[Record]:
+        """The calls that still run and take mappings of a page away."""
+        return [asked for asked in self._pending.values() if self._reaches(asked, page)]
+
+    def _is_changing(self) -> bool:
+        """Whether something that still runs may change the queue in a way not yet told."""
+        return any(asked.kind is Kind.COLLAPSED or any(self._reaches(asked, page) for page in self._spaces[asked.space])
+                   for asked in self._pending.values())
 
     def _tell_early(self, queue: List[int]) -> None:
         told = {page.folio for page in self._queue}
@@ -516,16 +578,14 @@ class Journalist:
         for folio in queue:
             if folio in made and made[folio] in self._pending:
                 self._apply(self._pending.pop(made[folio]), queue)
-                self.seen["calls told before their end"] += 1
+                self.seen["collapses told before their end"] += 1
                 continue
             page = self._at.get(folio)
             if not page or folio in told:
                 continue
-            for key, asked in list(self._pending.items()):
-                if page in self._spaces[asked.space] and page not in self._queue and key in self._pending:
-                    del self._pending[key]
-                    self._apply(asked, queue)
-                    self.seen["calls told before their end"] += 1
+            for asked in self._reaching(page):
+                if page not in self._queue:
+                    self._apply_early(asked, page, queue)
             if page not in self._queue and page.live:
                 self._lose(page, "queued for no reason seen")
 
@@ -632,11 +692,10 @@ class Journalist:
 
     def _freed_by_now(self, folios: List[Optional[Page]], queue: Optional[List[int]]) -> None:
         """A page that was freed while the scan ran: where nothing told so yet, a call that still runs did it."""
-        for page in folios:
-            for key, asked in list(self._pending.items()):
-                if page and page.live and page.freed and asked.space in page.maps and self._reaches(asked, page):
-                    self._apply(self._pending.pop(key), queue)
-                    self.seen["calls told before their end"] += 1
+        for page in [page for page in folios if page and page.freed]:
+            for asked in self._reaching(page):
+                if page.live:
+                    self._apply_early(asked, page, queue)
 
     def _joined_by_now(self, folios: List[Optional[Page]], queue: List[int]) -> None:
         """Pages that stand before what the scan put back joined before it did so, by calls that still run."""
@@ -646,10 +705,9 @@ class Journalist:
     def _partly_by_now(self, page: Page, queue: Optional[List[int]]) -> None:
         """A page that is put back, or split with too few zeros, is partly mapped: where nothing told so yet, a call
         that still runs did it."""
-        for key, asked in list(self._pending.items()):
-            if not page.partly and asked.space in page.maps and self._reaches(asked, page):
-                self._apply(self._pending.pop(key), queue)
-                self.seen["calls told before their end"] += 1
+        for asked in self._reaching(page):
+            if not page.partly:
+                self._apply_early(asked, page, queue)
 
     def _is_too_full(self, page: Page) -> bool:
         """Whether what a split gave back is too little for an underused page."""

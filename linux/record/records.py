@@ -16,8 +16,8 @@ _HEAD = struct.Struct("<16Q")  # kind, time, tid and tgid, mm, nine values, leng
 class Kind(enum.IntEnum):
     """What a record tells; its values in brackets."""
 
-    ENTER = 0  # a system call begins (number, address, length, advice)
-    EXIT = 1  # it ends (the same, its result, and of the page at its address the folio and its map counts: `Counts`)
+    ENTER = 0  # a system call begins (number, three arguments, program break)
+    EXIT = 1  # it ends (number, arguments, answer, and of the page at the first one the folio and map counts: `Counts`)
     FAULT = 2  # a page fault (address, error code)
     ALLOC = 3  # a huge page is allocated (folio, order)
     FREE = 4  # a page is freed in a block where a huge page was made (folio, order)

@@ -1,18 +1,42 @@
-"""Spoilt copies of a journal, to see whether the check tells them."""
+"""Spoilt copies of journals, to see whether the check tells them.
+
+    python3 -m linux.record.tampering [--copies N] [--seed S] [--program PATH] JOURNAL..
+
+In each copy of a journal, which is chosen by the seed, an event of the queue is left out or doubled, or two neighbours
+are exchanged. Prints how many are illegal, and where one is legal what was spoilt.
+Status 0: at least 99 % are illegal; 1: fewer; 2: a fault in the words; 77: nothing could be spoilt.
+"""
 
 from __future__ import annotations
 
+import argparse
 import enum
 import random
-from typing import List, Tuple
+from collections import Counter as Tallies
+from dataclasses import dataclass
+from typing import Dict, List, NoReturn, Optional, Sequence, Tuple
+
+from ..common.errors import DIFFERS, DONE, SKIPPED, run_tool
+from ..common.files import read
+from ..common.program import Program
 
 QUEUE_WORDS = ("taken", "split", "back", "queued")
+NEEDED = 0.99  # of the copies are to be illegal
 
 
 class Spoil(enum.Enum):
     EXCHANGED = "two neighbouring events exchanged"
     LEFT_OUT = "an event left out"
     DOUBLED = "an event doubled"
+
+
+@dataclass(frozen=True)
+class Copy:
+    """A spoilt copy, and the line (from 1) at which it differs first."""
+
+    spoil: Spoil
+    line: int
+    text: str
 
 
 def _word(line: str) -> str:
@@ -30,13 +54,13 @@ def places(lines: List[str], spoil: Spoil) -> List[int]:
     return out
 
 
-def tampered(text: str, chance: random.Random) -> Tuple[Spoil, str]:
-    """A copy with one event of the queue spoilt; an empty text where none can be spoilt so."""
+def tampered(text: str, chance: random.Random) -> Optional[Copy]:
+    """A copy with one event of the queue spoilt; none where none can be spoilt so."""
     lines = text.split("\n")
     spoil = chance.choice(list(Spoil))
     found = places(lines, spoil)
     if not found:
-        return spoil, ""
+        return None
     at = chance.choice(found)
     if spoil is Spoil.EXCHANGED:
         lines[at], lines[at + 1] = lines[at + 1], lines[at]
@@ -44,4 +68,50 @@ def tampered(text: str, chance: random.Random) -> Tuple[Spoil, str]:
         del lines[at]
     else:
         lines.insert(at, lines[at])
-    return spoil, "\n".join(lines)
+    return Copy(spoil, at + 1, "\n".join(lines))
+
+
+def try_copies(journals: Sequence[Tuple[str, str]], program: Program, copies: int, seed: int) -> Tuple[int, int]:
+    """Judges copies of journals, which have names, and tells what was found: how many copies, how many illegal."""
+    chance = random.Random(seed)
+    made: Dict[Spoil, int] = Tallies()
+    illegal: Dict[Spoil, int] = Tallies()
+    for _ in range(copies):
+        name, text = chance.choice(journals)
+        copy = tampered(text, chance)
+        if not copy:
+            continue
+        made[copy.spoil] += 1
+        if program.check(copy.text).legal:
+            print(f"legal: {name} with {copy.spoil.value} at line {copy.line}: {text.splitlines()[copy.line - 1]}")
+        else:
+            illegal[copy.spoil] += 1
+    for spoil in Spoil:
+        print(f"{illegal[spoil]:9} of {made[spoil]} copies with {spoil.value} are illegal")
+    return sum(made.values()), sum(illegal.values())
+
+
+def words() -> argparse.Namespace:
+    form = argparse.RawDescriptionHelpFormatter
+    parser = argparse.ArgumentParser(prog="tampering", description=__doc__, formatter_class=form)
+    parser.add_argument("--program", metavar="PATH", help="the thpsplit that judges")
+    parser.add_argument("--copies", type=int, default=200, metavar="N")
+    parser.add_argument("--seed", type=int, default=1, metavar="S")
+    parser.add_argument("journals", nargs="+", metavar="JOURNAL")
+    return parser.parse_args()
+
+
+def run(asked: argparse.Namespace) -> int:
+    journals = [(path, read(path)) for path in asked.journals]
+    made, illegal = try_copies(journals, Program(asked.program), asked.copies, asked.seed)
+    if not made:
+        return SKIPPED
+    return DONE if illegal >= NEEDED * made else DIFFERS
+
+
+def start() -> NoReturn:
+    run_tool("tampering", lambda: run(words()))
+
+
+if __name__ == "__main__":
+    start()

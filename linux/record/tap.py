@@ -16,14 +16,14 @@ from ..common.btf import Missing
 from ..common.errors import Unavailable
 from ..common.files import PMD_ORDER
 from ..common.kernel_memory import KernelMemory, symbols
-from .records import COUNT_AT, FOLIOS_AT, QUEUE_MOST, SIZE, VALUES_AT, Kind, Record, record_of
+from .calls import BRK, ERRORS, MADVISE, MAP_FIXED, MAP_FIXED_NOREPLACE, MMAP, MPROTECT, MREMAP, MUNMAP
+from .records import COUNT_AT, FOLIOS_AT, QUEUE_MOST, SIZE, VALUES_AT, Kind
 
 RING = 1 << 26  # bytes of the ring buffer
 LENGTH_AT = 104
 TRIES = 3  # of sending a record, of copying a queue
 HOMES = 65536  # pages whose places are known
 SEEN_FREED = 64  # bytes with a bit for each frame of a block, set once its free was recorded
-MUNMAP, MPROTECT, MREMAP, MADVISE = 11, 10, 25, 28  # system calls of x86-64
 BASE_BITS, FRAME_END = 12, 52  # the bits of an entry that say the frame (arch/x86/include/asm/pgtable_types.h)
 FLAGS = 7  # low bits of memcg_data (include/linux/memcontrol.h)
 _HEAD_PAGE = mmap.PAGESIZE
@@ -38,10 +38,12 @@ class Tap:
         self.lacking: List[str] = []
         field = memory.types.offset
         self._mm = field("task_struct", "mm", "pointer")
+        self._break = field("mm_struct", "brk", size=8)
         self._tgid = field("task_struct", "tgid", size=4)
         self._scan_objects = field("shrinker", "scan_objects", "pointer")
         self._scanned_group = field("shrink_control", "memcg", "pointer")
         self._registers = [field("pt_regs", name, size=8) for name in ("orig_ax", "di", "si", "dx")]
+        self._flags = field("pt_regs", "r10", size=8)  # of mmap
         self._no_memalloc = 1 << memory.types.enumerator("___GFP_NOMEMALLOC_BIT")
         self._movable = 1 << memory.types.enumerator("___GFP_MOVABLE_BIT")
         self._page_size = memory.types.struct_size("page")
@@ -94,9 +96,9 @@ class Tap:
         """How many records found no room."""
         return struct.unpack("<Q", self._losses[:8])[0]
 
-    def read(self) -> List[Record]:
-        """The records since the last call."""
-        out: List[Record] = []
+    def read(self) -> List[bytes]:
+        """The records since the last call, as bytes: taking them must not be slower than their making."""
+        out: List[bytes] = []
         done, end = struct.unpack_from("<Q", self._consumer)[0], struct.unpack_from("<Q", self._data)[0]
         while done < end:
             head = struct.unpack_from("<I", self._data, _HEAD_PAGE + done % RING)[0]
@@ -105,7 +107,7 @@ class Tap:
             size = head & _LENGTH
             if not head & _DISCARDED:
                 at = _HEAD_PAGE + done % RING + 8
-                out.append(record_of(self._data[at : at + size]))
+                out.append(self._data[at : at + size])
             done += (size + 8 + 7) & ~7
         struct.pack_into("<Q", self._consumer, 0, done)
         return out
@@ -207,9 +209,13 @@ class Tap:
     # the programs
 
     def _some_calls(self, code: Assembler) -> Assembler:
-        for number in (MUNMAP, MPROTECT, MREMAP, MADVISE):
+        """Goes on only for calls that may change mappings; of mmap, those that replace what is there."""
+        for number in (MUNMAP, MPROTECT, MREMAP, MADVISE, BRK):
             code.jump("asked", "==", 1, number)
-        return code.jump("out").label("asked")
+        code.jump("out", "!=", 1, MMAP)
+        self._through(0, self._flags)(code)
+        code.bit_and(1, MAP_FIXED | MAP_FIXED_NOREPLACE).jump("out", "!=", 1, MAP_FIXED)
+        return code.label("asked")
 
     def _asked(self) -> List[Tuple[int, Value]]:
         return [(i, self._through(0, offset)) for i, offset in enumerate(self._registers)]
@@ -217,7 +223,12 @@ class Tap:
     def _sys_enter(self) -> Assembler:
         """A call's allocations aren't those of the task's last fault: that is forgotten."""
         code = self._task_key(self._own_only(self._some_calls(self._start().load(1, 6, 8)))).store_number(10, -48, 0)
-        return self._short(self._record(self._keep(code, self._faulting, -40, -48), Kind.ENTER, self._asked()))
+        self._record(self._keep(code, self._faulting, -40, -48), Kind.ENTER, [*self._asked(), (4, self._program_break)])
+        return self._short(code)
+
+    def _program_break(self, code: Assembler) -> None:
+        """The program break of the space that the record names."""
+        code.store_number(10, -16, 0).load(3, 7, 24).read_kernel(-16, 8, self._break).load(1, 10, -16)
 
     def _sys_exit(self) -> Assembler:
         code = self._start()
@@ -247,7 +258,17 @@ class Tap:
         code.store_number(10, -16, 0).move(3, 8).read_kernel(-16, 8, flags).load(1, 10, -16)
         code.shift_right(1, head).bit_and(1, 1).jump("homeless", "!=", 1, 0)
         code.set(1, 1).store(7, VALUES_AT + 8 * 8 + 4, 1, 4)  # it is split: what stands there are no counts
-        return code.label("homeless")
+        return self._new_home(code.label("homeless"))
+
+    def _new_home(self, code: Assembler) -> Assembler:
+        """Keeps where mremap has moved the page: in one block of its order, or in two."""
+        code.load(1, 7, VALUES_AT).jump("at home", "!=", 1, MREMAP)
+        code.load(1, 7, VALUES_AT + 8 * 5).jump("at home", "==", 1, 0)
+        code.store(10, -72, 1).load(1, 7, VALUES_AT + 8 * 4).jump("at home", ">=", 1, -ERRORS)
+        code.load(2, 10, -56).bit_and(2, 15).move(3, 2).add(3, BASE_BITS).shift_right_register(1, 3)
+        code.shift_left(1, 4).add_register(1, 2).store(10, -56, 1)
+        self._keep(code, self._homes, -64, -72).load(1, 10, -56).add(1, 16).store(10, -56, 1)
+        return self._keep(code, self._homes, -64, -72).label("at home")
 
     def _map_counts(self) -> List[int]:
         """Where struct folio counts mappings: all, those by PMD entries, subpages that PTEs map."""
@@ -271,11 +292,12 @@ class Tap:
         return self._keep(self._key(code), self._tracked, -24, -144)
 
     def _alloc(self) -> Assembler:
-        """Huge pages (told by __GFP_NOMEMALLOC) of the group's tasks, and of kernel threads, which may be khugepaged's;
-        and base pages that can be copies."""
+        """Huge pages of the group's tasks, and of kernel threads, which may be khugepaged's; and base pages that can be
+        copies. Huge pages are told by __GFP_NOMEMALLOC, and all but the one of zeros are movable."""
+        huge = self._no_memalloc | self._movable
         code = self._start().load(1, 6, 0).jump("out", "==", 1, 0).load(1, 6, 16)
         code.load(2, 6, 8).jump("small", "==", 2, 0).jump("out", "<", 2, 2)
-        code.bit_and(1, self._no_memalloc).jump("out", "==", 1, 0)
+        code.bit_and(1, huge).jump("out", "!=", 1, huge)
         code.call(Helper.CURRENT_TASK).move(8, 0).move(3, 8).read_kernel(-8, 8, self._mm).load(1, 10, -8)
         code.store(10, -64, 1).jump("kernel", "==", 1, 0)
         self._in_group(code.move(3, 8)).jump("ours")

@@ -1,10 +1,12 @@
 /* Threads that make, divide and drop huge pages: something for the recorder to see.
  *
- *   workload THREADS STEPS SEED ORDER [zeros] [collapse]
+ *   workload THREADS STEPS SEED ORDER [zeros] [collapse] [areas]
  *
  * Each thread has a few places. In each step it makes a page in an empty place, or drops a part of a page, splits its
  * PMD entry, unmaps it, pins or unpins it, has a child drop a part (with one thread), or sleeps. `zeros`: most subpages
- * of a page stay zero-filled; `collapse`: it also asks for collapses.
+ * of a page stay zero-filled; `collapse`: it also asks for collapses; `areas`: it also replaces a part of a page by a
+ * new area, moves a page, makes its area shorter and long again, unmaps several pages at once, and (with one thread)
+ * has a page below the program break.
  */
 #define _GNU_SOURCE
 #include <fcntl.h>
@@ -16,13 +18,13 @@
 #include <sys/wait.h>
 #include <unistd.h>
 
-enum { BASE = 4096, PLACES = 6, MOST_THREADS = 64, STEPS = 12 };
+enum { BASE = 4096, PLACES = 6, MOST_THREADS = 64, STEPS = 12, COLLAPSES = 2, AREAS = 5, ROW = 4 };
 
 #ifndef MADV_COLLAPSE
 #define MADV_COLLAPSE 25
 #endif
 
-static int threads, steps, seed, order, zeros, collapse;
+static int threads, steps, seed, order, zeros, collapse, areas;
 
 struct place {
     unsigned char *page;
@@ -55,6 +57,13 @@ static void unpin(struct place *place)
     place->pin = -1;
 }
 
+static void drop(struct place *place, size_t length)
+{
+    munmap(place->page, length);
+    unpin(place);
+    place->page = NULL;
+}
+
 static void pin(struct place *place, struct range range)
 {
     int ends[2];
@@ -81,6 +90,55 @@ static void in_a_child(struct place *place, struct range range)
     waitpid(child, NULL, 0);
 }
 
+static void replace(struct place *place, struct range range)
+{
+    void *at = place->page + range.first;
+    if (mmap(at, range.length, PROT_READ | PROT_WRITE, MAP_PRIVATE | MAP_ANONYMOUS | MAP_FIXED, -1, 0) == MAP_FAILED)
+        exit(1);
+}
+
+/* to a place that is aligned as the page was, or to any */
+static void move(struct place *place, unsigned *chance)
+{
+    size_t size = (size_t)BASE << order;
+    size_t beside = rand_r(chance) % 2 ? (size_t)BASE * (rand_r(chance) % (1 << order)) : 0;
+    unsigned char *room = mmap(NULL, 3 * size + 2 * BASE, PROT_NONE, MAP_PRIVATE | MAP_ANONYMOUS, -1, 0);
+    unsigned char *at = (unsigned char *)(((size_t)room + BASE + size - 1) & -size) + beside, *page;
+    if (room == MAP_FAILED)
+        exit(1);
+    page = mremap(place->page, size, size, MREMAP_MAYMOVE | MREMAP_FIXED, at);
+    if (page != MAP_FAILED)
+        place->page = page;
+}
+
+/* the end of its area goes; then it grows, where it is or elsewhere */
+static void resize(struct place *place, struct range range)
+{
+    size_t size = (size_t)BASE << order;
+    unsigned char *page;
+    if (mremap(place->page, size, range.length, 0) == MAP_FAILED)
+        return;
+    page = mremap(place->page, range.length, size, MREMAP_MAYMOVE);
+    if (page == MAP_FAILED) /* a part of it was replaced: these are several areas */
+        drop(place, range.length);
+    else
+        place->page = page;
+}
+
+/* a page of which a part goes, and then the rest, as the program break goes down */
+static void by_break(struct range range)
+{
+    size_t size = (size_t)BASE << order;
+    unsigned char *old = sbrk(0), *at = (unsigned char *)(((size_t)old + BASE + size - 1) & -size);
+    if (brk(at + size + BASE))
+        return;
+    madvise(at, size, MADV_HUGEPAGE);
+    memset(at, 90, size);
+    brk(at + range.first);
+    usleep(2000);
+    brk(old);
+}
+
 static struct range a_range(unsigned *chance)
 {
     size_t size = (size_t)BASE << order;
@@ -92,15 +150,34 @@ static struct range a_range(unsigned *chance)
     return range;
 }
 
+/* pages side by side, of each of which a part goes, and then all by one call */
+static void in_a_row(unsigned *chance)
+{
+    size_t size = (size_t)BASE << order;
+    unsigned char *room = mmap(NULL, (ROW + 1) * size, PROT_NONE, MAP_PRIVATE | MAP_ANONYMOUS, -1, 0);
+    unsigned char *at = (unsigned char *)(((size_t)room + size - 1) & -size);
+    if (room == MAP_FAILED || mprotect(at, ROW * size, PROT_READ | PROT_WRITE))
+        exit(1);
+    madvise(at, ROW * size, MADV_HUGEPAGE);
+    for (int i = 0; i < ROW; i++) {
+        struct range range = a_range(chance);
+        memset(at + i * size, 90, size);
+        madvise(at + i * size + range.first, range.length, MADV_DONTNEED);
+    }
+    usleep(rand_r(chance) % 2000);
+    munmap(at, ROW * size);
+}
+
 static void step(struct place *place, unsigned *chance)
 {
     size_t size = (size_t)BASE << order;
     struct range range = a_range(chance);
+    int deed = rand_r(chance) % (STEPS + COLLAPSES * collapse + AREAS * areas);
     if (!place->page) {
         make(place, chance);
         return;
     }
-    switch (rand_r(chance) % (STEPS + 2 * collapse)) {
+    switch (deed >= STEPS && !collapse ? deed + COLLAPSES : deed) {
     case 0: case 1: case 2: case 3:
         madvise(place->page + range.first, range.length, MADV_DONTNEED);
         break;
@@ -109,9 +186,7 @@ static void step(struct place *place, unsigned *chance)
         madvise(place->page, size / 2, MADV_DODUMP);
         break;
     case 5: case 6:
-        munmap(place->page, size);
-        unpin(place);
-        place->page = NULL;
+        drop(place, size);
         break;
     case 7:
         pin(place, range);
@@ -125,6 +200,22 @@ static void step(struct place *place, unsigned *chance)
         break;
     case STEPS: case STEPS + 1:
         madvise(place->page, size, MADV_COLLAPSE);
+        break;
+    case STEPS + COLLAPSES:
+        replace(place, range);
+        break;
+    case STEPS + COLLAPSES + 1:
+        move(place, chance);
+        break;
+    case STEPS + COLLAPSES + 2:
+        resize(place, range);
+        break;
+    case STEPS + COLLAPSES + 3:
+        in_a_row(chance);
+        break;
+    case STEPS + COLLAPSES + 4:
+        if (threads == 1)
+            by_break(range);
         break;
     default:
         usleep(rand_r(chance) % 2000);
@@ -152,6 +243,7 @@ int main(int count, char **words)
     for (int i = 5; i < count; i++) {
         zeros |= !strcmp(words[i], "zeros");
         collapse |= !strcmp(words[i], "collapse");
+        areas |= !strcmp(words[i], "areas");
     }
     for (size_t i = 1; i < (size_t)threads; i++)
         if (pthread_create(&all[i], NULL, work, (void *)i))

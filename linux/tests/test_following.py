@@ -70,7 +70,7 @@ class CollapseTest(unittest.TestCase):
         journalist = told(story, 511)
         self.assertEqual([word for word in words(journalist) if not word.startswith("write")], [
             "alloc 0", "splitpmd 0", "unmapsub 0 0 256 stays -", "unmapsub 0 256 256 freed 0-511", "alloc 1"])
-        self.assertEqual(journalist.seen["calls told before their end"], 1)
+        self.assertEqual(journalist.seen["pages told before their call's end"], 1)
 
     def test_one_that_failed_changes_nothing(self) -> None:
         story = By()

@@ -107,6 +107,28 @@ class ByHandTest(unittest.TestCase):
         story.journal()
         self.assertEqual(story.seen["pages left out: queued for no reason seen"], 1)
 
+    def test_a_page_that_another_thread_mapped_first_is_none(self) -> None:
+        """Two threads fault in one place; the page of the one that comes late is freed in its own fault."""
+        story = Story()
+        page = story.page(0)
+        story.add(Kind.FAULT, [HUGE * 10, 6])
+        story.records[-1].task += 1
+        story.add(Kind.ALLOC, [folio_of(1), 9])
+        story.records[-1].task += 1
+        story.add(Kind.FREE, [folio_of(1), 9])
+        story.records[-1].task += 1
+        story.drop(0, 0, 8, [page])
+        self.assertEqual(story.journal().splitlines()[2:-1], [
+            "0 alloc 0", "0 splitpmd 0", "0 unmapsub 0 0 8 queued -"])
+        self.assertEqual(story.seen["huge pages given up: another thread's fault was first"], 1)
+        self.assertEqual(story.seen["queues that differ"], 0)
+
+    def test_a_page_that_its_process_leaves_at_its_end_was_mapped(self) -> None:
+        story = Story()
+        story.add(Kind.FREE, [story.page(0), 9])
+        story.add(Kind.EXIT_MMAP, [SPACE], [])
+        self.assertEqual(story.journal().splitlines()[2:-1], ["0 alloc 0", "0 unmapwhole 0 freed 0-511"])
+
     def test_a_page_unmapped_whole_is_freed(self) -> None:
         story = Story()
         page = story.page(0)
@@ -161,6 +183,13 @@ class StoredTest(unittest.TestCase):
         self.assertEqual((journalist.pages(), journalist.lost_pages()), (61, 1))
         self.assertEqual(verdict(journalist.text()), "legal")
 
+    def test_two_threads_that_move_and_replace_areas(self) -> None:
+        journalist = self.told("areas", True)
+        seen = [journalist.seen[f"map counts {what}"] for what in ("compared", "that differ")]
+        self.assertEqual((journalist.seen["pages whose mapping moved"], *seen), (11, 64, 0))
+        self.assertEqual((journalist.pages(), journalist.lost_pages()), (53, 0))
+        self.assertEqual(verdict(journalist.text()), "legal")
+
     def test_a_recording_is_legal_once_straightened(self) -> None:
         self.assertEqual(verdict(self.stored("one_thread", True)), "legal")
 
@@ -173,9 +202,10 @@ class StoredTest(unittest.TestCase):
     def test_spoilt_copies_are_illegal(self) -> None:
         text, chance, found = self.stored("one_thread", True), random.Random(3), set()
         for _ in range(12):
-            spoil, spoilt = tampered(text, chance)
-            found.add(spoil)
-            self.assertNotEqual(verdict(spoilt), "legal", spoil)
+            copy = tampered(text, chance)
+            assert copy
+            found.add(copy.spoil)
+            self.assertNotEqual(verdict(copy.text), "legal", copy)
         self.assertEqual(found, set(Spoil))
 
 
@@ -243,7 +273,7 @@ class ScanTest(unittest.TestCase):
         story.add(Kind.FREE, [pages[0], 9])
         self.by_another(story, Kind.SCANNED, [0], pages[1:])
         story.add(Kind.EXIT, [*call, 0], pages[1:])
-        words = self.told(story, None, "calls told before their end")
+        words = self.told(story, None, "pages told before their call's end")
         self.assertEqual(words[-5:], ["unmapsub 0 8 504 freed 0-511", "taken 1", "pin 1", "pinned 1", "back 1"])
 
     def test_a_page_written_while_it_is_split_is_left_out(self) -> None:
