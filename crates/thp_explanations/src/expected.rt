@@ -147,7 +147,10 @@ fn with_outcome(what: &What, outcome: Outcome, released: &SubSet) -> What
             released,
         },
         What::UnmapSub {
-            page, first, count, ..
+            page,
+            first,
+            count,
+            ..
         } => What::UnmapSub {
             outcome,
             page,

@@ -84,6 +84,7 @@ fn becomes(outcome: Outcome) -> &'static str
         Outcome::Queued => {
             "has a subpage that went out of use and one in use, and stands nowhere: it joins the queue"
         }
-        Outcome::Freed => "has no mapping and no pin left: it is freed, with the frames that it held",
+        Outcome::Freed =>
+            "has no mapping and no pin left: it is freed, with the frames that it held",
     }
 }

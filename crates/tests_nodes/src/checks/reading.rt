@@ -87,7 +87,10 @@ fn replay_tells_what_events_add_up_to(rt: HostRuntime) {
     assert!(rt; (replay.frames_held(), replay.frames_given()) == (4, 8));
     let splits = (replay.thp_split_page(), replay.thp_underused_split_page());
     assert!(rt; splits == (2, 2));
-    let others = (replay.thp_split_page_failed(), replay.thp_deferred_split_page());
+    let others = (
+        replay.thp_split_page_failed(),
+        replay.thp_deferred_split_page(),
+    );
     assert!(rt; others == (1, 0));
     assert!(rt; replay.thp_split_pmd() == 2);
     let page = replay.page(ONE).expect(&rt, "a live page");

@@ -14,9 +14,9 @@ overflow_sub-result c =
     omega (
       arith,
       all_frames i.state.value.shape i.past c.from.result c.from-2.result c.deref-3.result.now.frames_given m.0.kept.low m.0.kept.node.legal
-      (c.from.ensures ∙ c.subpages.ensures ∙ ap (λ (r : NodeState). subpages r.shape) c.deref.ensures)
-      (c.from-2.ensures ∙ ap (λ (r : NodeState). r.next) c.deref-2.ensures ∙ m.0.kept.next_is)
-      (ap (λ (t : Tally). t.frames_given) c.deref-3.ensures ∙ m.2.frames_given),
+          (c.from.ensures ∙ c.subpages.ensures ∙ ap (λ (r : NodeState). subpages r.shape) c.deref.ensures)
+          (c.from-2.ensures ∙ ap (λ (r : NodeState). r.next) c.deref-2.ensures ∙ m.0.kept.next_is)
+          (ap (λ (t : Tally). t.frames_given) c.deref-3.ensures ∙ m.2.frames_given),
     )
 
 pub returns : goal.returns
@@ -26,8 +26,8 @@ returns c =
     omega (
       arith,
       all_frames i.state.value.shape i.past c.from.result c.from-2.result c.deref-3.result.now.frames_given m.0.kept.low m.0.kept.node.legal
-      (c.from.ensures ∙ c.subpages.ensures ∙ ap (λ (r : NodeState). subpages r.shape) c.deref.ensures)
-      (c.from-2.ensures ∙ ap (λ (r : NodeState). r.next) c.deref-2.ensures ∙ m.0.kept.next_is)
-      (ap (λ (t : Tally). t.frames_given) c.deref-3.ensures ∙ m.2.frames_given),
+          (c.from.ensures ∙ c.subpages.ensures ∙ ap (λ (r : NodeState). subpages r.shape) c.deref.ensures)
+          (c.from-2.ensures ∙ ap (λ (r : NodeState). r.next) c.deref-2.ensures ∙ m.0.kept.next_is)
+          (ap (λ (t : Tally). t.frames_given) c.deref-3.ensures ∙ m.2.frames_given),
       ap (λ (r : Replayed). frames_held r.shape r.history) c.self.view_is,
     )
