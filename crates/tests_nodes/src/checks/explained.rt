@@ -159,52 +159,52 @@ fn event_behind_another_is_explained(rt: HostRuntime) {
 fn event_behind_others_is_explained(rt: HostRuntime) {
     let none = SubSet::empty();
     let second = PageId(2);
-    for (events, want) in [
+    for (one, two, three, want) in [
         (
-            [taken(ZERO), pin(ONE), taken(ONE)],
+            taken(ZERO),
+            pin(ONE),
+            taken(ONE),
             "line 7: 0 taken 1\nexpected: nothing\nwhy: caller 0 has pages in flight, and the event before is no take of its own\n",
         ),
         (
-            [pin(ZERO), taken(ZERO), split(ZERO, first())],
+            pin(ZERO),
+            taken(ZERO),
+            split(ZERO, first()),
             "line 7: 0 split 0 0\nexpected: 0 pinned 0\nwhy: page 0 has pins\n",
         ),
         (
-            [taken(ZERO), close(), back(ZERO)],
+            taken(ZERO),
+            close(),
+            back(ZERO),
             "line 7: 0 back 0\nexpected: 0 dropped 0\nwhy: page 0 isn't partly mapped, or the node is closed\n",
         ),
         (
-            [
-                taken(ZERO),
-                split(ZERO, first()),
-                by(0, What::MapWhole { page: ZERO }),
-            ],
+            taken(ZERO),
+            split(ZERO, first()),
+            by(0, What::MapWhole { page: ZERO }),
             "line 7: 0 mapwhole 0\nexpected: nothing\nwhy: refused is-split: the page is split into base pages\n",
         ),
         (
-            [
-                taken(ZERO),
-                split(ZERO, first()),
-                by(
-                    0,
-                    What::MapSub {
-                        page: ZERO,
-                        first: 0,
-                        count: 1,
-                    },
-                ),
-            ],
+            taken(ZERO),
+            split(ZERO, first()),
+            by(
+                0,
+                What::MapSub {
+                    page: ZERO,
+                    first: 0,
+                    count: 1,
+                },
+            ),
             "line 7: 0 mapsub 0 0 1\nexpected: nothing\nwhy: refused gone: a frame of the range was given back\n",
         ),
         (
-            [
-                alloc_in(second, 2),
-                split_pmd(second),
-                unmap(second, 0, 1, Outcome::Stays, none),
-            ],
+            alloc_in(second, 2),
+            split_pmd(second),
+            unmap(second, 0, 1, Outcome::Stays, none),
             "line 7: 0 unmapsub 2 0 1 stays -\nexpected: 0 unmapsub 2 0 1 queued -\nwhy: page 2 has a subpage that went out of use and one in use, and stands nowhere: it joins the queue\n",
         ),
     ] {
-        last_text(&rt, rt.alloc(), 2, &events, want);
+        last_text(&rt, rt.alloc(), 2, &[one, two, three], want);
     }
     let in_use = [
         alloc_in(ZERO, 0),
