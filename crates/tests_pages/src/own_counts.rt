@@ -6,10 +6,10 @@ use std::process::Abort;
 use thp_model::{Refusal, SubSet};
 use thp_page::{Change, Page};
 
-// Makes one call as often as this, each time with this answer.
-fn repeat(rt: &impl Abort, page: &mut Page, call: Call, answer: Answer, times: u32) {
+// Makes these calls as often as this, each time with these answers.
+fn repeat(rt: &impl Abort, page: &mut Page, steps: &[(Call, Answer)], times: u32) {
     for _time in 0..times {
-        expect(rt, page, &[(call, answer)]);
+        expect(rt, page, steps);
     }
 }
 
@@ -20,16 +20,15 @@ fn up_and_down(rt: &impl Abort, first: u32, count: u32)
     let mut page = Page::fresh(9);
     let (map, unmap) = (Call::MapSub(first, count), Call::UnmapSub(first, count));
     expect(rt, &mut page, &[(Call::SplitPmd, Answer::Done)]);
-    repeat(rt, &mut page, map, Answer::Done, 65_534);
-    let refused = Answer::Refused(Refusal::TooMany);
+    repeat(rt, &mut page, &[(map, Answer::Done)], 65_534);
     let steps = [
-        (map, refused),
-        (Call::MapSub(0, 512), refused),
-        (Call::MapWhole, refused),
+        (map, Answer::Refused(Refusal::TooMany)),
+        (Call::MapSub(0, 512), Answer::Refused(Refusal::TooMany)),
+        (Call::MapWhole, Answer::Refused(Refusal::TooMany)),
         (Call::MapSub(511, 1), Answer::Done),
     ];
     expect(rt, &mut page, &steps);
-    repeat(rt, &mut page, unmap, change(false, true), 65_534);
+    repeat(rt, &mut page, &[(unmap, change(false, true))], 65_534);
     let steps = [
         (unmap, change(true, true)),
         (unmap, Answer::Refused(Refusal::NotMapped)),
@@ -53,7 +52,7 @@ fn counts_after_a_split(rt: &impl Abort, whole: u32)
     requires { whole ≤ 65533 }
 {
     let mut page = Page::fresh(9);
-    repeat(rt, &mut page, Call::MapWhole, Answer::Done, whole);
+    repeat(rt, &mut page, &[(Call::MapWhole, Answer::Done)], whole);
     let steps = [
         (Call::SplitPmd, Answer::Done),
         (Call::UnmapSub(0, 1), change(whole == 0, true)),
@@ -67,7 +66,7 @@ fn counts_after_a_split(rt: &impl Abort, whole: u32)
         let unmap = Call::UnmapSub(subpage, 1);
         let mappings = whole + own;
         if mappings > 0 {
-            repeat(rt, &mut page, unmap, change(false, true), mappings - 1);
+            repeat(rt, &mut page, &[(unmap, change(false, true))], mappings - 1);
             let last = Answer::Changed(Change {
                 unused: true,
                 used_left: true,
