@@ -499,10 +499,11 @@ class Journalist:
         told = {page.folio for page in self._queue}
         for start, _ in list(self._scans.values()):
             end = start.end and start.end.shown()
-            if not start.end or not end or not start.queue or queue is None:
-                continue
+            if not start.end or not end or not start.queue or queue is None or self._now < start.time:
+                continue  # a copy that was begun before the scan shows nothing of it
             back = [folio for folio in end if folio in start.queue]
-            if any(f in end and back and end.index(back[0]) < end.index(f) for f in queue if f not in told):
+            new = [folio for folio in queue if folio not in told and folio not in start.queue]
+            if any(folio in end and back and end.index(back[0]) < end.index(folio) for folio in new):
                 start.end.done = True
                 self._scanned(start.end, queue)
 

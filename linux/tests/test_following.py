@@ -237,6 +237,20 @@ class LongScanTest(unittest.TestCase):
         self.assertEqual(journalist.lost_pages(), 0)
         self.assertEqual(words(journalist)[-3:], ["back 1", "splitpmd 2", "unmapsub 2 0 8 queued -"])
 
+    def test_a_copy_from_before_it_took_shows_nothing_of_it(self) -> None:
+        """The queue has a page that isn't ours, which therefore isn't new in it."""
+        story, unknown = By(), folio_of(9)
+        pages = [story.page(0), story.page(1)]
+        story.drop(0, 0, 8, [*pages[:1], unknown])
+        story.drop(1, 0, 8, [pages[0], unknown, pages[1]])
+        story.daemon(Kind.SCAN, [3, 3], [pages[0], unknown, pages[1]])
+        story.drop(0, 0, 8, [pages[0], unknown, pages[1]])
+        story.look([])
+        story.daemon(Kind.SCANNED, [0, 0], [pages[1], unknown, pages[0]])
+        story.look([pages[1], unknown, pages[0]])
+        journalist = told(story)
+        self.assertEqual((words(journalist)[-2:], journalist.lost_pages()), (["back 0", "back 1"], 0))
+
     def test_the_frames_of_a_page_put_back_are_another_page_by_its_end(self) -> None:
         story, a, b, c = self.begun(), folio_of(0), folio_of(1), folio_of(2)
         story.drop(2, 0, 8, [b, a, c])
