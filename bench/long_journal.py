@@ -3,8 +3,8 @@
     bench/long_journal.py PROGRAM [MEBIBYTES]
 
 The program reads standard input and takes no words (`thpcheck`); the journal has 1,024 MiB where nothing else is asked for.
-It says rounds of a node that works: pages are allocated, mapped, unmapped in part, queued, taken, split and freed. The status
-is 0 where the journal was called legal.
+It says rounds of a node that works: beside pages that stay, pages are allocated, mapped, unmapped in part, queued, taken, split
+and freed. The status is 0 where the journal was called legal.
 """
 
 from __future__ import annotations
@@ -18,7 +18,7 @@ from pathlib import Path
 from typing import Iterator
 
 PAGES = 4096
-"""Blocks of the node, and pages that live at a time."""
+"""Blocks of the node. A page lives in each."""
 
 KEPT = 1 << 20
 """About so many bytes are written at a time."""
@@ -36,10 +36,11 @@ def rounds() -> list[bytes]:
 
 def journal(most: int) -> Iterator[bytes]:
     """A journal of at least so many bytes, in parts."""
-    yield f"thp-journal 1\nnode 0 blocks {PAGES}\n".encode()
+    staying = "".join(f"0 alloc {page}\n" for page in range(PAGES - 1))
+    yield f"thp-journal 1\nnode 0 blocks {PAGES}\n{staying}".encode()
     one = b"".join(rounds())
     count, given = one.count(b"%d"), 0
-    page = 0
+    page = PAGES - 1
     while given < most:
         parts = []
         size = 0
