@@ -3,26 +3,28 @@
     bench/long_journal.py PROGRAM [MEBIBYTES]
 
 The program reads standard input and takes no words (`thpcheck`); the journal has 1,024 MiB where nothing else is asked for.
-It says rounds of a node that works: pages are allocated, mapped, unmapped in part, queued, taken, split and freed. The status
-is 0 where the journal was called legal.
+It says rounds of a node that works: beside pages that stay, pages are allocated, mapped, unmapped in part, queued, taken, split
+and freed. The status is 0 where the journal was called legal.
 """
 
 from __future__ import annotations
 
 import os
-import resource
+import re
 import subprocess
 import sys
 import time
+from pathlib import Path
+from typing import Iterator
 
 PAGES = 4096
-"""Blocks of the node, and pages that live at a time."""
+"""Blocks of the node. A page lives in each."""
 
 KEPT = 1 << 20
 """About so many bytes are written at a time."""
 
 
-def rounds() -> "list[bytes]":
+def rounds() -> list[bytes]:
     """What happens to one page after another: formats, in which `%d` is the page."""
     lines = (
         "0 alloc %d", "0 splitpmd %d", "0 mapsub %d 0 256", "0 unmapsub %d 0 256 stays -", "0 pin %d", "0 unpin %d stays -",
@@ -32,12 +34,13 @@ def rounds() -> "list[bytes]":
     return [f"{line}\n".encode() for line in lines]
 
 
-def journal(most: int) -> "Iterator[bytes]":
+def journal(most: int) -> Iterator[bytes]:
     """A journal of at least so many bytes, in parts."""
-    yield f"thp-journal 1\nnode 0 blocks {PAGES}\n".encode()
+    staying = "".join(f"0 alloc {page}\n" for page in range(PAGES - 1))
+    yield f"thp-journal 1\nnode 0 blocks {PAGES}\n{staying}".encode()
     one = b"".join(rounds())
     count, given = one.count(b"%d"), 0
-    page = 0
+    page = PAGES - 1
     while given < most:
         parts = []
         size = 0
@@ -50,6 +53,12 @@ def journal(most: int) -> "Iterator[bytes]":
     yield b"end\n"
 
 
+def peak(child: subprocess.Popen) -> float:
+    """The most memory so far of a process, in MiB."""
+    text = Path(f"/proc/{child.pid}/status").read_text()
+    return int(re.search(r"VmHWM:\s+(\d+) kB", text)[1]) / 1024
+
+
 def main() -> None:
     """Pipes the journal into the program, and tells how it went."""
     program = sys.argv[1]
@@ -60,13 +69,15 @@ def main() -> None:
     for part in journal(most):
         child.stdin.write(part)
         given += len(part)
+    child.stdin.flush()
+    memory = peak(child)
     child.stdin.close()
     verdict = child.stdout.read().decode().strip()
     _, status, used = os.wait4(child.pid, 0)
     took = time.monotonic() - began
     busy = used.ru_utime + used.ru_stime
-    print(f"{given / 2**20:.0f} MiB: {verdict}, {took:.1f} s, {busy:.1f} s of the processor, "
-          f"{given / busy / 2**20:.1f} MiB a second of it, peak {used.ru_maxrss / 1024:.1f} MiB")
+    print(f"{given / 2**20:.0f} MiB: {verdict}, {took:.1f} s, {busy:.2f} s of the processor, "
+          f"{given / busy / 2**20:.1f} MiB a second of it, peak {memory:.1f} MiB")
     sys.exit(0 if verdict == "legal" and os.waitstatus_to_exitcode(status) == 0 else 1)
 
 

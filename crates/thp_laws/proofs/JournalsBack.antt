@@ -22,7 +22,7 @@ use Rattle.thp_journal_reader.specs.declared.line.Line.TheVariants.{End}
 use Rattle.thp_journal_reader.specs.declared.place.Place.TheVariants.{Start}
 use Rattle.thp_journal_reader.specs.declared.version.Version.{Version}
 use Rattle.thp_journal_reader.specs.Journals as reading
-use Rattle.thp_journal_reader.specs.Journals.{node_journal, nodes_of, journals_with, journals_of}
+use Rattle.thp_journal_reader.specs.Journals.{node_journal, nodes_of, journals_with, journals_of, journals_within}
 use Rattle.thp_laws.specs.Tellable.{read_version, IsTellable, IsToldJournal}
 use Rattle.thp_laws.specs.ReadBack.{nodes_from}
 use Rattle.thp_laws.proofs.EventsBack.{event_plain}
@@ -152,7 +152,7 @@ read x = Ok x
 
 -- the journals that a text's lines can tell are read back, but for their blocks
 pub text_back : (js : List Journal) → 0 < length js → length js ≤ 8 → AllByRecursion (IsToldJournal (read_version (version_of js))) js → length (journal_text js) ≤ 16777216 → journals_of (journal_text js) ≡ Ok (record { nodes = nodes_from 2 js })
-unfolding journals_of journals_with journal_lines told read
+unfolding journals_within journals_with journal_lines told read
 text_back js some few h short =
     let v : Written = version_of js in
     let lines : reading.lines_from 1 Start (lines_of (journal_text js)) ≡ Ok (told v js) = ap (reading.lines_from 1 Start) (text_lines js few h) ∙ read_all 1 (read_version v) Start (journal_lines js) (told v js) (all_say v js some few h) (all_behind v js) in

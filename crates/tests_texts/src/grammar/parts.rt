@@ -83,7 +83,7 @@ fn lines_in_turn(rt: HostRuntime) {
     };
     assert!(rt; second.number == 2);
     assert!(rt; second.bytes.as_slice() == b"two".as_slice());
-    text.note_fault(2, TextKind::BadWord);
+    text.note_fault(TextKind::BadWord);
     assert!(rt; text.fault() == Some((2, TextKind::BadWord)));
     let (line, behind) = text.last_line();
     assert!(rt; line == 3);

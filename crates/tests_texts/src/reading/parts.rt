@@ -2,7 +2,11 @@
 ghost use Rattle.std.specs.Prelude.{◌<◌};
 
 use std::alloc::Global;
-use thp_journal_reader::{JournalCheck, JournalReader, check_journals};
+use thp_check::Misfit;
+use thp_journal_reader::{
+    Illegal, JournalCheck, JournalReader, LongCheck, TextFault, check_journals,
+};
+use thp_model::{Event, PageId, Refusal, What};
 use thp_text::{ReadFault, TextKind};
 
 /// The first illegal line of a text that comes in parts of so many bytes.
@@ -28,6 +32,21 @@ fn checked_by_parts(alloc: Global, text: &[u8], size: usize) -> Result<Option<u3
     check.finish()
 }
 
+/// The first illegal event by a check of any length, or the first fault; `None` where memory was refused.
+fn found_by_parts(
+    alloc: Global,
+    text: &[u8],
+    size: usize,
+) -> Option<Result<Option<Illegal>, TextFault>>
+    requires { 0 < size }
+{
+    let mut check = LongCheck::new(alloc);
+    for part in text.chunks(size) {
+        check = check.read_part(part).ok()?;
+    }
+    Some(check.finish())
+}
+
 #[test]
 fn parts_of_each_length(rt: HostRuntime) {
     let text =
@@ -37,7 +56,48 @@ fn parts_of_each_length(rt: HostRuntime) {
         assert!(rt; told == Some(7), "{size}");
         let checked = checked_by_parts(rt.alloc(), text.as_slice(), size).expect(&rt, "journals");
         assert!(rt; checked == Some(7), "{size}");
+        let found = found_by_parts(rt.alloc(), text.as_slice(), size);
+        assert!(rt; is_no_page_on_line_7(&found), "{size}");
     }
+}
+
+fn is_no_page_on_line_7(found: &Option<Result<Option<Illegal>, TextFault>>) -> bool {
+    matches!(
+        found,
+        Some(Ok(Some(Illegal {
+            line: 7,
+            event: Event {
+                caller: 0,
+                what: What::Pin { page: PageId(1) }
+            },
+            misfit: Misfit::Refused(Refusal::NoPage)
+        })))
+    )
+}
+
+#[test]
+fn an_illegal_page_has_the_least_block(rt: HostRuntime) {
+    let text = b"thp-journal 1\nnode 0 blocks 1\n0 alloc 0\n5 alloc 1\nend\n";
+    let found = found_by_parts(rt.alloc(), text.as_slice(), 8);
+    assert!(rt;
+        matches!(
+            found,
+            Some(Ok(Some(Illegal {
+                line: 4,
+                event: Event {
+                    caller: 5,
+                    what: What::Alloc {
+                        page: PageId(1),
+                        block: 0
+                    }
+                },
+                misfit: Misfit::Block
+            })))
+        )
+    );
+    let legal = b"thp-journal 1\nnode 0 blocks 1\n0 alloc 0\nend\n";
+    let found = found_by_parts(rt.alloc(), legal.as_slice(), 8);
+    assert!(rt; matches!(found, Some(Ok(None))));
 }
 
 #[test]
@@ -48,6 +108,12 @@ fn first_fault_of_parts(rt: HostRuntime) {
         assert!(rt; is_bad_word_on_line_3(&told), "{size}");
         let checked = checked_by_parts(rt.alloc(), text.as_slice(), size);
         assert!(rt; is_bad_word_on_line_3(&checked), "{size}");
+        let found = found_by_parts(rt.alloc(), text.as_slice(), size);
+        let fault = TextFault {
+            line: 3,
+            kind: TextKind::BadWord,
+        };
+        assert!(rt; matches!(found, Some(Err(told)) if told == fault), "{size}");
     }
 }
 
