@@ -7,13 +7,13 @@ ghost use Rattle.thp_planes.specs.Tallies.{tally};
 use crate::subpages::Subpages;
 use thp_model::SubSet;
 
-// As many planes as a count has bits.
+// How many planes there are: a count has 16 bits.
 pub(crate) const PLANES: usize = 16;
 
 // The bits of 512 counts.
 #[derive(Drop)]
 pub(crate) struct Planes {
-    // How many of the planes a count may have bits in. The others are never read before they are written.
+    // How many planes count. What stands in the others means nothing.
     pub(crate) used: usize,
     // Plane k has the subpages whose count has bit k.
     pub(crate) sets: [SubSet; PLANES],
