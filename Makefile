@@ -4,7 +4,7 @@
 # make checker: the same of thpcheck, which checks journals of any length
 # make install: puts the proved programs and thpwhatif, their manual pages and completions below PREFIX (default /usr/local;
 #               DESTDIR as usual); make uninstall takes them away
-# make deb:     the Debian package of the proved program and of thpwhatif, into DEBS (default out; wants dpkg-dev, debhelper)
+# make deb:     the Debian package of the proved programs and of thpwhatif, into DEBS (default out; wants dpkg-dev, debhelper)
 # make test:    every check (proofs from nothing, must-fail edits, tests, stored runs, examples, documents); ends in
 #               'N passed, M failed'. What a machine lacks is named and counted neither way, or as failed with STRICT=1
 # make outside: examples and documents alone; PROGRAM=path: by that program, and all that is asked of it from outside:
@@ -79,8 +79,8 @@ uninstall:
 	@for pair in $(INSTALLED); do rm -f "$(DESTDIR)$(PREFIX)/$${pair%%=*}"; done
 	@$(MAKE) --no-print-directory -s -C linux/whatif uninstall PREFIX="$(PREFIX)" DESTDIR="$(abspath $(DESTDIR))"
 
-deb: run
-	@python3 debian/build.py $(PROGRAM) $(DEBS)
+deb: run checker
+	@python3 debian/build.py $(PROGRAM) $(CHECKER) $(DEBS)
 
 test: toolchain
 	@python3 tests/gate.py
@@ -98,8 +98,8 @@ outside:
 	@$(if $(GIVEN),python3 tests/outside.py $(GIVEN))
 	@$(if $(GIVEN),python3 tests/outside.py --self-test $(GIVEN))
 	@$(if $(GIVEN),python3 tests/large.py $(GIVEN))
-	@$(if $(GIVEN),python3 tests/package.py $(GIVEN) || test $$? = 77)
 	@$(if $(wildcard $(CHECKER)),python3 tests/checker.py $(CHECKER))
+	@$(if $(and $(GIVEN),$(wildcard $(CHECKER))),python3 tests/package.py $(GIVEN) $(CHECKER) || test $$? = 77)
 
 fuzz: run
 	@python3 tests/fuzz.py $(PROGRAM) --cases $(CASES) --seed $(SEED)

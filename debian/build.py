@@ -1,7 +1,7 @@
 #!/usr/bin/env python3
-"""Builds the Debian package `thpsplit` from a program that was built before.
+"""Builds the Debian package `thpsplit` from programs that were built before.
 
-    debian/build.py PROGRAM FOLDER
+    debian/build.py THPSPLIT THPCHECK FOLDER
 
 The package goes into FOLDER, and its path is printed. It is built on a copy of what it is made from, so that nothing else of
 the tree changes. Status 77 with one line where Debian's tools aren't there (packages dpkg-dev, debhelper).
@@ -20,7 +20,10 @@ from pathlib import Path
 
 ROOT = Path(__file__).resolve().parent.parent
 PARTS = ("Makefile", "README.md", "CHANGELOG.md", "LICENSE-APACHE", "LICENSE-MIT", "completions", "debian", "docs", "linux")
-"""What the package is made from, beside the program."""
+"""What the package is made from, beside the programs."""
+
+PROGRAMS = ("thpsplit", "thpcheck")
+"""The proved programs, in the order of the words."""
 
 TOOLS = {"dpkg-buildpackage": "dpkg-dev", "dh": "debhelper", "cc": "gcc"}
 """Each program that is wanted, and the package that has it."""
@@ -45,7 +48,7 @@ def changelog(number: str) -> str:
     return f"leversorrel ({number}) unstable; urgency=medium\n\n  * As CHANGELOG.md tells.\n\n -- {line}  {date}\n"
 
 
-def copy(tree: Path, program: Path) -> None:
+def copy(tree: Path, programs: list[Path]) -> None:
     """Puts what the package is made from into an empty folder."""
     for part in PARTS:
         source = ROOT / part
@@ -53,18 +56,19 @@ def copy(tree: Path, program: Path) -> None:
             shutil.copytree(source, tree / part, ignore=shutil.ignore_patterns("__pycache__", "out"))
         else:
             shutil.copy2(source, tree / part)
-    place = tree / "crates/thpsplit/out/thpsplit"
-    place.parent.mkdir(parents=True)
-    shutil.copy2(program, place)
+    for name, program in zip(PROGRAMS, programs):
+        place = tree / f"crates/{name}/out/{name}"
+        place.parent.mkdir(parents=True)
+        shutil.copy2(program, place)
     (tree / "debian/changelog").write_text(changelog(version()))
 
 
-def build(program: Path, folder: Path) -> list[Path]:
+def build(programs: list[Path], folder: Path) -> list[Path]:
     """The packages, put into the folder."""
     with tempfile.TemporaryDirectory(prefix="thp-deb-") as name:
         tree = Path(name) / f"leversorrel-{version()}"
         tree.mkdir()
-        copy(tree, program)
+        copy(tree, programs)
         told = subprocess.run(["dpkg-buildpackage", "-b", "-us", "-uc"], cwd=tree, text=True, errors="replace",
                               stdout=subprocess.PIPE, stderr=subprocess.STDOUT)
         if told.returncode != 0:
@@ -74,17 +78,18 @@ def build(program: Path, folder: Path) -> list[Path]:
 
 
 def main() -> None:
-    """Builds the package of the command line."""
-    if len(sys.argv) != 3:
+    """Builds the package from the programs of the command line."""
+    if len(sys.argv) != len(PROGRAMS) + 2:
         sys.exit(__doc__)
-    program = Path(sys.argv[1])
-    if not os.access(program, os.X_OK) or program.is_dir():
-        sys.exit(f"{program} is no program")
+    programs = [Path(word) for word in sys.argv[1:-1]]
+    for program in programs:
+        if not os.access(program, os.X_OK) or program.is_dir():
+            sys.exit(f"{program} is no program")
     lacks = [package for tool, package in TOOLS.items() if shutil.which(tool) is None]
     if lacks:
         print(f"no package: this machine lacks {', '.join(lacks)}")
         sys.exit(LACKS)
-    for package in build(program, Path(sys.argv[2])):
+    for package in build(programs, Path(sys.argv[-1])):
         print(package)
 
 

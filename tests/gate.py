@@ -31,7 +31,7 @@ CHECKERS = ("crates/thpcheck/out/thpcheck", "crates/thpcheck/out/thpcheck.by-rat
 BY_EACH = ("tests/examples.py", "tests/rows.py", "tests/outside.py", "tests/large.py")
 """What looks at a program."""
 
-BY_ONE = ("tests/spoilt.py", "tests/package.py")
+BY_ONE = ("tests/spoilt.py",)
 """What looks at a program and takes longer: at one of them."""
 
 SPOILT = "crates/tests_spoilt/out/tests_spoilt_tests"
@@ -99,8 +99,11 @@ def main() -> None:
         add(tally, "outside.py --self-test", [sys.executable, "tests/outside.py", "--self-test", program])
         rows = [f"{path}:{REFUSED}" for path in made_since(began, (SPOILT,))]
         add(tally, "memory.py", [sys.executable, "tests/memory.py", program, *rows])
-    for program in made_since(began, CHECKERS):
+    checkers = made_since(began, CHECKERS)
+    for program in checkers:
         add(tally, f"checker.py {Path(program).name}", [sys.executable, "tests/checker.py", program])
+    if programs and checkers:
+        add(tally, "package.py", [sys.executable, "tests/package.py", programs[0], checkers[0]])
     if not programs:
         add(tally, "examples.py", [sys.executable, "tests/examples.py"])
         tally.skip("the program from outside", "rt ci has built none")

@@ -1,6 +1,6 @@
-"""The Debian package: built from a program, checked by lintian, installed in a clean root, tried there, and removed.
+"""The Debian package: built from the programs, checked by lintian, installed in a clean root, tried there, and removed.
 
-    tests/package.py PROGRAM
+    tests/package.py THPSPLIT THPCHECK
 
 Status 77 with one line where this machine lacks Debian's tools for packages. Nothing is installed on the machine itself.
 """
@@ -23,14 +23,15 @@ FIRST, LEGAL = ROOT / "examples/first.script", ROOT / "examples/two_workers.jour
 ADMIN = "var/lib/dpkg"
 """What `dpkg` keeps of a root."""
 
-PUT = ("usr/bin/thpsplit", "usr/bin/thpwhatif", "usr/share/man/man1/thpsplit.1.gz", "usr/share/man/man5/thpsplit.5.gz",
+PUT = ("usr/bin/thpsplit", "usr/bin/thpcheck", "usr/bin/thpwhatif", "usr/share/man/man1/thpcheck.1.gz",
+       "usr/share/man/man1/thpsplit.1.gz", "usr/share/man/man5/thpsplit.5.gz",
        "usr/share/bash-completion/completions/thpsplit", "usr/share/doc/thpsplit/copyright")
 """Files that the package has to have, among others."""
 
 
-def built(program: Path, folder: Path) -> Path:
+def built(programs: list[Path], folder: Path) -> Path:
     """The package, built into the folder."""
-    done = subprocess.run([sys.executable, ROOT / "debian/build.py", program, folder], capture_output=True, text=True)
+    done = subprocess.run([sys.executable, ROOT / "debian/build.py", *programs, folder], capture_output=True, text=True)
     if done.returncode == SKIPPED:
         raise Missing(done.stdout.strip())
     if done.returncode != 0:
@@ -70,12 +71,13 @@ def clean_root(folder: Path) -> Path:
 
 
 def works(root: Path) -> Optional[str]:
-    """What the installed program says otherwise to the first script and to a journal, or None."""
+    """What the installed programs say otherwise to the first script and to a journal, or None."""
     program = root / "usr/bin/thpsplit"
     totals = run(program, Call((), FIRST.read_bytes()))
     if totals.status != 0 or b"frames_given 256\n" not in totals.output:
         return f"the first script: {totals}"
-    return run(program, Call(("--check",), LEGAL.read_bytes())).differs_from(Ended(0, b"legal\n"))
+    told = run(program, Call(("--check",), LEGAL.read_bytes())).differs_from(Ended(0, b"legal\n"))
+    return told or run(root / "usr/bin/thpcheck", Call((), LEGAL.read_bytes())).differs_from(Ended(0, b"legal\n"))
 
 
 def comes_and_goes(package: Path, folder: Path) -> Optional[str]:
@@ -96,15 +98,15 @@ def comes_and_goes(package: Path, folder: Path) -> Optional[str]:
 
 
 def main() -> None:
-    """Tests the package of the program of the command line."""
-    program = Path(sys.argv[-1])
-    if len(sys.argv) != 2 or not os.access(program, os.X_OK) or program.is_dir():
-        sys.exit(f"{program} is no program\n\n{__doc__}")
+    """Tests the package of the programs of the command line."""
+    programs = [Path(word) for word in sys.argv[1:]]
+    if len(programs) != 2 or not all(os.access(it, os.X_OK) and it.is_file() for it in programs):
+        sys.exit(f"not two programs\n\n{__doc__}")
     tally = Tally()
     with tempfile.TemporaryDirectory(prefix="thp-package-") as name:
         folder = Path(name)
         try:
-            package = built(program, folder)
+            package = built(programs, folder)
         except Missing as missing:
             tally.skip("the package", str(missing))
             tally.end()
