@@ -10,5 +10,3 @@ mod calls;
 mod checks;
 #[cfg(test)]
 mod nodes;
-#[cfg(test)]
-mod recorders;

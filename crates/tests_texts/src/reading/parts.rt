@@ -6,7 +6,7 @@ use thp_check::Misfit;
 use thp_journal_reader::{
     Illegal, JournalCheck, JournalReader, LongCheck, TextFault, check_journals,
 };
-use thp_model::{Event, PageId, Refusal, What};
+use thp_model::{Event, PageId, What};
 use thp_text::{ReadFault, TextKind};
 
 /// The first illegal line of a text that comes in parts of so many bytes.
@@ -56,23 +56,7 @@ fn parts_of_each_length(rt: HostRuntime) {
         assert!(rt; told == Some(7), "{size}");
         let checked = checked_by_parts(rt.alloc(), text.as_slice(), size).expect(&rt, "journals");
         assert!(rt; checked == Some(7), "{size}");
-        let found = found_by_parts(rt.alloc(), text.as_slice(), size);
-        assert!(rt; is_no_page_on_line_7(&found), "{size}");
     }
-}
-
-fn is_no_page_on_line_7(found: &Option<Result<Option<Illegal>, TextFault>>) -> bool {
-    matches!(
-        found,
-        Some(Ok(Some(Illegal {
-            line: 7,
-            event: Event {
-                caller: 0,
-                what: What::Pin { page: PageId(1) }
-            },
-            misfit: Misfit::Refused(Refusal::NoPage)
-        })))
-    )
 }
 
 #[test]
