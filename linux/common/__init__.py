@@ -15,5 +15,6 @@
     subpages        sets of subpages as numbers, and as text
     journal         NodeJournal, Event: journals as text
     program         Program: `thpsplit` found and called; its totals, answers and journals read
+    checker         Checker: `thpcheck`, or `thpsplit` in its place: whether a journal is legal, and why not
     script          Script: a script's settings and commands
 """

@@ -1,4 +1,5 @@
-"""Kernel memory read by BPF programs, and what the tools find in it: control groups, deferred split queues, struct page.
+"""Kernel memory read by BPF programs, and what the tools find in it: control groups, deferred split queues, struct
+page.
 
 Wants root (CAP_BPF, CAP_PERFMON), BPF_SYSCALL and DEBUG_INFO_BTF. Works where lockdown allows BPF to read (integrity).
 A queue is copied by one program run, without its lock: a copy that changed meanwhile may miss its end, and is then made

@@ -13,7 +13,8 @@ from .errors import InputFault, Unavailable
 from .journal import NodeJournal, journal_of
 
 HERE = Path(__file__).resolve().parent
-BUILT = HERE.parent.parent / "crates/thpsplit/out/thpsplit"
+CRATES = HERE.parent.parent / "crates"
+BUILT = CRATES / "thpsplit/out/thpsplit"
 INSTALLED = ("lib", "thpsplit", "linux", "common")  # where `make install` puts these files below its prefix
 
 
@@ -32,30 +33,56 @@ class Answer:
 
 @dataclass(frozen=True)
 class Verdict:
-    """What the check says of a journal: legal, illegal at a line (from 1), or a fault of the text."""
+    """What the check says of a journal: legal, illegal at a line (from 1), or a fault of the text. `why`: lines that
+    explain an illegal one, where the check has such."""
 
     legal: bool
     line: Optional[int]
     text: str
+    why: str = ""
 
 
-def find_program(given: Optional[str] = None) -> str:
-    """The path given, $THPSPLIT, the one built in this repository or installed beside the tools, or the one on the
-    path."""
-    for path in (given, os.environ.get("THPSPLIT")):
+def find(name: str, built: Path, given: Optional[str] = None) -> Optional[str]:
+    """The program of a name: the path given, the one that the environment names ($THPSPLIT, $THPCHECK), the one built
+    in this repository or installed beside the tools, or the one on the path. None: there is none. Unavailable where
+    one that is named isn't there."""
+    for path in (given, os.environ.get(name.upper())):
         if path:
             found = shutil.which(path)
             if not found:
                 raise Unavailable(f"no program {path}")
             return found
-    beside = [HERE.parents[3] / "bin/thpsplit"] if HERE.parts[-4:] == INSTALLED else []
-    for place in (BUILT, *beside):
+    beside = [HERE.parents[3] / "bin" / name] if HERE.parts[-4:] == INSTALLED else []
+    for place in (built, *beside):
         if os.access(place, os.X_OK) and place.is_file():
             return str(place)
-    found = shutil.which("thpsplit")
+    return shutil.which(name)
+
+
+def find_program(given: Optional[str] = None) -> str:
+    """The path of `thpsplit`, as `find` looks for it; Unavailable where there is none."""
+    found = find("thpsplit", BUILT, given)
     if not found:
         raise Unavailable("no thpsplit: build it (make run), or name it by --program or THPSPLIT")
     return found
+
+
+def call(path: str, options: Sequence[str], text: str) -> subprocess.CompletedProcess[str]:
+    """Runs a program on a text."""
+    try:
+        return subprocess.run([path, *options], input=text, capture_output=True, text=True, check=False)
+    except OSError as error:
+        raise Unavailable(f"{path} can't be run: {error.strerror}") from error
+
+
+def check(path: str, options: Sequence[str], journal: str) -> Verdict:
+    """Whether a journal's text is legal, by a program that checks it with these options."""
+    done = call(path, options, journal)
+    told = (done.stdout or done.stderr).strip()
+    line = int(told.rsplit(" ", 1)[1]) if done.returncode == 1 and told.startswith("illegal line ") else None
+    if done.returncode not in (0, 1, 2) or (done.returncode == 1 and line is None):
+        raise Unavailable(f"{path} ended with status {done.returncode}: {told}")
+    return Verdict(done.returncode == 0, line, told, done.stderr.strip() if line else "")
 
 
 class Program:
@@ -89,23 +116,12 @@ class Program:
 
     def check(self, journal: str) -> Verdict:
         """Whether a journal's text is legal."""
-        done = self._call(["--check"], journal)
-        told = (done.stdout or done.stderr).strip()
-        line = int(told.rsplit(" ", 1)[1]) if done.returncode == 1 and told.startswith("illegal line ") else None
-        if done.returncode not in (0, 1, 2) or (done.returncode == 1 and line is None):
-            raise Unavailable(f"{self.path} ended with status {done.returncode}: {told}")
-        return Verdict(done.returncode == 0, line, told)
+        return check(self.path, ["--check"], journal)
 
     def _run(self, options: Sequence[str], text: str) -> str:
-        done = self._call(options, text)
+        done = call(self.path, options, text)
         if done.returncode == 2:
             raise Refused(done.stderr.strip())
         if done.returncode:
             raise Unavailable(f"{self.path} ended with status {done.returncode}: {done.stderr.strip()}")
         return done.stdout
-
-    def _call(self, options: Sequence[str], text: str) -> subprocess.CompletedProcess[str]:
-        try:
-            return subprocess.run([self.path, *options], input=text, capture_output=True, text=True, check=False)
-        except OSError as error:
-            raise Unavailable(f"{self.path} can't be run: {error.strerror}") from error

@@ -1,11 +1,12 @@
-"""Records a memory control group's deferred split queue, writes it as a journal, and lets `thpsplit --check` judge it.
+"""Records a memory control group's deferred split queue, writes it as a journal, and lets `thpcheck` judge it, or where
+there is none `thpsplit --check`.
 
     thprecord [--own THREADS,STEPS,SEED[,zeros][,collapse][,areas]]  a workload of its own
     thprecord --own .. --groups 3 --order 9,4        a workload for each order in each of three control groups
     thprecord -- COMMAND ARGS..                      a command in a control group of its own
 
-A node of the journal is a control group and an order. Prints the verdict, with the line where the journal is illegal,
-and what was seen, inferred and left out. Wants root.
+A node of the journal is a control group and an order. Prints the verdict, with the line where the journal is illegal
+and the check's explanation, if it gives one, and what was seen, inferred and left out. Wants root.
 Status 0: legal; 1: illegal, or records were lost; 2: a fault in the words; 77: nothing could be recorded, or nothing
 was.
 """
@@ -16,12 +17,15 @@ import argparse
 import json
 import os
 import subprocess
+import sys
 import threading
 import time
 from collections import Counter as Tallies
-from typing import Dict, List, NoReturn, Optional, Tuple
+from dataclasses import dataclass
+from typing import Dict, List, NoReturn, Optional, Sequence, Tuple
 
 from ..common import machine
+from ..common.checker import Judge, find_judge
 from ..common.errors import DIFFERS, DONE, SKIPPED, InputFault, Unavailable, run_tool
 from ..common.files import COLLAPSE_SLEEP, COMPACT, PMD_ORDER, PTES_NONE, SWITCH, read, size_folder, write
 from ..common.groups import Groups
@@ -29,7 +33,6 @@ from ..common.helpers import helper
 from ..common.journal import journal_text
 from ..common.keeper import Keeper
 from ..common.kernel_memory import KernelMemory
-from ..common.program import Program
 from .journalist import Journalist, Settings
 from .records import Record, record_from, record_of
 from .tampering import try_copies
@@ -45,7 +48,8 @@ PAUSE, AFTER = 0.002, 0.05  # seconds between two looks into the ring, and for w
 def words() -> argparse.Namespace:
     form = argparse.RawDescriptionHelpFormatter
     parser = argparse.ArgumentParser(prog=NAME, description=__doc__, formatter_class=form)
-    parser.add_argument("--program", metavar="PATH", help="the thpsplit that judges")
+    parser.add_argument("--checker", metavar="PATH", help="the thpcheck that judges")
+    parser.add_argument("--program", metavar="PATH", help="the thpsplit that judges in its place")
     parser.add_argument("--own", default="1,300,1", metavar="THREADS,STEPS,SEED[,WORDS]")
     parser.add_argument("--order", default=str(PMD_ORDER), metavar="LIST", help="the orders of pages that are followed")
     parser.add_argument("--groups", type=int, default=1, metavar="N", help="control groups, each with the workload")
@@ -145,14 +149,23 @@ def events_in(text: str) -> int:
     return text.count("\n") - text.count("\nnode ") - 2
 
 
-def judge(text: str, program: Program) -> Tuple[bool, str]:
-    """Whether a journal is legal, and what is said of it: an empty one is no legal one."""
+@dataclass(frozen=True)
+class Judged:
+    """Whether a journal is legal, what is said of it in a line, and lines that explain why it is illegal."""
+
+    legal: bool
+    text: str
+    why: Sequence[str] = ()
+
+
+def judge(text: str, by: Judge) -> Judged:
+    """Judges a journal: an empty one is no legal one."""
     events = events_in(text)
     if not events:
-        return False, "empty: no huge page was followed"
-    verdict = program.check(text)
-    line = f": {text.splitlines()[verdict.line - 1]}" if verdict.line else ""
-    return verdict.legal, f"{verdict.text}{line} ({events} events)"
+        return Judged(False, "empty: no huge page was followed")
+    verdict = by.check(text)
+    line = f": {text.splitlines()[verdict.line - 1]}" if verdict.line and not verdict.why else ""
+    return Judged(verdict.legal, f"{verdict.text}{line} ({events} events)", verdict.why.splitlines())
 
 
 def tell(asked: argparse.Namespace, recorder: Recorder, records: List[List[Record]]) -> List[Journalist]:
@@ -167,7 +180,7 @@ def tell(asked: argparse.Namespace, recorder: Recorder, records: List[List[Recor
 
 
 def one(
-    asked: argparse.Namespace, recorder: Recorder, program: Program, commands: List[List[str]], sums: Dict[str, int]
+    asked: argparse.Namespace, recorder: Recorder, by: Judge, commands: List[List[str]], sums: Dict[str, int]
 ) -> Tuple[bool, int]:
     """Records and judges once: whether it is legal and complete, and the number of events."""
     records, lost = recorder.record(commands)
@@ -179,21 +192,24 @@ def one(
     text = journal_text([journalist.journal() for journalist in journalists])
     if asked.out:
         write(asked.out, text)
-    legal, told = judge(text, program)
+    judged = judge(text, by)
     complete = f"incomplete: {lost} records were lost; " if lost else ""
     pages = sum(journalist.pages() for journalist in journalists)
     followed = pages - sum(journalist.lost_pages() for journalist in journalists)
-    print(f"{complete}{told}, {sum(map(len, records))} records, {followed} of {pages} pages told", flush=True)
+    print(f"{complete}{judged.text}, {sum(map(len, records))} records, {followed} of {pages} pages told")
+    for why in judged.why:
+        print(f"    {why}")
+    sys.stdout.flush()
     for journalist in journalists:
         for what, many in journalist.seen.items():
             sums[what] += many
     sums["recordings"] += 1
-    sums["recordings that are legal"] += legal
+    sums["recordings that are legal"] += judged.legal
     sums["events in journals"] += events_in(text)
     sums["pages"] += pages
-    if asked.tamper and legal:
-        try_copies([("the journal", text)], program, asked.tamper, 1)
-    return legal and not lost, events_in(text)
+    if asked.tamper and judged.legal:
+        try_copies([("the journal", text)], by, asked.tamper, 1)
+    return judged.legal and not lost, events_in(text)
 
 
 def orders_of(text: str) -> List[int]:
@@ -218,18 +234,19 @@ def record(asked: argparse.Namespace) -> int:
     if memory is None:
         raise Unavailable(parts[0].text)
     machine.demand(parts, [part.name for part in parts])
-    program = Program(asked.program)
+    by = find_judge(asked.checker, asked.program)
     good, events, sums = True, 0, Tallies()  # type: ignore[var-annotated]
     with Keeper() as keeper:
         recorder = Recorder(asked, keeper, memory)
         seed = int(own[2])
         while True:
-            legal, more = one(asked, recorder, program, workloads(asked, own, seed), sums)
+            legal, more = one(asked, recorder, by, workloads(asked, own, seed), sums)
             good, events, seed = good and legal, events + more, seed + 1
             if asked.command or events >= asked.least:
                 break
     for what, many in sorted(sums.items()):
         print(f"{many:9} {what}")
+    print(f"judged by {by.path}")
     for line in recorder.lacking:
         print(line)
     if not events:

@@ -57,6 +57,7 @@ class Record:
     end: Optional[Record] = None  # of a scan: its end; of an allocation: the collapse that it was for
     begun: int = 0  # of an address space's end: when the last of its tasks' other records was made
     later: Optional[List[int]] = None  # of a scan's end without a copy: the next copy, if no scan began before it
+    made: Optional[Dict[int, int]] = None  # of a scan: folios that were allocated until its end, and when last
 
     def shown(self) -> Optional[List[int]]:
         """The queue at a scan's end, by its own copy or the next."""
@@ -104,8 +105,8 @@ def whole(queue: Optional[List[int]]) -> Optional[List[int]]:
 
 
 def lines_with_ends(records: List[Record]) -> None:
-    """Has each scan and each allocation for a collapse know its end, a scan's end without a copy the next one, and an
-    address space's end from when on nothing else was recorded of it."""
+    """Has each scan and each allocation for a collapse know its end, a scan what was allocated until then, a scan's end
+    without a copy the next one, and an address space's end from when on nothing else was recorded of it."""
     open_scans: Dict[int, Record] = {}
     allocated: Dict[int, Record] = {}
     last: Dict[int, int] = {}
@@ -120,12 +121,15 @@ def lines_with_ends(records: List[Record]) -> None:
         elif record.kind is not Kind.FREE:
             last[record.space] = record.time
         if record.kind is Kind.SCAN:
-            open_scans[record.task], torn = record, []
+            open_scans[record.task], record.made, torn = record, {}, []
         elif record.kind is Kind.SCANNED and record.task in open_scans:
             open_scans.pop(record.task).end = record
             torn += [record] if record.queue is None else []
         elif record.kind is Kind.ALLOC:
             allocated[record.task] = record
+            for scan in open_scans.values():
+                assert scan.made is not None
+                scan.made[record.values[0]] = record.time
         elif record.kind is Kind.COLLAPSED and record.task in allocated:
             alloc = allocated.pop(record.task)
             alloc.end = record if alloc.values[0] == record.values[2] else None

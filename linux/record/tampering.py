@@ -1,6 +1,6 @@
 """Spoilt copies of journals, to see whether the check tells them.
 
-    python3 -m linux.record.tampering [--copies N] [--seed S] [--program PATH] JOURNAL..
+    python3 -m linux.record.tampering [--copies N] [--seed S] [--checker PATH] JOURNAL..
 
 In each copy of a journal, which is chosen by the seed, an event of the queue is left out or doubled, or two neighbours
 are exchanged. Prints how many are illegal, and where one is legal what was spoilt.
@@ -16,9 +16,9 @@ from collections import Counter as Tallies
 from dataclasses import dataclass
 from typing import Dict, List, NoReturn, Optional, Sequence, Tuple
 
+from ..common.checker import Judge, find_judge
 from ..common.errors import DIFFERS, DONE, SKIPPED, run_tool
 from ..common.files import read
-from ..common.program import Program
 
 QUEUE_WORDS = ("taken", "split", "back", "queued")
 NEEDED = 0.99  # of the copies are to be illegal
@@ -71,7 +71,7 @@ def tampered(text: str, chance: random.Random) -> Optional[Copy]:
     return Copy(spoil, at + 1, "\n".join(lines))
 
 
-def try_copies(journals: Sequence[Tuple[str, str]], program: Program, copies: int, seed: int) -> Tuple[int, int]:
+def try_copies(journals: Sequence[Tuple[str, str]], by: Judge, copies: int, seed: int) -> Tuple[int, int]:
     """Judges copies of journals, which have names, and tells what was found: how many copies, how many illegal."""
     chance = random.Random(seed)
     made: Dict[Spoil, int] = Tallies()
@@ -82,7 +82,7 @@ def try_copies(journals: Sequence[Tuple[str, str]], program: Program, copies: in
         if not copy:
             continue
         made[copy.spoil] += 1
-        if program.check(copy.text).legal:
+        if by.check(copy.text).legal:
             print(f"legal: {name} with {copy.spoil.value} at line {copy.line}: {text.splitlines()[copy.line - 1]}")
         else:
             illegal[copy.spoil] += 1
@@ -94,7 +94,8 @@ def try_copies(journals: Sequence[Tuple[str, str]], program: Program, copies: in
 def words() -> argparse.Namespace:
     form = argparse.RawDescriptionHelpFormatter
     parser = argparse.ArgumentParser(prog="tampering", description=__doc__, formatter_class=form)
-    parser.add_argument("--program", metavar="PATH", help="the thpsplit that judges")
+    parser.add_argument("--checker", metavar="PATH", help="the thpcheck that judges")
+    parser.add_argument("--program", metavar="PATH", help="the thpsplit that judges in its place")
     parser.add_argument("--copies", type=int, default=200, metavar="N")
     parser.add_argument("--seed", type=int, default=1, metavar="S")
     parser.add_argument("journals", nargs="+", metavar="JOURNAL")
@@ -103,7 +104,7 @@ def words() -> argparse.Namespace:
 
 def run(asked: argparse.Namespace) -> int:
     journals = [(path, read(path)) for path in asked.journals]
-    made, illegal = try_copies(journals, Program(asked.program), asked.copies, asked.seed)
+    made, illegal = try_copies(journals, find_judge(asked.checker, asked.program), asked.copies, asked.seed)
     if not made:
         return SKIPPED
     return DONE if illegal >= NEEDED * made else DIFFERS

@@ -9,7 +9,6 @@ from __future__ import annotations
 
 import argparse
 import os
-import sys
 from collections import Counter as Tallies
 from pathlib import Path
 from typing import Dict, Iterable, List, NoReturn, Optional, Tuple

@@ -4,7 +4,9 @@
     linux/tests/ends.py COMMAND ARGS..      by default: thpreplay with random scripts
 
 Compared: every file below the kernel's folder of transparent huge pages that is a setting, the memory control groups,
-and the processes by their names. The last line is `N passed, M failed`; 77 without root.
+and the processes by their names. A line for each signal says at how many moments the tool had changed something that
+was to be put back. A tool that ends by itself shows nothing: that counts as failed. The last line is
+`N passed, M failed`; 77 without root.
 """
 
 from __future__ import annotations
@@ -14,35 +16,51 @@ import signal
 import subprocess
 import sys
 import time
+from dataclasses import dataclass, fields
 from pathlib import Path
 from typing import Dict, List, Set, Tuple
 
 ROOT = Path(__file__).resolve().parent.parent.parent
 sys.path.insert(0, str(ROOT))
 
+from linux.common.errors import SKIPPED  # noqa: E402
 from linux.common.files import THP, read  # noqa: E402
 from linux.common.groups import find_hierarchy  # noqa: E402
 from linux.common.keeper import Keeper  # noqa: E402
 
-MOMENTS = 10
+SIGNALS = (signal.SIGINT, signal.SIGTERM, signal.SIGKILL)
+MOMENTS = [0.15 + 0.25 * number for number in range(10)]  # seconds after the tool's start
 NAMES = ("mapper", "workload", "guardian.py")
-Shot = Tuple[Dict[str, str], Set[str], List[str]]
+
+
+@dataclass(frozen=True)
+class Shot:
+    """What a tool changes, at one moment: settings, control groups, and processes of its own."""
+
+    settings: Dict[str, str]
+    groups: Set[str]
+    processes: List[str]
+
+    def changed(self, before: Shot) -> List[str]:
+        """What isn't as it was."""
+        return [each.name for each in fields(self) if getattr(self, each.name) != getattr(before, each.name)]
+
+
+def is_own(process: Path) -> bool:
+    """Whether a folder of /proc is of a process that the tools start."""
+    try:
+        words = (process / "cmdline").read_bytes().split(b"\0")
+    except OSError:
+        return False
+    return any(Path(word.decode(errors="replace")).name in NAMES for word in words[:4])
 
 
 def shot() -> Shot:
-    """Settings, control groups and the tools' processes now."""
+    """What is there now."""
     settings = {str(path): read(path) for path in Path(THP).rglob("*")
                 if path.is_file() and path.stat().st_mode & 0o200 and "stats" not in path.parts}
     groups = {path for path, _, _ in os.walk(find_hierarchy().top) if "/thp" in path}
-    running = []
-    for path in Path("/proc").glob("[0-9]*/cmdline"):
-        try:
-            words = path.read_bytes().split(b"\0")
-        except OSError:
-            continue
-        if any(Path(word.decode(errors="replace")).name in NAMES for word in words[:4]):
-            running.append(path.parent.name)
-    return settings, groups, running
+    return Shot(settings, groups, [path.name for path in Path("/proc").glob("[0-9]*") if is_own(path)])
 
 
 def heed_interrupts() -> None:
@@ -58,26 +76,35 @@ def settled() -> Shot:
     return shot()
 
 
+def end_at(command: List[str], sent: signal.Signals, moment: float) -> Tuple[bool, List[str]]:
+    """Ends the tool at a moment: whether it still ran and all is as before, and what it had changed until then."""
+    before = settled()
+    tool = subprocess.Popen(command, cwd=ROOT, stdout=subprocess.DEVNULL, stderr=subprocess.DEVNULL,
+                            preexec_fn=heed_interrupts)
+    time.sleep(moment)
+    meanwhile, ended = shot().changed(before), tool.poll()
+    tool.send_signal(sent)
+    tool.wait()
+    left = settled().changed(before)
+    if ended is not None:
+        print(f"after {moment:.2f} s the tool had ended by itself, with status {ended}", flush=True)
+    if left:
+        print(f"{sent.name} after {moment:.2f} s: changed: {', '.join(left)}", flush=True)
+    return ended is None and not left, meanwhile
+
+
 def main() -> int:
     if os.geteuid() != 0:
         print("ends: skipped: not root", file=sys.stderr)
-        return 77
+        return SKIPPED
     command = sys.argv[1:] or [sys.executable, "-m", "linux.replay", "--random", "100000", "--quiet"]
-    passed = failed = 0
-    for number in (signal.SIGINT, signal.SIGTERM, signal.SIGKILL):
-        for moment in range(MOMENTS):
-            before = settled()
-            tool = subprocess.Popen(command, cwd=ROOT, stdout=subprocess.DEVNULL, stderr=subprocess.DEVNULL,
-                                    preexec_fn=heed_interrupts)
-            time.sleep(0.15 + 0.25 * moment)
-            tool.send_signal(number)
-            tool.wait()
-            after = settled()
-            names = ("settings", "groups", "processes")
-            changed = [name for name, was, is_now in zip(names, before, after) if was != is_now]
-            passed, failed = passed + (not changed), failed + bool(changed)
-            if changed:
-                print(f"{number.name} after {0.15 + 0.25 * moment:.2f} s: changed: {', '.join(changed)}", flush=True)
+    passed = 0
+    for sent in SIGNALS:
+        ends = [end_at(command, sent, moment) for moment in MOMENTS]
+        good, busy = sum(is_good for is_good, _ in ends), sum(bool(meanwhile) for _, meanwhile in ends)
+        print(f"{sent.name}: {good} of {len(ends)} as before; at {busy} something was changed", flush=True)
+        passed += good
+    failed = len(SIGNALS) * len(MOMENTS) - passed
     print(f"{passed} passed, {failed} failed", flush=True)
     return 1 if failed else 0
 

@@ -6,6 +6,7 @@ import unittest
 from typing import List, Optional, Sequence
 
 from ..common.btf import Missing, Types
+from ..record.calls import MREMAP
 from ..record.journalist import Journalist, Settings
 from ..record.records import Kind, Record
 from .made_types import MadeTypes
@@ -267,6 +268,24 @@ class LongScanTest(unittest.TestCase):
         self.assertEqual((journalist.seen["queues compared"] > 3, journalist.lost_pages()), (True, 0))
 
 
+    def test_the_frames_of_a_page_that_it_holds_are_another_page_while_it_runs(self) -> None:
+        """Page 1 is freed and page 5 has its frames; both it and page 2, behind it, join before page 0 is split."""
+        story, b, c = self.begun(), folio_of(1), folio_of(2)
+        call = [MUNMAP, HUGE * 11, HUGE, 0]
+        story.add(Kind.ENTER, call)
+        story.add(Kind.FREE, [b, 9])
+        story.add(Kind.EXIT, [*call, 0], [])
+        story.add(Kind.FAULT, [HUGE * 15, 6])
+        story.add(Kind.ALLOC, [b, 9])
+        story.drop(5, 0, 8, [b])
+        story.drop(2, 0, 8, [b, c])
+        for frame in frames_of(0, 0, 8):
+            story.daemon(Kind.FREE, [frame, 0])
+        story.daemon(Kind.SCANNED, [0, 1], [b, c])
+        journalist = told(story)
+        self.assertEqual((words(journalist)[-1], journalist.lost_pages()), ("split 0 0-7", 0))
+
+
 class QueuedAgainTest(unittest.TestCase):
     def test_a_page_let_go_and_queued_before_the_scan_has_ended(self) -> None:
         """Page 0 is pinned and put back, page 1 found in use; page 2 joins, then a call queues page 1 again."""
@@ -298,6 +317,42 @@ class EndTest(unittest.TestCase):
         journalist = told(story)
         self.assertEqual(words(journalist)[-1], "unmapsub 0 8 504 freed 0-511")
         self.assertEqual(journalist.seen["pages told before their process's end"], 1)
+
+    def test_a_page_that_a_scan_holds_while_its_process_ends(self) -> None:
+        """The scan frees it, before the end of the address space is recorded."""
+        story = By()
+        page = story.page(0)
+        story.drop(0, 0, 8, [page])
+        story.daemon(Kind.SCAN, [1, 1], [page])
+        story.daemon(Kind.FREE, [page, 9])
+        story.daemon(Kind.SCANNED, [0, 0], [])
+        story.daemon(Kind.EXIT_MMAP, [SPACE], [])
+        journalist = told(story)
+        self.assertEqual(words(journalist)[2:], ["unmapsub 0 0 8 queued -", "unmapsub 0 8 504 freed 0-511"])
+        self.assertEqual(journalist.seen["pages told before their process's end"], 1)
+
+    def test_a_page_in_two_page_tables_joins_the_queue_while_its_process_ends(self) -> None:
+        """A scan sees it there when the first table has gone, and the second one hasn't."""
+        story = By()
+        page = story.page(0)
+        move = [MREMAP, HUGE * 10, HUGE, HUGE, HUGE * 40 + 256 * BASE]
+        story.add(Kind.ENTER, move[:4])
+        story.add(Kind.EXIT, move, [])
+        story.daemon(Kind.SCAN, [0, 1], [page])
+        story.daemon(Kind.SCANNED, [0, 0], [page])
+        story.daemon(Kind.FREE, [page, 9])
+        story.daemon(Kind.EXIT_MMAP, [SPACE], [])
+        journalist = told(story)
+        self.assertEqual(words(journalist)[2:], ["unmapsub 0 0 256 queued -", "unmapsub 0 256 256 freed 0-511"])
+        self.assertEqual((journalist.seen["pages told before their process's end"], journalist.lost_pages()), (1, 0))
+
+    def test_a_page_in_one_page_table_does_not(self) -> None:
+        story = By()
+        page = story.page(0)
+        story.daemon(Kind.SCAN, [0, 1], [page])
+        story.daemon(Kind.SCANNED, [0, 0], [page])
+        story.daemon(Kind.EXIT_MMAP, [SPACE], [])
+        self.assertEqual(told(story).seen["pages left out: queued for no reason seen"], 1)
 
     def test_a_page_that_goes_while_its_process_runs_is_left_out(self) -> None:
         story = By()

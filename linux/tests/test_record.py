@@ -2,8 +2,6 @@
 
 from __future__ import annotations
 
-import gzip
-import json
 import random
 import struct
 import unittest
@@ -11,9 +9,11 @@ from pathlib import Path
 from typing import List, Optional, Sequence
 
 from ..common.program import Program
-from ..record.journalist import Journalist, Settings, batches_of
+from ..record.journalist import Journalist, Settings
 from ..record.records import COUNT_AT, FOLIOS_AT, QUEUE_MOST, SIZE, Kind, Record, record_from, record_of
+from ..record.scans import batches_of
 from ..record.tampering import Spoil, tampered
+from .recordings import recording
 
 HERE = Path(__file__).resolve().parent
 PLAIN = str(HERE / "plain_program.py")
@@ -169,10 +169,8 @@ class StoredTest(unittest.TestCase):
         return self.told(name, straighten).text()
 
     def told(self, name: str, straighten: bool) -> Journalist:
-        with gzip.open(HERE / f"stored/{name}.records.gz", "rt") as file:
-            records = [record_from(json.loads(line)) for line in file]
         journalist = Journalist(Settings(9, None, straighten))
-        journalist.tell(records)
+        journalist.tell(recording(name))
         self.assertEqual(journalist.seen["queues that differ"], 0)
         return journalist
 

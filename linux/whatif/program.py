@@ -16,7 +16,7 @@ from .picture import picture
 from .predict import DEFAULT, OFF, Predictor, Row, Share, highest_with, label, thresholds_of, with_today
 from .processes import Choice
 from .scripts import Script, read_script
-from .snapshot import How, Snapshot, Taker, from_json, mebibytes, show_progress, told, warnings, write
+from .snapshot import How, Snapshot, Taker, from_json, show_progress, told, warnings, write
 from .table import (
     FRAMES_A_MEBIBYTE,
     cost_table,

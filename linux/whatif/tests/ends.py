@@ -24,6 +24,7 @@ from ...common.files import BASE, COLLAPSE_SLEEP, PTES_NONE, SWITCH, read, size_
 from ...common.groups import find_hierarchy
 from ...common.keeper import Keeper
 from ...common.page_files import Frames, frames_at
+from ...tests.ends import heed_interrupts
 
 PROGRAM = Path(__file__).resolve().parent.parent / "thpwhatif"
 HUGE, PAGES = BASE * 512, 16
@@ -88,11 +89,6 @@ def check_shared() -> List[bool]:
     os.waitpid(child, 0)
     del memory
     return out
-
-
-def heed_interrupts() -> None:
-    """A shell's background job ignores SIGINT, and so would what it starts."""
-    signal.signal(signal.SIGINT, signal.SIG_DFL)
 
 
 def check_end(words: List[str], sent: signal.Signals, wait: float, former: Dict[str, str]) -> bool:

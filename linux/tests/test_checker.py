@@ -1,0 +1,127 @@
+"""Journals judged: by a stand-in for `thpcheck`, and by the real one where it is built."""
+
+from __future__ import annotations
+
+import os
+import random
+import tempfile
+import unittest
+from pathlib import Path
+from typing import Tuple
+from unittest import mock
+
+from ..common import checker as checkers
+from ..common import program as programs
+from ..common.checker import Checker, find_judge
+from ..common.errors import Unavailable
+from ..common.program import Program
+from ..record.__main__ import judge
+from ..record.journalist import Journalist, Settings
+from ..record.tampering import Spoil, tampered
+from .recordings import recording
+
+HERE = Path(__file__).resolve().parent
+PLAIN, PLAIN_CHECKER = str(HERE / "plain_program.py"), str(HERE / "plain_checker.py")
+BUILT = programs.find("thpcheck", checkers.BUILT)
+
+
+def journal_of_one_thread() -> str:
+    """The journal of a stored recording, which is legal."""
+    journalist = Journalist(Settings(9, None, True))
+    journalist.tell(recording("one_thread"))
+    return journalist.text()
+
+
+def spoilt_copy() -> Tuple[str, int]:
+    """That journal without one event of the queue, and the line at which it is illegal by the plain reading."""
+    text, chance = journal_of_one_thread(), random.Random(5)
+    while True:
+        copy = tampered(text, chance)
+        line = Program(PLAIN).check(copy.text).line if copy and copy.spoil is Spoil.LEFT_OUT else None
+        if copy and line:
+            return copy.text, line
+
+
+class ExplainedTest(unittest.TestCase):
+    def checker(self, explains: bool) -> Checker:
+        with mock.patch.dict(os.environ, {"PLAIN_EXPLAINS": "1"} if explains else {}):
+            return Checker(PLAIN_CHECKER)
+
+    def test_an_illegal_journal_is_explained(self) -> None:
+        text, line = spoilt_copy()
+        with mock.patch.dict(os.environ, {"PLAIN_EXPLAINS": "1"}):
+            judged = judge(text, self.checker(True))
+        self.assertEqual((judged.legal, judged.text.split(" (")[0]), (False, f"illegal line {line}"))
+        self.assertEqual(judged.why[0], f"line {line}: {text.splitlines()[line - 1]}")
+
+    def test_a_checker_that_does_not_explain_is_not_asked_to(self) -> None:
+        text, line = spoilt_copy()
+        judged = judge(text, self.checker(False))
+        self.assertEqual((judged.legal, judged.why), (False, []))
+        self.assertTrue(judged.text.startswith(f"illegal line {line}: {text.splitlines()[line - 1]} ("))
+
+    def test_a_legal_journal_has_nothing_to_explain(self) -> None:
+        judged = judge(journal_of_one_thread(), self.checker(True))
+        self.assertEqual((judged.legal, judged.text.split(" (")[0], judged.why), (True, "legal", []))
+
+    def test_an_empty_journal_is_no_legal_one(self) -> None:
+        self.assertFalse(judge("thp-journal 1\nnode 0 blocks 8\nend\n", self.checker(True)).legal)
+
+
+@unittest.skipUnless(BUILT, "there is no thpcheck (make checker, or THPCHECK=PATH)")
+class BuiltTest(unittest.TestCase):
+    """The program itself says of a recording what the plain reading says."""
+
+    def test_a_recording_and_a_spoilt_copy_of_it(self) -> None:
+        assert BUILT
+        text, line = spoilt_copy()
+        checker = Checker(BUILT)
+        self.assertEqual(checker.check(journal_of_one_thread()).text, "legal")
+        verdict = checker.check(text)
+        self.assertEqual((verdict.text, verdict.line), (f"illegal line {line}", line))
+        if verdict.why:
+            self.assertEqual(verdict.why.splitlines()[0], f"line {line}: {text.splitlines()[line - 1]}")
+            self.assertIn("\nwhy: ", verdict.why)
+
+
+class FoundTest(unittest.TestCase):
+    """Who judges; the folder stands for one in which nothing is built, and is the path."""
+
+    def setUp(self) -> None:
+        made = tempfile.TemporaryDirectory()
+        self.addCleanup(made.cleanup)
+        self.folder = Path(made.name)
+        nothing = self.folder / "nothing"
+        for patch in (mock.patch.object(checkers, "BUILT", nothing), mock.patch.object(programs, "BUILT", nothing),
+                      mock.patch.dict(os.environ, {"PATH": made.name})):
+            patch.start()
+            self.addCleanup(patch.stop)
+        for name in ("THPSPLIT", "THPCHECK"):
+            os.environ.pop(name, None)
+
+    def made(self, name: str) -> str:
+        path = self.folder / name
+        path.write_text("#!/bin/sh\necho Usage\n")
+        path.chmod(0o755)
+        return str(path)
+
+    def test_thpcheck_comes_first_and_thpsplit_stands_in_for_it(self) -> None:
+        with self.assertRaisesRegex(Unavailable, "no thpcheck .*, and no thpsplit"):
+            find_judge()
+        split = self.made("thpsplit")
+        found = find_judge()
+        self.assertEqual((type(found), found.path), (Program, split))
+        check = self.made("thpcheck")
+        found = find_judge()
+        self.assertEqual((type(found), found.path), (Checker, check))
+
+    def test_one_that_is_named_judges(self) -> None:
+        split, check = self.made("thpsplit"), self.made("thpcheck")
+        other = self.made("other")
+        self.assertEqual(find_judge(program=split).path, split)
+        self.assertEqual(find_judge(checker=other, program=split).path, other)
+        with mock.patch.dict(os.environ, {"THPCHECK": other, "THPSPLIT": split}):
+            self.assertEqual(find_judge().path, other)
+        self.assertEqual(find_judge(checker=check).path, check)
+        with self.assertRaisesRegex(Unavailable, "no program nowhere"):
+            find_judge(checker="nowhere")
