@@ -1,0 +1,389 @@
+/* Each call of the library, and each code that it answers but want of memory (refused.c). */
+#include "wanted.h"
+
+#include <sys/wait.h>
+#include <unistd.h>
+
+static const thp_node EMPTY = THP_NODE_INIT;
+
+/* a node whose pages have four subpages */
+static thp_node small_node(uint32_t blocks) {
+    thp_node node = EMPTY;
+    ANSWERS(thp_node_create(&node, blocks, 2, THP_UNDERUSED_OFF), THP_OK);
+    return node;
+}
+
+/* a page of which one subpage went out of use */
+static uint64_t queued_page(thp_node *node, uint32_t caller) {
+    uint64_t page = 99;
+    thp_done done;
+    ANSWERS(thp_node_alloc(node, caller, &page), THP_OK);
+    ANSWERS(thp_node_split_pmd(node, caller, page), THP_OK);
+    ANSWERS(thp_node_unmap_sub(node, caller, page, 0, 1, &done), THP_OK);
+    WANT(done.outcome == THP_QUEUED && done.released[0] == 0);
+    return page;
+}
+
+static void words(void) {
+    WANT(strcmp(thp_version(), THP_VERSION) == 0);
+    for (int code = THP_OK; code <= THP_BAD_PASS; code++) {
+        WANT(strcmp(thp_strerror((thp_code)code), thp_strerror((thp_code)99)) != 0);
+        for (int other = THP_OK; other < code; other++) {
+            WANT(strcmp(thp_strerror((thp_code)code), thp_strerror((thp_code)other)) != 0);
+        }
+    }
+}
+
+/* the number of each code, which is never changed */
+static void numbers(void) {
+    static const thp_code codes[] = {
+        THP_OK, THP_NO_PAGE, THP_BAD_RANGE, THP_IS_SPLIT, THP_NOT_MAPPED, THP_GONE, THP_NOT_PINNED, THP_TOO_MANY, THP_CLOSED,
+        THP_NO_BLOCK, THP_HAS_BATCH, THP_OUT_OF_MEMORY, THP_EMPTY, THP_IN_USE, THP_BAD_CALLER, THP_BAD_SIZE, THP_BAD_COUNT,
+        THP_NO_BATCH, THP_BATCH_OPEN, THP_TOO_SMALL, THP_NULL, THP_ILLEGAL, THP_TEXT_TOO_LONG, THP_TEXT_BAD_BYTE, THP_TEXT_CUT,
+        THP_TEXT_BAD_WORD, THP_TEXT_BAD_COUNT, THP_TEXT_BAD_NUMBER, THP_TEXT_BAD_SET, THP_TEXT_BAD_ORDER, THP_BUSY, THP_BAD_PASS};
+    for (int at = 0; at < (int)(sizeof codes / sizeof *codes); at++) WANT((int)codes[at] == at);
+}
+
+static void made_and_given_back(void) {
+    thp_node node = EMPTY;
+    ANSWERS(thp_node_create(NULL, 16, 9, THP_UNDERUSED_OFF), THP_NULL);
+    ANSWERS(thp_node_create(&node, 0, 9, THP_UNDERUSED_OFF), THP_BAD_SIZE);
+    ANSWERS(thp_node_create(&node, 4097, 9, THP_UNDERUSED_OFF), THP_BAD_SIZE);
+    ANSWERS(thp_node_create(&node, 1, 1, THP_UNDERUSED_OFF), THP_BAD_SIZE);
+    ANSWERS(thp_node_create(&node, 1, 10, THP_UNDERUSED_OFF), THP_BAD_SIZE);
+    ANSWERS(thp_node_create(&node, 1, 2, 4), THP_BAD_SIZE);
+    WANT(node.at == NULL && node.live == 0);
+    ANSWERS(thp_node_create(&node, 4096, 9, 511), THP_OK);
+    ANSWERS(thp_node_create(&node, 1, 2, 3), THP_IN_USE);
+    ANSWERS(thp_node_destroy(NULL), THP_NULL);
+    ANSWERS(thp_node_destroy(&node), THP_OK);
+    ANSWERS(thp_node_destroy(&node), THP_EMPTY);
+    ANSWERS(thp_node_create(&node, 1, 2, 3), THP_OK);
+    ANSWERS(thp_node_destroy(&node), THP_OK);
+}
+
+/* each call on a handle that leads to nothing tells that, and nothing else */
+static void empty_handle(void) {
+    thp_node node = EMPTY;
+    uint64_t page = 7;
+    uint32_t count = 7;
+    size_t size = 7;
+    uint8_t byte = 7;
+    thp_done done = {7, {7, 7, 7, 7, 7, 7, 7, 7}};
+    thp_scan scan = {7, 7, 7, 7, 7, 7};
+    thp_tried tried = {7, 7};
+    thp_back back = {7, 7};
+    thp_stats stats = {7, 7, 7, 7, 7, 7, 7, 7, 7, 7};
+    ANSWERS(thp_node_alloc(&node, 0, &page), THP_EMPTY);
+    ANSWERS(thp_node_map_whole(&node, 0, 0), THP_EMPTY);
+    ANSWERS(thp_node_unmap_whole(&node, 0, 0, &done), THP_EMPTY);
+    ANSWERS(thp_node_map_sub(&node, 0, 0, 0, 1), THP_EMPTY);
+    ANSWERS(thp_node_unmap_sub(&node, 0, 0, 0, 1, &done), THP_EMPTY);
+    ANSWERS(thp_node_split_pmd(&node, 0, 0), THP_EMPTY);
+    ANSWERS(thp_node_pin(&node, 0, 0), THP_EMPTY);
+    ANSWERS(thp_node_unpin(&node, 0, 0, &done), THP_EMPTY);
+    ANSWERS(thp_node_write(&node, 0, 0, 0, 1), THP_EMPTY);
+    ANSWERS(thp_node_zero(&node, 0, 0, 0, 1), THP_EMPTY);
+    ANSWERS(thp_node_close(&node, 0), THP_EMPTY);
+    ANSWERS(thp_node_scan(&node, 0, 1, &scan), THP_EMPTY);
+    ANSWERS(thp_node_take(&node, 0, 1, &count), THP_EMPTY);
+    ANSWERS(thp_node_split_next(&node, 0, &tried), THP_EMPTY);
+    ANSWERS(thp_node_put_back(&node, 0, &back), THP_EMPTY);
+    ANSWERS(thp_node_abandon(&node, 0), THP_EMPTY);
+    ANSWERS(thp_node_reserve(&node, 1), THP_EMPTY);
+    ANSWERS(thp_node_queue_length(&node, &count), THP_EMPTY);
+    ANSWERS(thp_node_stats(&node, &stats), THP_EMPTY);
+    ANSWERS(thp_node_journal(&node, &byte, 1, &size), THP_EMPTY);
+    WANT(page == 7 && count == 7 && size == 7 && byte == 7 && done.outcome == 7 && done.released[7] == 7);
+    WANT(scan.taken == 7 && scan.used == 7 && tried.kind == 7 && back.dropped == 7 && stats.events == 7 && stats.split_pmd == 7);
+    WANT(node.at == NULL && node.live == 0);
+}
+
+static void null_pointers(void) {
+    thp_node node = small_node(1);
+    uint32_t line;
+    size_t size;
+    ANSWERS(thp_check_text(NULL, 1, &line), THP_NULL);
+    ANSWERS(thp_check_text((const uint8_t *)"", 0, NULL), THP_NULL);
+    ANSWERS(thp_use_allocator(NULL), THP_NULL);
+    ANSWERS(thp_node_alloc(NULL, 0, NULL), THP_NULL);
+    ANSWERS(thp_node_alloc(&node, 0, NULL), THP_NULL);
+    ANSWERS(thp_node_map_whole(NULL, 0, 0), THP_NULL);
+    ANSWERS(thp_node_unmap_whole(&node, 0, 0, NULL), THP_NULL);
+    ANSWERS(thp_node_map_sub(NULL, 0, 0, 0, 1), THP_NULL);
+    ANSWERS(thp_node_unmap_sub(&node, 0, 0, 0, 1, NULL), THP_NULL);
+    ANSWERS(thp_node_split_pmd(NULL, 0, 0), THP_NULL);
+    ANSWERS(thp_node_pin(NULL, 0, 0), THP_NULL);
+    ANSWERS(thp_node_unpin(&node, 0, 0, NULL), THP_NULL);
+    ANSWERS(thp_node_write(NULL, 0, 0, 0, 1), THP_NULL);
+    ANSWERS(thp_node_zero(NULL, 0, 0, 0, 1), THP_NULL);
+    ANSWERS(thp_node_close(NULL, 0), THP_NULL);
+    ANSWERS(thp_node_scan(&node, 0, 1, NULL), THP_NULL);
+    ANSWERS(thp_node_take(&node, 0, 1, NULL), THP_NULL);
+    ANSWERS(thp_node_split_next(&node, 0, NULL), THP_NULL);
+    ANSWERS(thp_node_put_back(&node, 0, NULL), THP_NULL);
+    ANSWERS(thp_node_abandon(NULL, 0), THP_NULL);
+    ANSWERS(thp_node_reserve(NULL, 1), THP_NULL);
+    ANSWERS(thp_node_queue_length(&node, NULL), THP_NULL);
+    ANSWERS(thp_node_stats(&node, NULL), THP_NULL);
+    ANSWERS(thp_node_journal(&node, NULL, 1, &size), THP_NULL);
+    ANSWERS(thp_node_journal(&node, NULL, 0, NULL), THP_NULL);
+    ANSWERS(thp_node_destroy(&node), THP_OK);
+}
+
+/* what the node refuses, each word by a call */
+static void refusals(void) {
+    thp_node node = small_node(1);
+    uint64_t page = 9;
+    thp_done done = {7, {0}};
+    thp_scan scan;
+    ANSWERS(thp_node_alloc(&node, 64, &page), THP_BAD_CALLER);
+    WANT(page == 9);
+    ANSWERS(thp_node_alloc(&node, 63, &page), THP_OK);
+    WANT(page == 0);
+    ANSWERS(thp_node_alloc(&node, 0, &page), THP_NO_BLOCK);
+    ANSWERS(thp_node_map_whole(&node, 0, 1), THP_NO_PAGE);
+    ANSWERS(thp_node_unmap_whole(&node, 0, 1, &done), THP_NO_PAGE);
+    ANSWERS(thp_node_map_sub(&node, 0, 0, 0, 0), THP_BAD_RANGE);
+    ANSWERS(thp_node_map_sub(&node, 0, 0, UINT32_MAX, UINT32_MAX), THP_BAD_RANGE);
+    ANSWERS(thp_node_write(&node, 0, 0, 3, 2), THP_BAD_RANGE);
+    ANSWERS(thp_node_unmap_sub(&node, 0, 0, 0, 4, &done), THP_NOT_MAPPED);
+    ANSWERS(thp_node_unpin(&node, 0, 0, &done), THP_NOT_PINNED);
+    WANT(done.outcome == 7);
+    ANSWERS(thp_node_split_pmd(&node, 0, 0), THP_OK);
+    ANSWERS(thp_node_split_pmd(&node, 0, 0), THP_NOT_MAPPED);
+    ANSWERS(thp_node_unmap_sub(&node, 0, 0, 3, 1, &done), THP_OK);
+    ANSWERS(thp_node_zero(&node, 0, 0, 2, 2), THP_NOT_MAPPED);
+    ANSWERS(thp_node_scan(&node, 0, 129, &scan), THP_BAD_COUNT);
+    ANSWERS(thp_node_scan(&node, 64, 128, &scan), THP_BAD_CALLER);
+    ANSWERS(thp_node_scan(&node, 0, 128, &scan), THP_OK);
+    WANT(scan.taken == 1 && scan.split == 1 && scan.pinned == 0 && scan.back == 0 && scan.dropped == 0 && scan.used == 0);
+    ANSWERS(thp_node_map_whole(&node, 0, 0), THP_IS_SPLIT);
+    ANSWERS(thp_node_pin(&node, 0, 0), THP_IS_SPLIT);
+    ANSWERS(thp_node_map_sub(&node, 0, 0, 2, 2), THP_GONE);
+    ANSWERS(thp_node_close(&node, 0), THP_OK);
+    ANSWERS(thp_node_close(&node, 0), THP_CLOSED);
+    ANSWERS(thp_node_alloc(&node, 0, &page), THP_CLOSED);
+    ANSWERS(thp_node_unmap_sub(&node, 0, 0, 0, 3, &done), THP_OK);
+    WANT(done.outcome == THP_FREED && done.released[0] == 7 && done.released[1] == 0);
+    ANSWERS(thp_node_destroy(&node), THP_OK);
+}
+
+/* counts at their limit */
+static void limits(void) {
+    thp_node node = small_node(1);
+    uint64_t page;
+    thp_done done;
+    ANSWERS(thp_node_alloc(&node, 0, &page), THP_OK);
+    for (int k = 0; k < 65535; k++) ANSWERS(thp_node_pin(&node, 0, page), THP_OK);
+    ANSWERS(thp_node_pin(&node, 0, page), THP_TOO_MANY);
+    ANSWERS(thp_node_unpin(&node, 0, page, &done), THP_OK);
+    WANT(done.outcome == THP_STAYS && done.released[0] == 0);
+    ANSWERS(thp_node_destroy(&node), THP_OK);
+}
+
+/* pages gain and lose, and give their frames back */
+static void pages(void) {
+    thp_node node = EMPTY;
+    uint64_t page;
+    thp_done done;
+    thp_stats stats;
+    ANSWERS(thp_node_create(&node, 2, 9, 0), THP_OK);
+    ANSWERS(thp_node_alloc(&node, 0, &page), THP_OK);
+    ANSWERS(thp_node_map_whole(&node, 1, page), THP_OK);
+    ANSWERS(thp_node_map_sub(&node, 1, page, 64, 128), THP_OK);
+    ANSWERS(thp_node_write(&node, 1, page, 0, 512), THP_OK);
+    ANSWERS(thp_node_zero(&node, 1, page, 511, 1), THP_OK);
+    ANSWERS(thp_node_pin(&node, 1, page), THP_OK);
+    ANSWERS(thp_node_unpin(&node, 1, page, &done), THP_OK);
+    WANT(done.outcome == THP_STAYS);
+    ANSWERS(thp_node_unmap_whole(&node, 1, page, &done), THP_OK);
+    ANSWERS(thp_node_unmap_whole(&node, 1, page, &done), THP_OK);
+    WANT(done.outcome == THP_STAYS);
+    ANSWERS(thp_node_unmap_sub(&node, 1, page, 64, 128, &done), THP_OK);
+    WANT(done.outcome == THP_FREED);
+    for (int word = 0; word < 8; word++) WANT(done.released[word] == UINT64_MAX);
+    ANSWERS(thp_node_stats(&node, &stats), THP_OK);
+    WANT(stats.events == 10 && stats.allocations == 1 && stats.queued == 0);
+    WANT(stats.frames_given == 512 && stats.frames_held == 0 && stats.split_page == 0 && stats.split_page_failed == 0);
+    WANT(stats.underused_split_page == 0 && stats.split_pmd == 0);
+    ANSWERS(thp_node_destroy(&node), THP_OK);
+}
+
+/* a batch by hand: one page is split, one pinned, one freed while it is in the batch */
+static void batches(void) {
+    thp_node node = small_node(8);
+    uint32_t count = 7, length = 7;
+    thp_tried tried = {7, 7};
+    thp_back back = {7, 7};
+    thp_done done;
+    thp_scan scan;
+    uint64_t split = queued_page(&node, 0);
+    uint64_t pinned = queued_page(&node, 1);
+    uint64_t freed = queued_page(&node, 2);
+    ANSWERS(thp_node_pin(&node, 1, pinned), THP_OK);
+    ANSWERS(thp_node_queue_length(&node, &length), THP_OK);
+    WANT(length == 3);
+    ANSWERS(thp_node_split_next(&node, 5, &tried), THP_NO_BATCH);
+    ANSWERS(thp_node_put_back(&node, 5, &back), THP_NO_BATCH);
+    ANSWERS(thp_node_abandon(&node, 5), THP_NO_BATCH);
+    ANSWERS(thp_node_take(&node, 5, 129, &count), THP_BAD_COUNT);
+    ANSWERS(thp_node_take(&node, 64, 128, &count), THP_BAD_CALLER);
+    WANT(count == 7 && tried.kind == 7 && back.back == 7);
+    ANSWERS(thp_node_take(&node, 5, 128, &count), THP_OK);
+    WANT(count == 3);
+    ANSWERS(thp_node_take(&node, 5, 128, &count), THP_BATCH_OPEN);
+    ANSWERS(thp_node_scan(&node, 5, 128, &scan), THP_HAS_BATCH);
+    ANSWERS(thp_node_split_next(&node, 6, &tried), THP_NO_BATCH);
+    ANSWERS(thp_node_unmap_sub(&node, 2, freed, 1, 3, &done), THP_OK);
+    WANT(done.outcome == THP_FREED && done.released[0] == 15);
+    ANSWERS(thp_node_split_next(&node, 5, &tried), THP_OK);
+    WANT(tried.kind == THP_TRY_SPLIT && tried.page == split);
+    ANSWERS(thp_node_split_next(&node, 5, &tried), THP_OK);
+    WANT(tried.kind == THP_TRY_PINNED && tried.page == pinned);
+    ANSWERS(thp_node_split_next(&node, 5, &tried), THP_OK);
+    WANT(tried.kind == THP_TRY_DONE);
+    ANSWERS(thp_node_put_back(&node, 5, &back), THP_OK);
+    WANT(back.back == 1 && back.dropped == 0);
+    ANSWERS(thp_node_take(&node, 5, 128, &count), THP_OK);
+    WANT(count == 1);
+    ANSWERS(thp_node_abandon(&node, 5), THP_OK);
+    ANSWERS(thp_node_take(&node, 5, 128, &count), THP_HAS_BATCH);
+    ANSWERS(thp_node_scan(&node, 6, 0, &scan), THP_OK);
+    WANT(scan.taken == 0);
+    ANSWERS(thp_node_destroy(&node), THP_OK);
+}
+
+/* a page that is queued since it was allocated, and is found in use */
+static void underused(void) {
+    thp_node node = EMPTY;
+    uint64_t page;
+    uint32_t count;
+    thp_tried tried;
+    thp_stats stats;
+    ANSWERS(thp_node_create(&node, 2, 2, 1), THP_OK);
+    ANSWERS(thp_node_alloc(&node, 0, &page), THP_OK);
+    ANSWERS(thp_node_write(&node, 0, page, 0, 4), THP_OK);
+    ANSWERS(thp_node_take(&node, 0, 1, &count), THP_OK);
+    ANSWERS(thp_node_split_next(&node, 0, &tried), THP_OK);
+    WANT(tried.kind == THP_TRY_USED && tried.page == page);
+    ANSWERS(thp_node_abandon(&node, 0), THP_OK);
+    ANSWERS(thp_node_alloc(&node, 0, &page), THP_OK);
+    ANSWERS(thp_node_take(&node, 0, 1, &count), THP_OK);
+    ANSWERS(thp_node_split_next(&node, 0, &tried), THP_OK);
+    WANT(tried.kind == THP_TRY_SPLIT && tried.page == page);
+    ANSWERS(thp_node_stats(&node, &stats), THP_OK);
+    WANT(stats.split_page == 1 && stats.underused_split_page == 1);
+    ANSWERS(thp_node_destroy(&node), THP_OK);
+}
+
+/* the journal goes to a buffer of its length, and to no shorter one; nothing is written behind it */
+static void journals(void) {
+    static const char text[] = "thp-journal 2\nnode 0 blocks 1 order 2\n3 alloc 0\n3 unmapwhole 0 freed 0-3\nend\n";
+    const size_t length = sizeof text - 1;
+    thp_node node = small_node(1);
+    uint64_t page;
+    thp_done done;
+    size_t size = 0;
+    uint32_t line = 7;
+    uint8_t buffer[128];
+    ANSWERS(thp_node_alloc(&node, 3, &page), THP_OK);
+    ANSWERS(thp_node_unmap_whole(&node, 3, page, &done), THP_OK);
+    ANSWERS(thp_node_journal(&node, NULL, 0, &size), THP_TOO_SMALL);
+    WANT(size == length);
+    memset(buffer, '#', sizeof buffer);
+    ANSWERS(thp_node_journal(&node, buffer, length - 1, &size), THP_TOO_SMALL);
+    WANT(size == length && buffer[0] == '#');
+    ANSWERS(thp_node_journal(&node, buffer, length, &size), THP_OK);
+    WANT(size == length && memcmp(buffer, text, length) == 0 && buffer[length] == '#');
+    ANSWERS(thp_node_journal(&node, buffer, sizeof buffer, &size), THP_OK);
+    WANT(size == length && buffer[length] == '#');
+    ANSWERS(thp_check_text(buffer, size, &line), THP_OK);
+    WANT(line == 0);
+    ANSWERS(thp_node_destroy(&node), THP_OK);
+}
+
+static void answers_text(const char *text, thp_code code, uint32_t at) {
+    uint32_t line = 7;
+    ANSWERS(thp_check_text((const uint8_t *)text, strlen(text), &line), code);
+    WANT(line == at);
+}
+
+static void texts(void) {
+    uint32_t line = 7;
+    answers_text("thp-journal 1\nnode 0 blocks 1\nend\n", THP_OK, 0);
+    answers_text("thp-journal 1\nnode 0 blocks 1\n0 alloc 1\nend\n", THP_ILLEGAL, 3);
+    answers_text("thp-journal 1\nnode 0\tblocks 1\nend\n", THP_TEXT_BAD_BYTE, 2);
+    answers_text("thp-journal 1\nend", THP_TEXT_CUT, 2);
+    answers_text("thp-journal 1\nnode 0 blocks 1\n0 free 0\nend\n", THP_TEXT_BAD_WORD, 3);
+    answers_text("thp-journal 1\nnode 0 blocks 1\n0 alloc\nend\n", THP_TEXT_BAD_COUNT, 3);
+    answers_text("thp-journal 1\nnode 0 blocks 4097\nend\n", THP_TEXT_BAD_NUMBER, 2);
+    answers_text("thp-journal 1\nnode 0 blocks 1\n0 split 0 1,2\nend\n", THP_TEXT_BAD_SET, 3);
+    answers_text("thp-journal 1\n0 alloc 0\nend\n", THP_TEXT_BAD_ORDER, 2);
+    ANSWERS(thp_check_text(NULL, 0, &line), THP_TEXT_CUT);
+    WANT(line == 1);
+    const size_t most = 16777216;
+    uint8_t *long_text = (uint8_t *)calloc(most + 1, 1);
+    if (long_text != NULL) {
+        ANSWERS(thp_check_text(long_text, most + 1, &line), THP_TEXT_TOO_LONG);
+        WANT(line == 0);
+        ANSWERS(thp_check_text(long_text, most, &line), THP_TEXT_BAD_BYTE);
+        WANT(line == 1);
+    }
+    free(long_text);
+}
+
+/* the child of a program without threads goes on with handles of its own */
+static void forked(void) {
+    thp_node node = small_node(2);
+    thp_stats stats;
+    uint64_t page;
+    int status = 1;
+    ANSWERS(thp_node_alloc(&node, 0, &page), THP_OK);
+    pid_t child = fork();
+    if (child == 0) {
+        failures = 0;
+        ANSWERS(thp_node_alloc(&node, 0, &page), THP_OK);
+        WANT(page == 1);
+        ANSWERS(thp_node_destroy(&node), THP_OK);
+        _exit(failures != 0);
+    }
+    WANT(child > 0 && waitpid(child, &status, 0) == child && status == 0);
+    ANSWERS(thp_node_stats(&node, &stats), THP_OK);
+    WANT(stats.allocations == 1);
+    ANSWERS(thp_node_destroy(&node), THP_OK);
+}
+
+/* handles of their own never meet */
+static void apart(void) {
+    thp_node one = small_node(1), other = small_node(1);
+    uint64_t page;
+    ANSWERS(thp_node_alloc(&one, 0, &page), THP_OK);
+    ANSWERS(thp_node_pin(&other, 0, page), THP_NO_PAGE);
+    ANSWERS(thp_node_destroy(&one), THP_OK);
+    ANSWERS(thp_node_alloc(&other, 0, &page), THP_OK);
+    WANT(page == 0);
+    ANSWERS(thp_node_reserve(&other, 100), THP_OK);
+    ANSWERS(thp_node_destroy(&other), THP_OK);
+}
+
+int main(void) {
+    static const thp_allocator usual = {malloc, realloc, free};
+    words();
+    numbers();
+    made_and_given_back();
+    ANSWERS(thp_use_allocator(&usual), THP_IN_USE);
+    empty_handle();
+    null_pointers();
+    refusals();
+    limits();
+    pages();
+    batches();
+    underused();
+    journals();
+    texts();
+    forked();
+    apart();
+    if (failures == 0) printf("calls: done\n");
+    return failures != 0;
+}

@@ -1,0 +1,123 @@
+/* Memory refused at each request in turn: the call tells it, nothing is lost, nothing is kept. */
+#include "wanted.h"
+
+static size_t requests, refused_request;
+static long blocks;
+static int refusals;
+
+static int is_refused(void) { return ++requests == refused_request; }
+
+static void *allocate(size_t size) {
+    void *memory = is_refused() ? NULL : malloc(size);
+    if (memory != NULL) blocks++;
+    return memory;
+}
+
+static void *resize(void *memory, size_t size) { return is_refused() ? NULL : realloc(memory, size); }
+
+static void give_back(void *memory) {
+    free(memory);
+    blocks--;
+}
+
+static thp_stats numbers_of(thp_node *node) {
+    thp_stats stats;
+    memset(&stats, 0, sizeof stats);
+    if (node->at != NULL) ANSWERS(thp_node_stats(node, &stats), THP_OK);
+    return stats;
+}
+
+/* a call that is refused for want of memory leaves the node as it was, and is done when it is made again */
+#define DONE(node, call) \
+    do { \
+        thp_stats before_ = numbers_of(node); \
+        thp_code code_ = (call); \
+        if (code_ == THP_OUT_OF_MEMORY) { \
+            thp_stats behind_ = numbers_of(node); \
+            WANT(memcmp(&before_, &behind_, sizeof before_) == 0); \
+            refusals++; \
+            code_ = (call); \
+        } \
+        if (code_ != THP_OK) { \
+            fprintf(stderr, "%s:%d: %s: %s\n", __FILE__, __LINE__, #call, thp_strerror(code_)); \
+            failures++; \
+        } \
+    } while (0)
+
+enum { PAGES = 24, LONGEST = 8192 };
+
+/* every call that records something, and the check of what was recorded; the journal, and its length */
+static size_t whole_life(uint8_t *text) {
+    thp_node node = THP_NODE_INIT;
+    uint64_t pages[PAGES];
+    uint32_t count, line;
+    thp_done done;
+    thp_scan scan;
+    thp_tried tried;
+    thp_back back;
+    size_t size = 0;
+    DONE(&node, thp_node_create(&node, PAGES, 2, 2));
+    for (int k = 0; k < PAGES; k++) {
+        DONE(&node, thp_node_alloc(&node, 0, &pages[k]));
+        DONE(&node, thp_node_map_whole(&node, 0, pages[k]));
+        DONE(&node, thp_node_split_pmd(&node, 1, pages[k]));
+        DONE(&node, thp_node_map_sub(&node, 1, pages[k], 0, 2));
+        DONE(&node, thp_node_write(&node, 2, pages[k], 0, 4));
+        DONE(&node, thp_node_zero(&node, 2, pages[k], 1, 1));
+        DONE(&node, thp_node_pin(&node, 3, pages[k]));
+        DONE(&node, thp_node_unmap_whole(&node, 0, pages[k], &done));
+        if (k % 2 == 0) DONE(&node, thp_node_unpin(&node, 3, pages[k], &done));
+        DONE(&node, thp_node_unmap_sub(&node, 1, pages[k], 0, 2, &done));
+    }
+    DONE(&node, thp_node_take(&node, 4, 12, &count));
+    WANT(count == 12);
+    do {
+        DONE(&node, thp_node_split_next(&node, 4, &tried));
+    } while (tried.kind != THP_TRY_DONE);
+    DONE(&node, thp_node_put_back(&node, 4, &back));
+    DONE(&node, thp_node_scan(&node, 5, 128, &scan));
+    DONE(&node, thp_node_reserve(&node, 1000));
+    DONE(&node, thp_node_close(&node, 0));
+    DONE(&node, thp_node_journal(&node, text, LONGEST, &size));
+    DONE(&node, thp_check_text(text, size, &line));
+    ANSWERS(thp_node_destroy(&node), THP_OK);
+    WANT(blocks == 0);
+    return size;
+}
+
+/* with room reserved, calls that record no more than that are never refused */
+static void reserved(void) {
+    thp_node node = THP_NODE_INIT;
+    uint64_t page;
+    refused_request = 0;
+    ANSWERS(thp_node_create(&node, 1, 9, THP_UNDERUSED_OFF), THP_OK);
+    ANSWERS(thp_node_reserve(&node, 100), THP_OK);
+    refused_request = requests + 1;
+    ANSWERS(thp_node_alloc(&node, 0, &page), THP_OK);
+    for (int k = 1; k < 100; k++) ANSWERS(thp_node_pin(&node, 0, page), THP_OK);
+    WANT(requests + 1 == refused_request);
+    ANSWERS(thp_node_destroy(&node), THP_OK);
+    WANT(blocks == 0);
+}
+
+int main(void) {
+    static const thp_allocator counted = {allocate, resize, give_back};
+    static const thp_allocator cut = {allocate, NULL, give_back};
+    static uint8_t wanted[LONGEST], text[LONGEST];
+    ANSWERS(thp_use_allocator(&cut), THP_NULL);
+    ANSWERS(thp_use_allocator(&counted), THP_OK);
+    const size_t length = whole_life(wanted);
+    const size_t all = requests;
+    WANT(refusals == 0 && all > 10);
+    for (size_t k = 1; k <= all; k++) {
+        requests = 0;
+        refused_request = k;
+        refusals = 0;
+        const size_t size = whole_life(text);
+        WANT(refusals == 1);
+        WANT(size == length && memcmp(text, wanted, length) == 0);
+    }
+    reserved();
+    if (failures == 0) printf("refused: done, each of %lu requests\n", (unsigned long)all);
+    return failures != 0;
+}

@@ -1,0 +1,187 @@
+/* Does what a script says by the library: writes the answers as `thpsplit --report answers` does, and of one node the journal, too.
+ * The check finds the journal of each node legal.
+ *
+ *     replay BLOCKS ORDER,UNDERUSED ..
+ *
+ * a word for each node, UNDERUSED a threshold or off. The script has no fault, and its sections are done one after the other. */
+#include <inttypes.h>
+#include <stdbool.h>
+#include <stdio.h>
+#include <stdlib.h>
+#include <string.h>
+
+#include "thp.h"
+
+enum { NODES = 8, LINE = 256, WORDS = 5 };
+
+typedef struct place {
+    thp_node node;
+    bool tells_used;
+    bool is_open; /* the section's caller has an open batch here */
+} place;
+
+static place places[NODES];
+static size_t nodes;
+
+static const char *const refused[] = {NULL, "no-page", "bad-range", "is-split", "not-mapped", "gone", "not-pinned", "too-many",
+                                      "closed", "no-block", "has-batch"};
+
+static void fail(const char *what) {
+    fprintf(stderr, "replay: %s\n", what);
+    exit(1);
+}
+
+static void put_set(const uint64_t *words) {
+    bool is_first = true;
+    for (int i = 0; i < 512; i++) {
+        if (!(words[i / 64] >> (i % 64) & 1)) continue;
+        int last = i;
+        while (last + 1 < 512 && words[(last + 1) / 64] >> ((last + 1) % 64) & 1) last++;
+        printf("%s%d", is_first ? "" : ",", i);
+        if (last > i) printf("-%d", last);
+        is_first = false;
+        i = last;
+    }
+    printf(is_first ? "-\n" : "\n");
+}
+
+static void put_done(const thp_done *done) {
+    static const char *const outcomes[] = {"stays", "queued", "freed"};
+    printf("%s ", outcomes[done->outcome]);
+    put_set(done->released);
+}
+
+static void put_tried(const thp_tried *tried) {
+    static const char *const kinds[] = {"done", "split", "pinned", "used"};
+    if (tried->kind == THP_TRY_DONE) printf("done\n");
+    else printf("%s %" PRIu64 "\n", kinds[tried->kind], tried->page);
+}
+
+/* one command of a caller: its answer's line, behind the section and the place */
+static void command(uint32_t caller, char *words[WORDS]) {
+    const char *word = words[0];
+    place *at = &places[strtoul(words[1], NULL, 10)];
+    thp_node *node = &at->node;
+    const uint64_t number = words[2] != NULL ? strtoull(words[2], NULL, 10) : 0;
+    const uint32_t first = words[3] != NULL ? (uint32_t)strtoul(words[3], NULL, 10) : 0;
+    const uint32_t count = words[4] != NULL ? (uint32_t)strtoul(words[4], NULL, 10) : 0;
+    thp_code code;
+    thp_done done;
+    if (strcmp(word, "alloc") == 0) {
+        uint64_t page;
+        code = thp_node_alloc(node, caller, &page);
+        if (code == THP_OK) printf("page %" PRIu64 "\n", page);
+    } else if (strcmp(word, "unmapwhole") == 0) {
+        code = thp_node_unmap_whole(node, caller, number, &done);
+        if (code == THP_OK) put_done(&done);
+    } else if (strcmp(word, "unmap") == 0) {
+        code = thp_node_unmap_sub(node, caller, number, first, count, &done);
+        if (code == THP_OK) put_done(&done);
+    } else if (strcmp(word, "unpin") == 0) {
+        code = thp_node_unpin(node, caller, number, &done);
+        if (code == THP_OK) put_done(&done);
+    } else if (strcmp(word, "count") == 0) {
+        uint32_t pages;
+        code = thp_node_queue_length(node, &pages);
+        if (code == THP_OK) printf("count %" PRIu32 "\n", pages);
+    } else if (strcmp(word, "scan") == 0) {
+        thp_scan scan;
+        code = at->is_open ? THP_HAS_BATCH : thp_node_scan(node, caller, (uint32_t)number, &scan);
+        if (code == THP_OK) {
+            printf("taken %" PRIu32 " split %" PRIu32 " pinned %" PRIu32 " back %" PRIu32 " dropped %" PRIu32, scan.taken,
+                   scan.split, scan.pinned, scan.back, scan.dropped);
+            if (at->tells_used) printf(" used %" PRIu32, scan.used);
+            printf("\n");
+        }
+    } else if (strcmp(word, "take") == 0) {
+        uint32_t taken;
+        code = thp_node_take(node, caller, (uint32_t)number, &taken);
+        if (code == THP_OK) {
+            printf("taken %" PRIu32 "\n", taken);
+            at->is_open = true;
+        }
+        if (code == THP_BATCH_OPEN) code = THP_HAS_BATCH;
+    } else if (strcmp(word, "splitnext") == 0) {
+        thp_tried tried;
+        code = thp_node_split_next(node, caller, &tried);
+        if (code == THP_OK) put_tried(&tried);
+    } else if (strcmp(word, "putback") == 0) {
+        thp_back back;
+        code = thp_node_put_back(node, caller, &back);
+        if (code == THP_OK) {
+            printf("back %" PRIu32 " dropped %" PRIu32 "\n", back.back, back.dropped);
+            at->is_open = false;
+        }
+    } else {
+        if (strcmp(word, "mapwhole") == 0) code = thp_node_map_whole(node, caller, number);
+        else if (strcmp(word, "map") == 0) code = thp_node_map_sub(node, caller, number, first, count);
+        else if (strcmp(word, "splitpmd") == 0) code = thp_node_split_pmd(node, caller, number);
+        else if (strcmp(word, "pin") == 0) code = thp_node_pin(node, caller, number);
+        else if (strcmp(word, "write") == 0) code = thp_node_write(node, caller, number, first, count);
+        else if (strcmp(word, "zero") == 0) code = thp_node_zero(node, caller, number, first, count);
+        else if (strcmp(word, "close") == 0) code = thp_node_close(node, caller);
+        else { fail("unknown word"); return; }
+        if (code == THP_OK) printf("ok\n");
+    }
+    if (code == THP_NO_BATCH) printf("no-batch\n");
+    else if (code >= THP_NO_PAGE && code <= THP_HAS_BATCH) printf("refused %s\n", refused[code]);
+    else if (code != THP_OK) fail(thp_strerror(code));
+}
+
+/* at a section's end its open batches go back */
+static void end_section(uint32_t caller) {
+    for (size_t n = 0; n < nodes; n++) {
+        thp_back back;
+        if (places[n].is_open && thp_node_put_back(&places[n].node, caller, &back) != THP_OK) fail("no put-back");
+        places[n].is_open = false;
+    }
+}
+
+static void make(uint32_t blocks, char *const *shapes) {
+    for (; shapes[nodes] != NULL && nodes < NODES; nodes++) {
+        char *underused = strchr(shapes[nodes], ',');
+        if (underused == NULL) fail("a node wants its order and its threshold");
+        places[nodes].tells_used = strcmp(underused, ",off") != 0;
+        const uint32_t threshold = places[nodes].tells_used ? (uint32_t)strtoul(underused + 1, NULL, 10) : THP_UNDERUSED_OFF;
+        const thp_code code =
+            thp_node_create(&places[nodes].node, blocks, (uint32_t)strtoul(shapes[nodes], NULL, 10), threshold);
+        if (code != THP_OK) fail(thp_strerror(code));
+    }
+}
+
+/* each node's journal is legal, and is written where it is asked for */
+static void end_node(thp_node *node, bool tells) {
+    size_t size;
+    uint32_t line;
+    if (thp_node_journal(node, NULL, 0, &size) != THP_TOO_SMALL) fail("no length");
+    uint8_t *text = malloc(size);
+    if (text == NULL || thp_node_journal(node, text, size, &size) != THP_OK) fail("no journal");
+    if (thp_check_text(text, size, &line) != THP_OK) fail("the journal isn't legal");
+    if (tells) fwrite(text, 1, size, stdout);
+    free(text);
+    if (thp_node_destroy(node) != THP_OK) fail("not given back");
+}
+
+int main(int argc, char **argv) {
+    if (argc < 3) fail("BLOCKS ORDER,UNDERUSED ..");
+    char line[LINE];
+    uint32_t caller = 0, count = 0;
+    make((uint32_t)strtoul(argv[1], NULL, 10), argv + 2);
+    while (fgets(line, sizeof line, stdin) != NULL) {
+        char *words[WORDS] = {NULL};
+        size_t found = 0;
+        for (char *word = strtok(line, " \n"); word != NULL && found < WORDS; word = strtok(NULL, " \n")) words[found++] = word;
+        if (found == 0) continue;
+        if (strcmp(words[0], "setup") == 0 || strcmp(words[0], "worker") == 0) {
+            end_section(caller);
+            caller = found > 1 ? (uint32_t)strtoul(words[1], NULL, 10) : 0;
+            count = 0;
+            continue;
+        }
+        printf("%" PRIu32 " %" PRIu32 " ", caller, ++count);
+        command(caller, words);
+    }
+    end_section(caller);
+    for (size_t n = 0; n < nodes; n++) end_node(&places[n].node, nodes == 1);
+    return 0;
+}

@@ -1,0 +1,7 @@
+mod Values
+mod NodeValues
+mod PassValues
+mod Masks
+mod Losses
+mod Crossings
+mod PassCrossings

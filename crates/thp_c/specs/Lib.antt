@@ -1,0 +1,9 @@
+pub mod Codes
+pub mod Checks
+pub mod Engines
+pub mod Calls
+pub mod Replies
+pub mod NodeHandle
+pub mod PassCodes
+pub mod Passes
+pub mod PassHandle

@@ -1,0 +1,81 @@
+//! Each call of a pass, and what it answers.
+use leversorrel::{check, Fault, Outcome, Pass, Verdict};
+
+#[test]
+fn two_passes_have_one_journal() -> Result<(), Fault> {
+    let mut one = Pass::of_new_cell(16, 2, None, 3)?;
+    let mut two = one.split(2)?;
+    for caller in [0, 1] {
+        let page = one.alloc(caller)?;
+        two.split_pmd(2, page)?;
+        assert_eq!(one.unmap_sub(caller, page, 0, 2)?.outcome, Outcome::Queued);
+        assert_eq!(two.count(), caller + 1);
+    }
+    let scan = two.scan(2, 8)?;
+    assert_eq!((scan.taken, scan.split, scan.pinned), (2, 2, 0));
+    let done = one.unmap_sub(0, 1, 2, 2)?;
+    assert_eq!((done.outcome, done.released.len()), (Outcome::Freed, 2));
+    one.join(two).map_err(|(_, fault)| fault)?;
+    let mut node = one.finish().map_err(|(_, fault)| fault)?;
+    assert_eq!(node.stats().split_page, 2);
+    assert_eq!(check(&node.journal()?)?, Verdict::Legal);
+    Ok(())
+}
+
+#[test]
+fn four_threads_share_a_node() -> Result<(), Fault> {
+    let mut first = Pass::of_new_cell(16, 2, None, 4)?;
+    let others = [first.split(3)?, first.split(2)?, first.split(1)?];
+    let threads = others.into_iter().zip([3, 2, 1]).map(|(pass, caller)| std::thread::spawn(move || lives(pass, caller)));
+    let threads: Vec<_> = threads.collect();
+    let mut first = lives(first, 0)?;
+    for thread in threads.into_iter().rev() {
+        first.join(thread.join().expect("a thread ended")?).map_err(|(_, fault)| fault)?;
+    }
+    let mut node = first.finish().map_err(|(_, fault)| fault)?;
+    assert_eq!((node.stats().allocations, node.stats().frames_held), (400, 0));
+    assert_eq!(check(&node.journal()?)?, Verdict::Legal);
+    Ok(())
+}
+
+// A hundred pages from first to last, each call made again where another pass has the node.
+fn lives(mut pass: Pass, caller: u32) -> Result<Pass, Fault> {
+    for _ in 0..100 {
+        let page = free(|| pass.alloc(caller))?;
+        free(|| pass.split_pmd(caller, page))?;
+        free(|| pass.unmap_sub(caller, page, 0, 2))?;
+        free(|| pass.unmap_sub(caller, page, 2, 2))?;
+    }
+    Ok(pass)
+}
+
+fn free<T>(mut call: impl FnMut() -> Result<T, Fault>) -> Result<T, Fault> {
+    loop {
+        match call() {
+            Err(Fault::Busy) => std::thread::yield_now(),
+            answer => return answer,
+        }
+    }
+}
+
+#[test]
+fn what_does_not_fit_is_handed_back() -> Result<(), Fault> {
+    assert_eq!(Pass::of_new_cell(1, 2, None, 65).err(), Some(Fault::BadSize));
+    assert_eq!(Pass::of_new_cell(1, 2, Some(512), 1).err(), Some(Fault::BadSize));
+    let mut one = Pass::of_new_cell(1, 2, None, 2)?;
+    assert_eq!(one.split(0).err(), Some(Fault::BadCaller));
+    assert_eq!(one.alloc(2), Err(Fault::BadCaller));
+    let mut two = one.split(1)?;
+    assert_eq!(two.scan(1, 129), Err(Fault::BadCount));
+    let stranger = Pass::of_new_cell(1, 2, None, 2)?;
+    let Err((stranger, Fault::BadPass)) = one.join(stranger) else {
+        panic!("a pass of another node was joined");
+    };
+    drop(stranger);
+    let Err((mut one, Fault::BadPass)) = one.finish() else {
+        panic!("a node with two passes was taken out");
+    };
+    one.join(two).map_err(|(_, fault)| fault)?;
+    assert!(one.finish().is_ok());
+    Ok(())
+}
