@@ -8,3 +8,5 @@ pub mod ScriptLaws
 pub mod ThresholdLaws
 pub mod ListLaws
 pub mod PartLaws
+pub mod AheadLaws
+pub mod PartReadLaws

@@ -33,7 +33,7 @@ joined-cond : (t : Bool) (b : ℕ) (xs ys : List Text) → HasFirst xs → HasFi
 joined-cond true b xs ys f g = joined-cons [] xs ys f
 joined-cond false b xs ys f g = joined-onto b xs ys f g
 
-pieces-append : (c : ℕ) (xs ys : Text) → pieces_at c (xs ++ ys) ≡ joined (pieces_at c xs) (pieces_at c ys)
+pub pieces-append : (c : ℕ) (xs ys : Text) → pieces_at c (xs ++ ys) ≡ joined (pieces_at c xs) (pieces_at c ys)
 pieces-append c [] ys = let g = has_first c ys in rw g.2 refl
 pieces-append c (b ∷ xs) ys = rw (pieces-append c xs ys) (sym (joined-cond (b == c) b (pieces_at c xs) (pieces_at c ys) (has_first c xs) (has_first c ys)))
 
@@ -42,7 +42,7 @@ ends_begun : (begun text line : Text) (others : List Text) → lines_of begun �
 ends_begun begun text line others one e = rw (pieces-append 10 begun text, one, e) refl
 
 -- what comes behind a text comes behind its first line
-first_line : (text more line after : Text) → lines_of text ≡ line ∷ lines_of after → lines_of (text ++ more) ≡ line ∷ lines_of (after ++ more)
+pub first_line : (text more line after : Text) → lines_of text ≡ line ∷ lines_of after → lines_of (text ++ more) ≡ line ∷ lines_of (after ++ more)
 first_line text more line after e =
     rw (pieces-append 10 text more, e, pieces-append 10 after more) (joined-cons line (lines_of after) (lines_of more) (has_first 10 after))
 

@@ -12,3 +12,4 @@ pub mod Statements
 pub mod Scripts
 pub mod TextInParts
 pub mod Parts
+pub mod Ahead

@@ -1,6 +1,7 @@
 //! Texts: scripts as values, the grammar that reads them, and the first fault of a text.
 #![tactic(auto)]
 
+mod ahead;
 mod fault;
 mod limits;
 mod lines;

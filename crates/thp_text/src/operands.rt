@@ -12,7 +12,7 @@ use thp_model::{Gain, Loss, MAX_BATCH, PageCall};
 
 /// The calls on a range of a page's subpages, behind whose name stand a node, the page and the range.
 #[derive(Clone, Copy)]
-enum RangeCall {
+pub(crate) enum RangeCall {
     Map,
     Unmap,
     Write,
@@ -21,7 +21,7 @@ enum RangeCall {
 
 impl RangeCall {
     #[inline(always)]
-    fn on(self, first: u16, count: u16) -> PageCall
+    pub(crate) fn on(self, first: u16, count: u16) -> PageCall
         ensures { result ≡ call_on self first count }
     {
         match self {
@@ -35,14 +35,14 @@ impl RangeCall {
 
 /// The calls on as many pages as a batch holds, behind whose name stand a node and a number.
 #[derive(Clone, Copy)]
-enum BatchCall {
+pub(crate) enum BatchCall {
     Scan,
     Take,
 }
 
 impl BatchCall {
     #[inline(always)]
-    fn op(self, count: u16) -> Op
+    pub(crate) fn op(self, count: u16) -> Op
         ensures { result ≡ batch_op self count }
     {
         match self {

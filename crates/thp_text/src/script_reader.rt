@@ -1,11 +1,13 @@
 //! Scripts from bytes.
 ghost use Rattle.std.specs.Prelude.{◌≡◌, ◌≢◌, ◌≤◌, ◌<◌, ◌+◌, ◌++◌, ◌∷◌, [], ℕ, List, All, IfOk, IfErr, IfSome, OnOk, length, replicate, vec_len};
 ghost use Rattle.thp_text.specs.Commands.{IsCommandFor};
+ghost use Rattle.thp_text.specs.Ahead.{spelled_behind, IsPartRead};
 ghost use Rattle.thp_text.specs.Parts.{script_in, spelled_with, with_commands};
 ghost use Rattle.thp_text.specs.Scripts.{placed, script_of, IsScriptFor, TellsFault};
 ghost use Rattle.thp_text.specs.Words.{Text};
 ghost use Rattle.thp_text.specs.declared.fault.ReadFault.TheVariants.{OutOfMemory};
 
+use crate::ahead::command_ahead;
 use crate::fault::ReadFault;
 use crate::lines::fault_behind;
 use crate::script::{Command, Script};
@@ -44,6 +46,33 @@ fn add(
         commands.push(command)?;
     }
     Ok(())
+}
+
+/// Adds the commands at the front of what is left of a part, line by line up to the first line that isn't read ahead, and gives
+/// what is left then.
+fn add_ahead<'p>(
+    settings: &Settings,
+    sections: &mut Vec<Sequence<Command>>,
+    section: Option<u32>,
+    text: &mut TextInParts,
+    part: &'p [u8],
+) -> Result<&'p [u8], ReadFault>
+    requires { IsPartRead settings.now sections.old.items section text.old part.now }
+    ensures inside { IfOk result (λ rest. IsPartRead settings.now sections.new.items section text.new rest.now) }
+    ensures spelled { IfOk result (λ rest. (more : Text) → spelled_behind settings.now sections.new.items section text.new rest.now more ≡ spelled_behind settings.now sections.old.items section text.old part.now more) }
+    ensures shorter { IfOk result (λ rest. length rest.now ≤ length part.now) }
+    ensures memory { IfErr result (λ fault. fault ≡ OutOfMemory) }
+{
+    let (Some(_), true) = (section, text.begins_line()) else {
+        return Ok(part);
+    };
+    let mut rest = part;
+    while let Some((command, after)) = command_ahead(settings, rest) {
+        add(sections, section, Statement::Call(command))?;
+        text.pass_line();
+        rest = after;
+    }
+    Ok(rest)
 }
 
 /// The script of its sections.
@@ -107,7 +136,8 @@ impl<'a> ScriptReader<'a> {
             mut section,
             mut text,
         } = self;
-        let mut rest = text.next_part(part);
+        let rest = text.next_part(part);
+        let mut rest = add_ahead(settings, &mut sections, section, &mut text, rest)?;
         while let Some(WholeLine { bytes, .. }) = text.next_line(&mut rest)? {
             let said = statement_in(settings, section, bytes.as_slice());
             drop(bytes);
@@ -115,6 +145,7 @@ impl<'a> ScriptReader<'a> {
                 Ok(statement) => {
                     add(&mut sections, section, statement)?;
                     section = section_after(section, statement);
+                    rest = add_ahead(settings, &mut sections, section, &mut text, rest)?;
                 }
                 Err(kind) => {
                     text.note_fault(kind);

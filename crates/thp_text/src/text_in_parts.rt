@@ -1,5 +1,5 @@
 //! Texts that come in parts.
-ghost use Rattle.std.specs.Prelude.{◌≡◌, ◌≤◌, ◌<◌, ◌+◌, ◌-◌, ◌++◌, ◌∷◌, [], IfOk, IfSome, IfNone, OnOk, OnErr, length};
+ghost use Rattle.std.specs.Prelude.{◌≡◌, ◌↔◌, ◌≤◌, ◌<◌, ◌+◌, ◌-◌, ◌++◌, ◌∷◌, [], IfOk, IfSome, IfNone, IsTrue, OnOk, OnErr, length};
 ghost use Rattle.std.specs.Cow.{cow_slice_items};
 ghost use Rattle.thp_text.specs.Limits.{max_counted, max_input};
 ghost use Rattle.thp_text.specs.TextInParts.{after_line, fault_with, nothing_of, read_unless, with_begun, with_fault, with_part, IsCounted};
@@ -121,6 +121,25 @@ impl TextInParts {
         self.line += 1;
         *rest = after;
         Ok(Some(WholeLine { number, bytes }))
+    }
+
+    /// Whether the next line begins with what comes next.
+    #[inline(always)]
+    pub(crate) fn begins_line(&self) -> bool
+        ensures { IsTrue result ↔ self.now.begun ≡ [] }
+    {
+        self.begun.is_empty()
+    }
+
+    /// Counts a whole line that begins and ends in what is left of a part.
+    #[inline(always)]
+    pub(crate) fn pass_line(&mut self)
+        requires begins { self.old.begun ≡ [] }
+        requires given { self.old.line ≤ self.old.given }
+        requires most { self.old.line ≤ self.old.most }
+        ensures { self.new ≡ after_line self.old }
+    {
+        self.line += 1;
     }
 
     /// Notes a fault of the whole line that was given last. Only the first is kept.

@@ -1,0 +1,16 @@
+use Rattle.std.proofs.Common.{◌≡◌, ◌≤◌, [], length}
+use Rattle.thp_text.specs.Ahead.{spelled_behind, IsPartRead}
+use Rattle.thp_text.specs.Words.{Text}
+use Rattle.thp_text.proofs.script_reader.add_ahead.Given as goal
+
+abbrev pub decreases-loop-command : goal.decreases-loop-command
+decreases-loop-command l = length l.rest
+
+-- what was read, with what is left, spells what it spelled before
+abbrev pub invariant-loop-command : goal.invariant-loop-command
+invariant-loop-command l = record {
+  inside : IsPartRead l.settings l.sections.items l.section l.text l.rest;
+  spelled : (more : Text) → spelled_behind l.settings l.sections.items l.section l.text l.rest more ≡ spelled_behind l.settings l.fn.sections.items l.section l.fn.text l.part more;
+  begins : l.text.begun ≡ [];
+  shorter : length l.rest ≤ length l.part;
+}
