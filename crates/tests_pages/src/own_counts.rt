@@ -15,7 +15,7 @@ fn repeat(rt: &impl Abort, page: &mut Page, steps: &[(Call, Answer)], times: u32
 
 // Maps a range as often as can be, one mapping after the other, and unmaps it again.
 fn up_and_down(rt: &impl Abort, first: u32, count: u32)
-    requires { first + count ≤ 512 }
+    requires { first + count ≤ 510 }
 {
     let mut page = Page::fresh(9);
     let (map, unmap) = (Call::MapSub(first, count), Call::UnmapSub(first, count));
@@ -28,6 +28,9 @@ fn up_and_down(rt: &impl Abort, first: u32, count: u32)
         (Call::MapSub(511, 1), Answer::Done),
     ];
     expect(rt, &mut page, &steps);
+    assert!(rt; page.own(first) == 65_535);
+    assert!(rt; page.own(first + count) == 1);
+    assert!(rt; page.own(512) == 0);
     repeat(rt, &mut page, &[(unmap, change(false, true))], 65_534);
     let steps = [
         (unmap, change(true, true)),

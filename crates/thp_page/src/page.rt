@@ -1,5 +1,5 @@
 //! One page: its map counts, its pins, whether it is split, and which of its subpages are zero-filled.
-ghost use Rattle.std.specs.Prelude.{◌≡◌, ◌+◌, ◌<◌, ◌≤◌, true, false, not, ◌&&◌, ◌||◌, nat_eq, nat_lt, length, Option, None};
+ghost use Rattle.std.specs.Prelude.{◌≡◌, ◌+◌, ◌<◌, ◌≤◌, true, false, not, ◌&&◌, ◌||◌, cond, nat_eq, nat_lt, length, Option, None};
 ghost use Rattle.thp_model.specs.Limits.{max_order, max_subpages, min_order};
 ghost use Rattle.thp_model.specs.Pages.{size, own_at, total_at, zero_at, holds, used_set, has_use, zero_set, zero_count, is_worth, gives_frames, some_in_range, IsFresh, PageSplit};
 ghost use Rattle.thp_model.specs.Sets.{set_of, has};
@@ -213,6 +213,18 @@ impl Page {
         ensures { result ≡ self.now.whole }
     {
         u32::from(self.whole)
+    }
+
+    /// How often a PTE entry maps subpage `i`. Beyond the page nothing is mapped.
+    pub fn own(&self, i: u32) -> u32
+        ensures { result ≡ cond (nat_lt i (size self.now)) (own_at self.now i) 0 }
+    {
+        let i = i as usize;
+        if i < self.subpages() {
+            self.own.count(i)
+        } else {
+            0
+        }
     }
 
     /// The extra pins, which keep the page from being split.

@@ -63,6 +63,14 @@ impl MapCounts {
         self.mapped.contains(i as u32)
     }
 
+    /// How often subpage `i` is mapped. It looks at a bit of each plane.
+    pub fn count(&self, i: usize) -> u32
+        requires { i < max_subpages }
+        ensures { result ≡ slice_index self.now i }
+    {
+        self.planes.count(i as u32)
+    }
+
     /// The subpages that are mapped.
     #[inline(always)]
     pub fn mapped(&self) -> SubSet

@@ -98,6 +98,21 @@ impl Planes {
         }
     }
 
+    // The count of a subpage, bit by bit.
+    pub(crate) fn count(&self, i: u32) -> u32
+        requires most { self.now.used ≤ 16 }
+        requires inside { i < max_subpages }
+        ensures { result ≡ tally self.now i }
+    {
+        let mut count = 0;
+        for k in 0..self.used {
+            if self.sets[k].contains(i) {
+                count += 1 << k;
+            }
+        }
+        count
+    }
+
     // Those of these subpages whose count is `n`, a number that has no more bits than there are planes that count.
     #[inline(always)]
     pub(crate) fn with_count<S: Subpages>(&self, subpages: S, n: u16) -> S
