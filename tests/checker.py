@@ -10,13 +10,16 @@ from __future__ import annotations
 import os
 import sys
 import tempfile
+from dataclasses import replace
 from pathlib import Path
 from typing import Iterator
 
 import faulty_texts
 import usage
-from outside import FEW_BYTES, FIRST, ILLEGAL, LEGAL, LOST, STORED, Row, told
+from explanations import EXPLAINED
+from outside import FEW_BYTES, FIRST, FIRST_JOURNAL, FIRST_TOTALS, ILLEGAL, LEGAL, LOST, STORED, Row, told
 from process import Call, Ended, Sink, Source
+from script import first_illegal, summary
 from tally import Tally
 from texts import MOST_BYTES
 
@@ -34,13 +37,32 @@ ROUNDS = MOST_BYTES // len(ROUND) + 1
 """So many of them have more bytes than `thpsplit --check` reads."""
 
 LONG = HEAD + ROUND * ROUNDS
+ONE_PAGE = (
+    b"node 0\npages 1\nqueue 0\nframes_held 512\nframes_given 0\n"
+    b"thp_split_page 0\nthp_split_page_failed 0\nthp_deferred_split_page 0\nthp_split_pmd 0\n"
+)
+"""The totals of the long journal."""
+
+SEVERAL = (
+    b"thp-journal 3\nnode 0 blocks 2 order 2 underused off\n0 alloc 0\n0 alloc 0\n0 alloc 1\n"
+    b"node 1 blocks 2 order 2 underused 1\n0 alloc 0\n0 taken 0\n0 split 0 0-3\n"
+    b"node 2 blocks 2 order 3 underused off\n0 alloc 0\n0 unmapwhole 0 freed 0-7\n0 pin 0\n0 alloc 1\n"
+    b"node 3 blocks 1 order 9 underused off\nend\n"
+)
+"""Four nodes: two have an illegal event with others behind it, one splits an underused page, one has no event."""
+
 BEHIND = 3 + 2 * ROUNDS + 1
 """The line behind the long journal's last event."""
 
 
-def is_illegal(line: int) -> Ended:
-    """The verdict on a journal whose first illegal event stands on this line."""
-    return Ended(1, f"illegal line {line}\n".encode())
+EXPLAIN = ("--explain",)
+SUMMARY = ("--summary",)
+FLAGS = ("--explain", "--summary")
+
+
+def is_illegal(line: int, errors: bytes = b"") -> Ended:
+    """The verdict on a journal whose first illegal event stands on this line, and what else is told of that."""
+    return Ended(1, f"illegal line {line}\n".encode(), errors)
 
 
 def fault(line: int, word: str) -> Ended:
@@ -56,6 +78,53 @@ def verdicts() -> Iterator[Row]:
         yield Row("verdicts", f"illegal, {name}", Call((), ILLEGAL, source), is_illegal(7))
     for text, line in faulty_texts.ILLEGAL:
         yield Row("verdicts", repr(text[-60:]), Call((), text + b"end\n"), is_illegal(line))
+
+
+def explanations() -> Iterator[Row]:
+    """Each illegal event explained, the first of the text alone; of other journals nothing is said."""
+    for row in EXPLAINED:
+        line = row.text.count(b"\n")
+        yield Row("explain", repr(row.text[-60:]), Call(EXPLAIN, row.text + b"end\n"), is_illegal(line, row.lines()))
+        yield Row("explain", f"not asked for: {row.text[-60:]!r}", Call((), row.text + b"end\n"), is_illegal(line))
+    row = EXPLAINED[0]
+    told = row.lines()
+    more = row.text + b"0 alloc 7\nnode 1 blocks 1\n0 alloc 7\nend\n"
+    yield Row("explain", "others illegal behind it", Call(EXPLAIN, more, Source.PIPE), is_illegal(3, told))
+    yield Row("explain", "legal", Call(EXPLAIN, LEGAL), IS_LEGAL)
+    yield Row("explain", "a fault", Call(EXPLAIN, b"fly\n"), fault(1, "bad-word"))
+    yield Row("explain", "a fault behind an illegal event", Call(EXPLAIN, row.text + b"fly\n"), fault(4, "bad-word"))
+    yield Row("explain", "cut behind an illegal event", Call(EXPLAIN, row.text), fault(4, "cut"))
+    yield Row("explain", "no input", Call(EXPLAIN, source=Source.CLOSED), READ_FAILED)
+    for sink in LOST:
+        name = sink.name.lower()
+        text = row.text + b"end\n"
+        yield Row("explain", f"standard output {name}", Call(EXPLAIN, text, output=sink), WRITE_FAILED)
+        yield Row("explain", f"standard error {name}", Call(EXPLAIN, text, errors=sink), is_illegal(3))
+
+
+def summaries() -> Iterator[Row]:
+    """The totals of each node up to its first illegal event, behind the verdict."""
+    totals = IS_LEGAL.output + FIRST_TOTALS
+    for source in (Source.FILE, Source.PIPE):
+        yield Row("summary", f"the first script's journal, {source.name.lower()}", Call(SUMMARY, FIRST_JOURNAL, source), Ended(0, totals))
+    for text in (LEGAL, *(row.text + b"end\n" for row in EXPLAINED), SEVERAL):
+        yield Row("summary", repr(text[-60:]), Call(SUMMARY, text), summed(text))
+    both = SUMMARY + EXPLAIN
+    for row in EXPLAINED[:3]:
+        text = row.text + b"end\n"
+        yield Row("summary", f"explained, too: {text[-60:]!r}", Call(both, text), replace(summed(text), errors=row.lines()))
+    yield Row("summary", "a fault behind an illegal event", Call(SUMMARY, EXPLAINED[0].text + b"fly\n"), fault(4, "bad-word"))
+    yield Row("summary", "behind 16 MiB", Call(SUMMARY, LONG + b"end\n", memory=FEW_BYTES), Ended(0, b"legal\n" + ONE_PAGE))
+    for sink in LOST:
+        yield Row("summary", f"standard output {sink.name.lower()}", Call(SUMMARY, LEGAL, output=sink), WRITE_FAILED)
+
+
+def summed(text: bytes) -> Ended:
+    """The verdict on a journal without a fault, and the totals of its nodes, by a plain reading of the model."""
+    lines = text.decode().splitlines()
+    line = first_illegal(lines)
+    totals = "".join(f"{it}\n" for it in summary(lines)).encode()
+    return Ended(0, b"legal\n" + totals) if line is None else Ended(1, is_illegal(line).output + totals)
 
 
 def faults() -> Iterator[Row]:
@@ -92,9 +161,18 @@ def requests() -> Iterator[Row]:
         yield Row("words", word, Call((word,), b"fly\n", untouched=True), Ended(0, output))
         yield Row("words", f"{word}, /dev/full", Call((word,), output=Sink.FULL), WRITE_FAILED)
     for word in ("zzz", "--zzz", "-z", "--check", "--nodes", "my.journal", "\u00e9", ""):
-        text = f"error: unexpected argument '{word}' found\n\nUsage: thpcheck{usage.TRY}".encode()
-        yield Row("words", repr(word), Call((word,), b"fly\n", untouched=True), told(text))
+        yield at_fault((word,), f"unexpected argument '{word}' found")
+    for flag in FLAGS:
+        yield at_fault((flag, flag), f"the argument '{flag}' cannot be used multiple times")
+        yield at_fault((f"{flag}=1",), f"unexpected value '1' for '{flag}' found; no more were expected", flag)
+        yield at_fault((flag, "x"), "unexpected argument 'x' found")
     yield Row("words", "a word that isn't UTF-8", Call((b"\xff",), b"fly\n", untouched=True), told(usage.NOT_TEXT))
+
+
+def at_fault(words: tuple[str, ...], fault: str, named: str = "[OPTIONS]") -> Row:
+    """Words that the command doesn't take, and what `clap` says of them."""
+    text = f"error: {fault}\n\nUsage: thpcheck {named}{usage.TRY}".encode()
+    return Row("words", " ".join(words) or repr(""), Call(words, b"fly\n", untouched=True), told(text))
 
 
 def failures() -> Iterator[Row]:
@@ -119,7 +197,7 @@ def main() -> None:
         # its name is what it is called by, whatever its file's is
         path = Path(name) / "thpcheck"
         path.symlink_to(program.resolve())
-        for part in (verdicts, faults, long_journals, requests, failures):
+        for part in (verdicts, explanations, summaries, faults, long_journals, requests, failures):
             rows, failed = list(part()), tally.failed
             for row in rows:
                 tally.run(f"{row.group}: {row.name}", lambda row=row: row.wrong(path))

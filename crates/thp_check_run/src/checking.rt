@@ -1,68 +1,94 @@
 //! From the bytes of a journal of any length to whether it is legal.
-ghost use Rattle.std.specs.Prelude.{◌≡◌, ℕ, List, [], Ok, Err, IfOk, IfErr, IfSome, false};
-ghost use Rattle.thp_journal_reader.specs.Answers.{TellsIllegal};
-ghost use Rattle.thp_journal_reader.specs.Journals.{journals_within};
-ghost use Rattle.thp_journal_reader.specs.Parts.{told_with};
-ghost use Rattle.thp_journal_reader.specs.declared.journals.Journals.{Journals};
-ghost use Rattle.thp_text.specs.Limits.{max_counted};
+ghost use Rattle.std.specs.Prelude.{◌≡◌, ◌++◌, IfOk, false, option_map};
 ghost use Rattle.thp_streams.specs.Calls.{ReadsOn};
-ghost use Rattle.thp_streams.specs.Devices.{IsFrontOf};
 ghost use Rattle.thp_streams.specs.Passages.{WritesAnswer};
-ghost use Rattle.thp_streams.specs.RunFaults.{IsReadingFault};
-ghost use Rattle.thp_streams.specs.Verdicts.{CheckEndsWithin};
-ghost use Rattle.thp_check_run.specs.Outcomes.{seen};
+ghost use Rattle.thp_streams.specs.Verdicts.{verdict_text};
+ghost use Rattle.thp_totals.specs.Totals.{lines_from};
+ghost use Rattle.thp_check_run.specs.Checks.{explanation_of, found_in, line_of, CheckEnds};
 
-use std::alloc::Global;
+use crate::finding::{Found, find};
+use crate::options::CheckOptions;
+use std::alloc::{AllocError, Global};
 use std::io::{Read, Write};
-use thp_check::Misfit;
-use thp_journal_reader::{LongCheck, TextFault};
-use thp_model::{Outcome, Refusal, What};
-use thp_streams::{LongRunFault, RunFault, Watched, read_parts, verdict, write_text};
-use thp_text::MAX_COUNTED;
+use thp_explanations::put_explanation;
+use thp_journal_reader::Illegal;
+use thp_journal_writer::put;
+use thp_streams::{LongRunFault, Watched, verdict, write_text};
+use thp_totals::put_each;
 
-/// The check of the journal whose text a reader gives, part by part.
-fn read_check_parts<R: Read>(alloc: Global, reader: &mut Watched<R>) -> Result<LongCheck, RunFault>
-    requires { reader.old.failed ≡ false }
-    ensures parts { IfOk result (λ check. (bytes : List ℕ) × IfSome (R.remaining reader.old.device) (IsFrontOf max_counted bytes) × (told_with check [] ≡ journals_within max_counted bytes)) }
-    ensures flag { IfOk result (λ _. reader.new.failed ≡ false) }
-    ensures fault { IfErr result (IsReadingFault reader.new.failed) }
-    ensures calls { ReadsOn reader.new.failed reader.old.calls reader.new.calls }
-{
-    read_parts(LongCheck::new(alloc), MAX_COUNTED, reader)
+/// What the check of a journal found.
+#[derive(Drop)]
+pub struct Checked {
+    /// The first illegal event, or none where the journal is legal.
+    pub illegal: Option<Illegal>,
+    /// What is said of that event, where that was asked for.
+    pub explanation: Option<Vec<u8>>,
 }
 
-/// The line of the first illegal event, if there is one, or the first fault of the text.
-fn finish(check: LongCheck) -> Result<Option<u64>, TextFault>
-    ensures line { IfOk result (λ line. (journals : Journals) × (told_with check [] ≡ Ok journals) × TellsIllegal journals.nodes line) }
-    ensures fault { IfErr result (λ fault. told_with check [] ≡ Err (fault.line, fault.kind)) }
+/// The line of an illegal event.
+fn line_of(illegal: &Option<Illegal>) -> Option<u64>
+    ensures { result ≡ line_of illegal.now }
 {
-    // the toolchain finds these types, which stand in illegal events, only in functions that name them
-    let _in_illegal = (What::Close, Outcome::Stays, Refusal::NoPage, Misfit::Block);
-    match check.finish() {
-        Ok(None) => Ok(None),
-        Ok(Some(illegal)) => Ok(Some(illegal.line)),
-        Err(fault) => Err(fault),
+    match illegal {
+        Some(illegal) => Some(illegal.line),
+        None => None,
     }
 }
 
+/// What is said of the first illegal event, where there is one and that is asked for.
+fn explanation_of(
+    alloc: Global,
+    options: CheckOptions,
+    illegal: &Option<Illegal>,
+) -> Result<Option<Vec<u8>>, AllocError>
+    ensures { IfOk result (λ text. option_map (λ t. t.items) text ≡ explanation_of options illegal.now) }
+{
+    if !options.explain {
+        return Ok(None);
+    }
+    let Some(illegal) = illegal else {
+        return Ok(None);
+    };
+    let mut text = Vec::new(alloc);
+    put_explanation(&mut text, illegal.line, &illegal.event, &illegal.misfit)?;
+    Ok(Some(text))
+}
+
+/// The verdict, and the totals behind it.
+fn text_of(alloc: Global, found: &Found) -> Result<Vec<u8>, AllocError>
+    ensures { IfOk result (λ text. text.items ≡ verdict_text (line_of found.now.illegal) ++ lines_from 0 found.now.totals.items) }
+{
+    let verdict = verdict(alloc, line_of(&found.illegal))?;
+    let mut text = Vec::new(alloc);
+    put(&mut text, verdict.as_bytes())?;
+    put_each(&mut text, found.totals.as_slice())?;
+    Ok(text)
+}
+
 /// Checks the journal that the reader gives, whatever its length: writes `legal`, or `illegal line L` with the line of the first
-/// illegal event, and answers whether the journal is legal. Nothing else is written; where the writer fails, a front of the line.
+/// illegal event, and behind it the totals of each node up to its own first illegal event, where the options ask for them. Nothing
+/// else is written; where the writer fails, a front of it. An explanation is handed back.
 ///
-/// Of the journal no more is kept than what lives on the node at hand, and the line begun.
+/// Of the journal no more is kept than what lives on the node at hand, the line begun, and the totals.
 pub fn check_long<R: Read, W: Write>(
     alloc: Global,
+    options: CheckOptions,
     reader: &mut Watched<R>,
     writer: &mut Watched<W>,
-) -> Result<bool, LongRunFault>
+) -> Result<Checked, LongRunFault>
     requires reader { reader.old.failed ≡ false }
     requires writer { writer.old.failed ≡ false }
-    ensures ends { CheckEndsWithin max_counted (R.remaining reader.old.device) (W.contents writer.old.device) (W.contents writer.new.device) reader.new.failed writer.new.failed (seen result) }
+    ensures ends { CheckEnds options (R.remaining reader.old.device) (W.contents writer.old.device) (W.contents writer.new.device) reader.new.failed writer.new.failed (found_in result) }
     ensures reads { ReadsOn reader.new.failed reader.old.calls reader.new.calls }
-    ensures writes { WritesAnswer (seen result) writer.new.failed writer.old.calls writer.new.calls }
+    ensures writes { WritesAnswer (found_in result) writer.new.failed writer.old.calls writer.new.calls }
+    ensures explanation { IfOk result (λ checked. option_map (λ t. t.items) checked.explanation ≡ explanation_of options checked.illegal) }
 {
-    let check = read_check_parts(alloc, reader)?;
-    let illegal = finish(check)?;
-    let text = verdict(alloc, illegal)?;
-    write_text(writer, text.as_bytes()).ok_or(LongRunFault::Write)?;
-    Ok(illegal.is_none())
+    let found = find(alloc, options, reader)?;
+    let explanation = explanation_of(alloc, options, &found.illegal)?;
+    let text = text_of(alloc, &found)?;
+    write_text(writer, text.as_slice()).ok_or(LongRunFault::Write)?;
+    Ok(Checked {
+        illegal: found.illegal,
+        explanation,
+    })
 }

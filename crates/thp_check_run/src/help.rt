@@ -1,7 +1,4 @@
-//! What `--version` and `--help` tell.
-
-/// What `--version` tells behind the program's name.
-pub(crate) const VERSION: &str = "0.1.0";
+//! What `--help` tells.
 
 /// What `--help` says behind the options.
 pub(crate) const AFTER_HELP: &str = "\
@@ -10,6 +7,17 @@ the line of the first illegal event. A journal may have any length: memory is ta
 what was. A journal of at most 16 MiB is told the same by 'thpsplit --check', which writes such journals, too:
 
     thpsplit --report journal < SCRIPT | thpcheck
+
+With --explain, an illegal journal is told with its first illegal event, what could stand in its place, and why, on standard
+error; what is written to standard output and the exit status are the same:
+
+    line 9: 0 back 1
+    expected: 0 back 0
+    or: 0 dropped 0
+    why: page 0 is the first of the flight of caller 0
+
+With --summary, the totals of each node stand behind the verdict, as 'thpsplit --report totals' has them: of all its events, or
+of those before its first illegal one.
 
 Exit status:
   0  the journal is legal, or this help or the version was written

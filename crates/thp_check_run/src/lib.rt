@@ -4,12 +4,13 @@
 
 mod checking;
 mod end_fault;
+mod finding;
 mod help;
 mod options;
 mod program;
 
-pub use checking::check_long;
+pub use checking::{Checked, check_long};
 pub use end_fault::EndFault;
-pub use options::read_words;
+pub use options::{CheckOptions, read_words};
 pub use program::run_check_program;
 pub use thp_streams::{LongRunFault, Watched, WordsFault, words_of};

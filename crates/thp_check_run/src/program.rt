@@ -1,31 +1,53 @@
 //! The program: from the words of its command line to its exit status.
-ghost use Rattle.std.specs.Prelude.{◌≡◌, false};
+ghost use Rattle.std.specs.Prelude.{◌≡◌, false, option_map};
 ghost use Rattle.thp_streams.specs.Outcomes.{device_of, given_words, source_of};
-ghost use Rattle.thp_check_run.specs.Outcomes.{seen_end, Does, Finishes, Served};
+ghost use Rattle.thp_check_run.specs.Outcomes.{end_of, ending_of, explained_by, Does, Finishes, Served, TakesExplanation};
 
 use crate::checking::check_long;
 use crate::end_fault::EndFault;
-use crate::options::read_words;
+use crate::options::{CheckOptions, read_words};
 use std::alloc::Global;
 use std::io::{Read, Write};
+use thp_journal_reader::Illegal;
 use thp_streams::{
     Ending, LongRunFault, Program, ProgramFault, Watched, WordsFault, answer, status_of_ending,
-    tell, tell_run, texts_of,
+    tell, tell_run, tell_text, texts_of,
 };
+
+/// How the program ended where it did what it was asked for.
+#[derive(Drop)]
+pub(crate) struct Done {
+    pub(crate) ending: Ending,
+    // what standard error is to take
+    pub(crate) explanation: Option<Vec<u8>>,
+}
+
+/// How the check of a journal ends the program.
+fn ending_of(illegal: &Option<Illegal>) -> Ending
+    ensures { result ≡ ending_of illegal.now }
+{
+    match illegal {
+        Some(_) => Ending::Illegal,
+        None => Ending::Written,
+    }
+}
 
 /// Checks the journal.
 fn check<R: Read, W: Write>(
     alloc: Global,
+    options: CheckOptions,
     reader: &mut Watched<R>,
     output: &mut Watched<W>,
-) -> Result<Ending, EndFault>
+) -> Result<Done, EndFault>
     requires reader { reader.old.failed ≡ false }
     requires output { output.old.failed ≡ false }
-    ensures { Does (source_of R.remaining reader.old reader.new) (device_of W.contents output.old output.new) (seen_end result) }
+    ensures { Does options (source_of R.remaining reader.old reader.new) (device_of W.contents output.old output.new) (end_of result) (explained_by result) }
 {
-    match check_long(alloc, reader, output) {
-        Ok(true) => Ok(Ending::Written),
-        Ok(false) => Ok(Ending::Illegal),
+    match check_long(alloc, options, reader, output) {
+        Ok(checked) => Ok(Done {
+            ending: ending_of(&checked.illegal),
+            explanation: checked.explanation,
+        }),
         Err(fault) => Err(EndFault::Check(fault)),
     }
 }
@@ -36,10 +58,10 @@ fn serve<R: Read, W: Write>(
     words: &Result<Vec<String>, WordsFault>,
     reader: &mut Watched<R>,
     output: &mut Watched<W>,
-) -> Result<Ending, EndFault>
+) -> Result<Done, EndFault>
     requires reader { reader.old.failed ≡ false }
     requires output { output.old.failed ≡ false }
-    ensures { Served (given_words words.now) (source_of R.remaining reader.old reader.new) (device_of W.contents output.old output.new) (seen_end result) }
+    ensures { Served (given_words words.now) (source_of R.remaining reader.old reader.new) (device_of W.contents output.old output.new) (end_of result) (explained_by result) }
 {
     let words = match words {
         Ok(words) => words,
@@ -50,19 +72,33 @@ fn serve<R: Read, W: Write>(
         return Err(EndFault::Check(LongRunFault::OutOfMemory));
     };
     match read_words(alloc, texts.as_slice()) {
-        Ok(()) => check(alloc, reader, output),
+        Ok(options) => check(alloc, options, reader, output),
         Err(error) => match answer(alloc, &error, output) {
-            Ok(()) => Ok(Ending::Written),
+            Ok(()) => Ok(Done {
+                ending: Ending::Written,
+                explanation: None,
+            }),
             Err(fault) => Err(EndFault::Words(fault)),
         },
     }
 }
 
-/// The program: does what the words of its command line ask for, tells on standard error why it didn't, and gives the
-/// exit status.
+/// Explains on standard error what there is to explain.
+fn explain<E: Write>(explanation: Option<Vec<u8>>, errors: &mut Watched<E>)
+    requires { errors.old.failed ≡ false }
+    ensures { TakesExplanation (device_of E.contents errors.old errors.new) (option_map (λ t. t.items) explanation) }
+{
+    if let Some(text) = explanation {
+        tell_text(errors, text.as_slice());
+    }
+}
+
+/// The program: does what the words of its command line ask for, tells on standard error why it didn't, or what it has to explain,
+/// and gives the exit status.
 ///
 /// 0 where the journal is legal, or the help or version that was asked for was written; 1 where the journal is illegal; 2 where
-/// the journal or the words are at fault; 3 where memory was refused, or a read or a write failed.
+/// the journal or the words are at fault; 3 where memory was refused, or a read or a write failed. Where standard error takes no
+/// explanation there is nowhere to tell that, and the status is the same.
 pub fn run_check_program<R: Read, W: Write, E: Write>(
     alloc: Global,
     words: Result<Vec<String>, WordsFault>,
@@ -76,7 +112,10 @@ pub fn run_check_program<R: Read, W: Write, E: Write>(
     ensures { Finishes (given_words words) (source_of R.remaining reader.old reader.new) (device_of W.contents output.old output.new) (device_of E.contents errors.old errors.new) result }
 {
     match serve(alloc, &words, reader, output) {
-        Ok(ending) => status_of_ending(ending),
+        Ok(done) => {
+            explain(done.explanation, errors);
+            status_of_ending(done.ending)
+        }
         Err(EndFault::Check(fault)) => tell_run(alloc, Program::Thpcheck, fault, errors),
         Err(EndFault::Words(fault)) => tell(alloc, Program::Thpcheck, fault, errors),
     }

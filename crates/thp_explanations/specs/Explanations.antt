@@ -2,6 +2,7 @@
 -- words of a journal's line.
 use Rattle.std.specs.Prelude.{ℕ, List, ◌++◌, Some, None, codes}
 use Rattle.std.specs.Fmt.{decimal}
+use Rattle.std.specs.Option.{unwrap_or}
 use Rattle.thp_model.specs.declared.events.Event.{Event}
 use Rattle.thp_model.specs.declared.events.Outcome.{Outcome}
 use Rattle.thp_model.specs.declared.events.Outcome.TheVariants.{Stays, Queued, Freed}
@@ -13,28 +14,12 @@ use Rattle.thp_model.specs.History.{by}
 use Rattle.thp_check.specs.declared.misfit.Misfit.{Misfit}
 use Rattle.thp_check.specs.declared.misfit.Misfit.TheVariants as misfit
 use Rattle.thp_check.specs.Reasons.{with_outcome, with_frames}
-use Rattle.thp_journal_writer.specs.EventLines.{event_line}
+use Rattle.thp_journal_writer.specs.EventLines.{event_line, page_told}
 use Rattle.thp_journal_writer.specs.Journals.{ended}
 
--- the page of an event; the close of a node is of none, and has 0
+-- the page of an event; a close tells of none, and has 0
 abbrev pub page_of : What → ℕ
-page_of (event.Alloc p block) = p
-page_of (event.MapWhole p) = p
-page_of (event.UnmapWhole outcome p released) = p
-page_of (event.MapSub p first count) = p
-page_of (event.UnmapSub outcome p first count released) = p
-page_of (event.SplitPmd p) = p
-page_of (event.Pin p) = p
-page_of (event.Unpin outcome p released) = p
-page_of (event.Write p first count) = p
-page_of (event.Zero p first count) = p
-page_of (event.Taken p) = p
-page_of (event.Split p released) = p
-page_of (event.Pinned p) = p
-page_of (event.Used p) = p
-page_of (event.Back p) = p
-page_of (event.Dropped p) = p
-page_of event.Close = 0
+page_of w = unwrap_or (page_told w) 0
 
 -- ---- what could stand in the event's place, in lines
 

@@ -6,7 +6,7 @@ ghost use Rattle.thp_explanations.specs.Explanations.{expected, or_a_split, or_t
 use crate::pieces::{put_last, put_line, put_words};
 use std::alloc::AllocError;
 use thp_check::Misfit;
-use thp_journal_writer::put;
+use thp_journal_writer::{page_told, put};
 use thp_model::{Event, Outcome, PageId, SubSet, What};
 
 // What could stand in the place of what a caller did, in lines.
@@ -107,25 +107,7 @@ fn put_or(text: &mut Vec<u8>, caller: u32, what: &What) -> Result<(), AllocError
 pub(crate) fn page_of(what: &What) -> PageId
     ensures { result ≡ page_of what.now }
 {
-    match *what {
-        What::Alloc { page, .. }
-        | What::MapWhole { page }
-        | What::UnmapWhole { page, .. }
-        | What::MapSub { page, .. }
-        | What::UnmapSub { page, .. }
-        | What::SplitPmd { page }
-        | What::Pin { page }
-        | What::Unpin { page, .. }
-        | What::Write { page, .. }
-        | What::Zero { page, .. }
-        | What::Taken { page }
-        | What::Split { page, .. }
-        | What::Pinned { page }
-        | What::Used { page }
-        | What::Back { page }
-        | What::Dropped { page } => page,
-        What::Close => PageId(0),
-    }
+    page_told(what).unwrap_or_default()
 }
 
 // The allocation of a page, whose block isn't told.

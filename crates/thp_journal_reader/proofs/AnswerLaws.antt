@@ -100,7 +100,7 @@ legal_if_any node least can =
     subst L (sym least.1) (least_is_legal node.shape least.0 can.0 same can.2)
 
 -- a legal history has no misfit
-misfit_is_illegal : (shape : Shape) (h : History) (place : ℕ) → IsFirstMisfit shape h place → IsLegal shape h → ⊥
+pub misfit_is_illegal : (shape : Shape) (h : History) (place : ℕ) → IsFirstMisfit shape h place → IsLegal shape h → ⊥
 misfit_is_illegal shape h place first legal = first.misfit.2 (legal.each place first.misfit.0 first.misfit.1)
 
 -- an element that was found has what all have

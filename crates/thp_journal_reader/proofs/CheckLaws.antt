@@ -30,11 +30,11 @@ use Rattle.thp_journal_reader.proofs.AnswerLaws.{found_has, misfit_inside}
 use Rattle.thp_journal_reader.proofs.NodeLaws.{each_step, on_last-push}
 
 -- a node without events is legal
-no_events_legal : (shape : Shape) → IsLegal shape []
+pub no_events_legal : (shape : Shape) → IsLegal shape []
 no_events_legal shape = legal_none shape
 
 -- the event behind a legal history is its first misfit
-last_misfit : (shape : Shape) (h : History) (e : Event) → IsLegal shape h → (Fits shape h e → ⊥) → IsFirstMisfit shape (h ++ e ∷ []) (length h)
+pub last_misfit : (shape : Shape) (h : History) (e : Event) → IsLegal shape h → (Fits shape h e → ⊥) → IsFirstMisfit shape (h ++ e ∷ []) (length h)
 last_misfit shape h e legal wrong =
     let front : take (length h) (h ++ e ∷ []) ≡ h = take_at h (e ∷ []) (length h) refl in
     let L : History → Type 0 = λ k. IsLegal shape k in
@@ -134,14 +134,14 @@ turns_illegal nodes old next told event m a is misfit why =
 -- ---- nodes one of which is illegal
 
 -- one more event leaves the events before it where they are
-front_stays : (event : Event) (node : NodeJournal) (place : ℕ) → place < length node.events → take place (with_event event node).events ≡ take place node.events
+pub front_stays : (event : Event) (node : NodeJournal) (place : ℕ) → place < length node.events → take place (with_event event node).events ≡ take place node.events
 front_stays event node place inside = take-append-le place node.events (event_with (least_free node.shape node.events) event ∷ []) (omega (arith, inside))
 
 event_stays : (event : Event) (node : NodeJournal) (place : ℕ) (there : Event) → slice_get node.events place ≡ Some there → slice_get (with_event event node).events place ≡ Some there
 event_stays event node place there here = get-append_left node.events (event_with (least_free node.shape node.events) event ∷ []) place there here
 
 -- and so the first misfit
-misfit_stays : (event : Event) (node : NodeJournal) (place : ℕ) → IsFirstMisfit node.shape node.events place → IsFirstMisfit node.shape (with_event event node).events place
+pub misfit_stays : (event : Event) (node : NodeJournal) (place : ℕ) → IsFirstMisfit node.shape node.events place → IsFirstMisfit node.shape (with_event event node).events place
 misfit_stays event node place first =
     let front = front_stays event node place (misfit_inside node.shape node.events place first) in
     let L : History → Type 0 = λ h. IsLegal node.shape h in
@@ -217,7 +217,7 @@ illegal_before nodes illegal number i each =
 tells_none : (nodes : List NodeJournal) → nodes ≡ [] → TellsFirst nodes None
 tells_none nodes none = λ k node lt here. legal_found nodes (none_legal nodes none) k node here
 
-tells_legal : (nodes : List NodeJournal) (r : Replayed) (next : ℕ) → AreLegal nodes r next → TellsFirst nodes None
+pub tells_legal : (nodes : List NodeJournal) (r : Replayed) (next : ℕ) → AreLegal nodes r next → TellsFirst nodes None
 tells_legal nodes r next a = λ k node lt here. legal_found nodes (all_legal nodes r next a) k node here
 
 -- what is answered is so

@@ -6,3 +6,4 @@ pub mod PlainWords
 pub mod PlainLines
 pub mod PartLaws
 pub mod CheckLaws
+pub mod SummaryLaws

@@ -7,6 +7,8 @@ use Rattle.thp_journal_reader.specs.declared.journals.NodeJournal.{NodeJournal}
 use Rattle.thp_journal_reader.specs.declared.reading.Nodes.{Nodes}
 use Rattle.thp_journal_reader.specs.Checking.{nodes_told, GoesWith}
 use Rattle.thp_journal_reader.specs.Reading.{nodes_in, IsNodeBefore, IsReading}
+use Rattle.thp_journal_reader.specs.Summing.{GoesSummed}
+use Rattle.thp_journal_reader.specs.declared.summary.SummedNodes.{SummedNodes}
 
 node_later : (number : ℕ) (node : NodeJournal) → IsNodeBefore number node → IsNodeBefore (number + 1) node
 node_later number node before = record { shape = before.shape; lines = le_trans before.lines (le-add_right number 1) }
@@ -19,3 +21,6 @@ reads_later number nodes reads = record { along = reads.along; each = each_later
 
 pub goes_later : (number : ℕ) (nodes : CheckedNodes) → GoesWith number nodes → GoesWith (number + 1) nodes
 goes_later number nodes along = record { each = each_later number (nodes_told nodes.lines) along.each; says = along.says }
+
+pub sums_later : (number : ℕ) (nodes : SummedNodes) → GoesSummed number nodes → GoesSummed (number + 1) nodes
+sums_later number nodes along = record { each = each_later number (nodes_told nodes.lines) along.each; sums = along.sums }

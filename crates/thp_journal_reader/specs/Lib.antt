@@ -9,4 +9,6 @@ pub mod Answers
 pub mod Parts
 pub mod PastLines
 pub mod Checking
+pub mod Summaries
+pub mod Summing
 pub mod Later

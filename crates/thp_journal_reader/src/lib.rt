@@ -17,6 +17,9 @@ mod past_lines;
 mod place;
 mod reading;
 mod set_text;
+mod summary;
+mod summed;
+mod summed_check;
 mod text_reader;
 mod version;
 
@@ -30,4 +33,6 @@ pub use journals::{Journals, NodeJournal};
 pub use line::Line;
 pub use long_check::LongCheck;
 pub use place::Place;
+pub use summed::{SummaryFault, Summed};
+pub use summed_check::SummedCheck;
 pub use version::Version;

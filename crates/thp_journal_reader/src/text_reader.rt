@@ -85,6 +85,13 @@ impl<N: KeepsNodes + Drop> TextReader<N> {
         })
     }
 
+    /// What was kept of the nodes.
+    pub(crate) fn into_nodes(self) -> N
+        ensures { result ≡ self.nodes }
+    {
+        self.nodes
+    }
+
     /// The first fault of the text, where nothing more comes.
     pub(crate) fn fault(&self) -> Option<(u64, TextKind)>
         ensures wrong { IfSome result (λ fault. told_with (so_far (N.told self.now.nodes) self.now.place self.now.text) [] ≡ Err fault) }

@@ -1,5 +1,5 @@
 -- Events as lines of a journal (this project's journal format). A line stands here without its line feed.
-use Rattle.std.specs.Prelude.{◌≡◌, ℕ, ◌<◌, ◌^◌, Bool, List, [], ◌∷◌, length, codes, ⊤}
+use Rattle.std.specs.Prelude.{◌≡◌, ℕ, ◌<◌, ◌^◌, Bool, List, [], ◌∷◌, length, codes, ⊤, Option, Some, None}
 use Rattle.std.specs.List.{join_with_byte}
 use Rattle.std.specs.Fmt.{decimal}
 use Rattle.thp_model.specs.declared.events.Event.{Event}
@@ -48,6 +48,26 @@ what_words (Used page) = page_words (codes "used") page
 what_words (Back page) = page_words (codes "back") page
 what_words (Dropped page) = page_words (codes "dropped") page
 what_words Close = codes "close" ∷ []
+
+-- the page that the words name; a close names none
+abbrev pub page_told : What → Option ℕ
+page_told (Alloc page block) = Some page
+page_told (MapWhole page) = Some page
+page_told (UnmapWhole outcome page released) = Some page
+page_told (MapSub page first count) = Some page
+page_told (UnmapSub outcome page first count released) = Some page
+page_told (SplitPmd page) = Some page
+page_told (Pin page) = Some page
+page_told (Unpin outcome page released) = Some page
+page_told (Write page first count) = Some page
+page_told (Zero page first count) = Some page
+page_told (Taken page) = Some page
+page_told (Split page released) = Some page
+page_told (Pinned page) = Some page
+page_told (Used page) = Some page
+page_told (Back page) = Some page
+page_told (Dropped page) = Some page
+page_told Close = None
 
 -- the caller's number, then what happened
 unfoldable pub event_words : Event → List (List ℕ)

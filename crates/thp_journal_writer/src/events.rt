@@ -1,7 +1,7 @@
 //! Events behind a text, a line for each.
 ghost use Rattle.std.specs.Prelude.{◌≡◌, [], ◌∷◌, ◌++◌, OnOk};
 ghost use Rattle.std.specs.Fmt.{decimal};
-ghost use Rattle.thp_journal_writer.specs.EventLines.{line_of, outcome_word, what_words, event_line};
+ghost use Rattle.thp_journal_writer.specs.EventLines.{line_of, outcome_word, page_told, what_words, event_line};
 ghost use Rattle.thp_journal_writer.specs.Journals.{ended};
 ghost use Rattle.thp_journal_writer.specs.SetTexts.{set_text};
 
@@ -16,6 +16,31 @@ pub(crate) fn put_event_line(text: &mut Vec<u8>, event: &Event) -> Result<(), Al
 {
     put_number(text, u64::from(event.caller), b' ')?;
     put_what(text, &event.what)
+}
+
+/// The page that an event's line names. That of a close names none.
+pub fn page_told(what: &What) -> Option<PageId>
+    ensures { result ≡ page_told what.now }
+{
+    match *what {
+        What::Alloc { page, .. }
+        | What::MapWhole { page }
+        | What::UnmapWhole { page, .. }
+        | What::MapSub { page, .. }
+        | What::UnmapSub { page, .. }
+        | What::SplitPmd { page }
+        | What::Pin { page }
+        | What::Unpin { page, .. }
+        | What::Write { page, .. }
+        | What::Zero { page, .. }
+        | What::Taken { page }
+        | What::Split { page, .. }
+        | What::Pinned { page }
+        | What::Used { page }
+        | What::Back { page }
+        | What::Dropped { page } => Some(page),
+        What::Close => None,
+    }
 }
 
 // what happened, behind the caller

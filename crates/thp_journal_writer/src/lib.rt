@@ -10,7 +10,7 @@ mod stream;
 mod version;
 mod writer;
 
-pub use events::put_outcome;
+pub use events::{page_told, put_outcome};
 pub use node_history::NodeHistory;
 pub use numbers::{put, put_number};
 pub use put_fault::PutFault;

@@ -1,11 +1,12 @@
 -- The program's command line, as `clap` reads it.
-use Rattle.std.specs.Prelude.{◌≡◌, ℕ, Bool, true, false, pos, List, [], ◌∷◌, Option, Some, None, Result, map, option_map, codes}
+use Rattle.std.specs.Prelude.{◌≡◌, ℕ, true, pos, List, [], ◌∷◌, Option, Some, None, Result, map, option_map, codes}
 use Rattle.std.specs.Borrow.{Bor}
 use Rattle.std.specs.Str.Parse.{IsNumeral, digits_value, without_leading_plus}
 use Rattle.clap.specs.Words.{App, FailsBy, Row, Rule, fault_of, first_of, matches_of, new_app, new_rule, one_of, with_rule}
-use Rattle.clap.specs.declared.builder.action.ArgAction.TheVariants.{Set, SetTrue}
+use Rattle.clap.specs.declared.builder.action.ArgAction.TheVariants.{Set}
 use Rattle.clap.specs.declared.builder.value_parser.ValueParser.TheVariants.{Names, Signed}
 use Rattle.clap.specs.declared.error.Error.{Error}
+use Rattle.thp_command_line.specs.Options.{flag_rule, TellsFlag}
 use Rattle.thp_model.specs.Limits.{max_blocks}
 use Rattle.thp_options.specs.declared.line.Line.{Line}
 use Rattle.thp_text.specs.declared.settings.Report.{Report}
@@ -57,7 +58,7 @@ underused_rule = valued_rule (codes "underused")
 
 -- `--check`: a flag
 abbrev pub check_rule : Rule
-check_rule = record (new_rule (codes "check")) { long = Some (codes "check"); action = Some SetTrue }
+check_rule = flag_rule (codes "check")
 
 -- the command `thpsplit` without options; it has a version
 abbrev pub bare : App
@@ -83,12 +84,6 @@ pub record IsThpsplit (command : App) : Type 0 where
 -- a text, there being one, writes this number
 abbrev pub WritesNumber : Option (List ℕ) → ℕ → Type 0
 WritesNumber o n = (text : List ℕ) × (o ≡ Some text) × IsNumeral 10 (without_leading_plus text) × (digits_value 10 (without_leading_plus text) ≡ n)
-
--- a flag as `clap` writes it: not given, `true` or `false`
-pub record TellsFlag (text : Option (List ℕ)) (flag : Bool) : Type 0 where
-  pub absent : text ≡ None → flag ≡ false
-  pub set : text ≡ Some (codes "true") → flag ≡ true
-  pub unset : text ≡ Some (codes "false") → flag ≡ false
 
 -- the line has the values that the matches hold
 pub record HoldsLine (matches : List Row) (line : Line) : Type 0 where

@@ -1,7 +1,4 @@
-//! What `--version` and `--help` tell.
-
-/// What `--version` tells behind the program's name.
-pub(crate) const VERSION: &str = "0.1.0";
+//! What `--help` tells.
 
 /// What `--help` says behind the options.
 pub(crate) const AFTER_HELP: &str = "\

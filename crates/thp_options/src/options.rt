@@ -2,11 +2,12 @@
 ghost use Rattle.std.specs.Prelude.{◌≡◌, ◌∷◌, [], IfOk, map, codes};
 ghost use Rattle.thp_options.specs.CommandLine.{blocks_rule, check_rule, nodes_rule, orders_rule, report_names, report_rule, underused_rule, workers_rule};
 ghost use Rattle.thp_options.specs.OwnCommand.{IsOwnCommand};
-ghost use Rattle.thp_options.specs.Options.{IsOption};
+ghost use Rattle.thp_command_line.specs.Options.{IsOption};
 
-use crate::help::{AFTER_HELP, VERSION};
+use crate::help::AFTER_HELP;
 use clap::{Arg, ArgAction, Command, value_parser};
 use std::alloc::{AllocError, Global};
+use thp_command_line::{VERSION, flag};
 use thp_model::Shape;
 use thp_text::{MAX_NODES, MAX_WORKERS};
 
@@ -85,10 +86,11 @@ fn underused_option<'a>(alloc: Global) -> Arg<'a>
 fn check_option<'a>(alloc: Global) -> Arg<'a>
     ensures { IsOption result check_rule }
 {
-    Arg::new(alloc, "check")
-        .long("check")
-        .help("Tell whether a journal is legal, in place of a run")
-        .action(ArgAction::SetTrue)
+    flag(
+        alloc,
+        "check",
+        "Tell whether a journal is legal, in place of a run",
+    )
 }
 
 /// The command with its options.

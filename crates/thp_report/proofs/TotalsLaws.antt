@@ -1,5 +1,5 @@
 -- Histories that are equal but for their blocks have the same totals.
-use Rattle.std.proofs.Common.{◌≡◌, ℕ, ◌+◌, Bool, cond, List, [], ◌∷◌, ◌++◌, Option, Some, None, map, length, refl, ap, ap₂, sym, ◌∙◌, codes}
+use Rattle.std.proofs.Common.{◌≡◌, ℕ, ◌+◌, Bool, cond, List, [], ◌∷◌, ◌++◌, Option, Some, None, map, length, refl, ap, ap₂, sym, ◌∙◌}
 use Rattle.std.specs.List.{fold, sum_by}
 use Rattle.std.proofs.lemmas.List.{map-append}
 use Rattle.thp_model.specs.declared.events.Event.{Event}
@@ -13,11 +13,13 @@ use Rattle.thp_model.specs.Frames.{is_held, gives_back, given, frames_held}
 use Rattle.thp_model.specs.History.{History, by}
 use Rattle.thp_model.specs.Sets.{set_size, sum_below, count_below}
 use Rattle.thp_model.specs.Shapes.{subpages}
+use Rattle.thp_model.specs.Underused.{shrinks_underused}
 use Rattle.thp_model.proofs.Alike.{Alike, Blind, alike, count_alike, held_alike}
 use Rattle.thp_model.proofs.SumsBelow.{sum_below-ext}
 use Rattle.thp_journal_writer.specs.Journals.{Journal}
 use Rattle.thp_report.specs.Laws.{bare}
-use Rattle.thp_report.specs.Totals.{number_line, nine_lines, underused_line, totals_from, totals_text}
+use Rattle.thp_totals.specs.Totals.{lines_from, totals_in, totals_of, totals_text}
+use Rattle.thp_totals.specs.declared.numbers.Totals.{Totals}
 
 -- taking the blocks out twice is as taking them out once
 twice : (w : What) → with_block 0 (with_block 0 w) ≡ with_block 0 w
@@ -120,21 +122,29 @@ held_bare s h =
     ap (λ n. sum_below n (λ p. count_below (subpages s) (is_held s (without_blocks h) p))) a.allocations
     ∙ sum_below-ext (allocations h) _ _ (λ p l. sum_below-ext (subpages s) _ _ (λ i m. ap (λ b. cond {A = ℕ} b 1 0) (held_alike s (without_blocks h) h a p i)))
 
--- nine lines of the same numbers
-told_alike : (n a a' b b' c c' d d' e e' f f' g g' i i' : ℕ) → a ≡ a' → b ≡ b' → c ≡ c' → d ≡ d' → e ≡ e' → f ≡ f' → g ≡ g' → i ≡ i' →
-    number_line (codes "node ") n ++ number_line (codes "pages ") a ++ number_line (codes "queue ") b ++ number_line (codes "frames_held ") c
-    ++ number_line (codes "frames_given ") d ++ number_line (codes "thp_split_page ") e ++ number_line (codes "thp_split_page_failed ") f
-    ++ number_line (codes "thp_deferred_split_page ") g ++ number_line (codes "thp_split_pmd ") i
-    ≡ number_line (codes "node ") n ++ number_line (codes "pages ") a' ++ number_line (codes "queue ") b' ++ number_line (codes "frames_held ") c'
-    ++ number_line (codes "frames_given ") d' ++ number_line (codes "thp_split_page ") e' ++ number_line (codes "thp_split_page_failed ") f'
-    ++ number_line (codes "thp_deferred_split_page ") g' ++ number_line (codes "thp_split_pmd ") i'
-told_alike n a a' b b' c c' d d' e e' f f' g g' i i' p q r s t u v w = cc
+-- the totals with these numbers
+abbrev totals : ℕ → ℕ → ℕ → ℕ → ℕ → ℕ → ℕ → ℕ → Option ℕ → Totals
+totals a b c d e f g i u = record {
+  pages = a;
+  queue = b;
+  frames_held = c;
+  frames_given = d;
+  thp_split_page = e;
+  thp_split_page_failed = f;
+  thp_deferred_split_page = g;
+  thp_split_pmd = i;
+  thp_underused_split_page = u;
+}
 
--- a node without its blocks has the same nine lines
-nine_bare : (n : ℕ) (s : Shape) (h : History) → nine_lines n s (without_blocks h) ≡ nine_lines n s h
-unfolding nine_lines
-nine_bare n s h =
-    told_alike n _ _ _ _ _ _ _ _ _ _ _ _ _ _ _ _
+-- totals of the same numbers
+same_totals : (a a' b b' c c' d d' e e' f f' g g' i i' : ℕ) (u u' : Option ℕ) → a ≡ a' → b ≡ b' → c ≡ c' → d ≡ d' → e ≡ e' → f ≡ f' → g ≡ g' → i ≡ i' → u ≡ u' →
+    totals a b c d e f g i u ≡ totals a' b' c' d' e' f' g' i' u'
+same_totals a a' b b' c c' d d' e e' f f' g g' i i' u u' p q r s t v w x y = cc
+
+-- a node without its blocks has the same totals
+node_bare : (s : Shape) (h : History) → totals_of s (without_blocks h) ≡ totals_of s h
+node_bare s h =
+    same_totals _ _ _ _ _ _ _ _ _ _ _ _ _ _ _ _ _ _
     ((alike (without_blocks h) h (bare_same h)).allocations)
     (ap (λ (q : List ℕ). length q) ((alike (without_blocks h) h (bare_same h)).queue s))
     (held_bare s h)
@@ -143,17 +153,13 @@ nine_bare n s h =
     (count_alike is_failed_try failed_blind (without_blocks h) h (bare_same h))
     (count_alike queues queues_blind (without_blocks h) h (bare_same h))
     (pmds_bare h)
-
--- and the same tenth line
-tenth_bare : (s : Shape) (h : History) → underused_line s (without_blocks h) ≡ underused_line s h
-unfolding underused_line
-tenth_bare s h = rw (underused_bare s h)
+    (ap (λ (n : ℕ). cond {A = Option ℕ} (shrinks_underused s) (Some n) None) (underused_bare s h))
 
 -- nodes without their blocks have the same totals
-totals_bare : (n : ℕ) (nodes : List Journal) → totals_from n (map bare nodes) ≡ totals_from n nodes
-totals_bare n [] = refl
-totals_bare n (node ∷ nodes) = ap₂ (λ a b. a ++ b) (ap₂ (λ a b. a ++ b) (nine_bare n node.0 node.1) (tenth_bare node.0 node.1)) (totals_bare (n + 1) nodes)
+totals_bare : (nodes : List Journal) → map totals_in (map bare nodes) ≡ map totals_in nodes
+totals_bare [] = refl
+totals_bare (node ∷ nodes) = ap₂ (λ t ts. t ∷ ts) (node_bare node.0 node.1) (totals_bare nodes)
 
 -- so nodes that are equal but for their blocks have
 pub totals_blind : (nodes others : List Journal) → map bare nodes ≡ map bare others → totals_text nodes ≡ totals_text others
-totals_blind nodes others e = sym (totals_bare 0 nodes) ∙ ap totals_text e ∙ totals_bare 0 others
+totals_blind nodes others e = ap (lines_from 0) (sym (totals_bare nodes) ∙ ap (λ ns. map totals_in ns) e ∙ totals_bare others)

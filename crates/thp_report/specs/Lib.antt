@@ -1,4 +1,3 @@
-pub mod Totals
 pub mod Answers
 pub mod Laws
 pub mod Reports

@@ -90,7 +90,7 @@ journal_too_long : (most : ℕ) (text : List ℕ) → most < length text → jou
 unfolding journals_within
 journal_too_long most text lt = rw (lt-ltb most (length text) lt) refl
 
-same_journals : (most : ℕ) (input bytes : List ℕ) → IsFrontOf most bytes input → journals_within most bytes ≡ journals_within most input
+pub same_journals : (most : ℕ) (input bytes : List ℕ) → IsFrontOf most bytes input → journals_within most bytes ≡ journals_within most input
 same_journals most input bytes read =
     elim (cases_lt most (length bytes)) [
       | inl more ↦ journal_too_long most bytes more ∙ sym (journal_too_long most input (rw read.front (omega (arith, length-append bytes read.rest))))

@@ -4,6 +4,8 @@ use Rattle.std.specs.Fmt.{decimal}
 use Rattle.thp_text.specs.TextKinds.{kind_word}
 use Rattle.thp_text.specs.declared.fault.ReadFault.{ReadFault}
 use Rattle.thp_text.specs.declared.fault.ReadFault.TheVariants as reading
+use Rattle.thp_journal_reader.specs.declared.summed.SummaryFault.{SummaryFault}
+use Rattle.thp_journal_reader.specs.declared.summed.SummaryFault.TheVariants as summary
 use Rattle.thp_streams.specs.declared.long_fault.LongRunFault.{LongRunFault}
 use Rattle.thp_streams.specs.declared.long_fault.LongRunFault.TheVariants as long
 use Rattle.thp_streams.specs.declared.fault.RunFault.{RunFault}
@@ -22,6 +24,11 @@ seen_fault (long.Text line kind) = Text line kind
 seen_fault long.OutOfMemory = OutOfMemory
 seen_fault long.Read = Read
 seen_fault long.Write = Write
+
+-- why there is no summary, as a fault of a check of any length
+abbrev pub fault_of_summary : SummaryFault → LongRunFault
+fault_of_summary (summary.Text fault) = long.Text fault.line fault.kind
+fault_of_summary summary.OutOfMemory = long.OutOfMemory
 
 -- a failed read sets the reader's flag, and want of memory doesn't
 abbrev pub IsReadingFault : Bool → RunFault → Type 0

@@ -1,12 +1,12 @@
 //! What can go wrong with a check of any length.
 ghost use Rattle.std.specs.Prelude.{◌≡◌, Some};
 ghost use Rattle.thp_streams.specs.declared.long_fault.LongRunFault.TheVariants.{OutOfMemory, Text};
-ghost use Rattle.thp_streams.specs.RunFaults.{fault_text, seen_fault};
+ghost use Rattle.thp_streams.specs.RunFaults.{fault_of_summary, fault_text, seen_fault};
 
 use crate::fault::RunFault;
 use std::alloc::AllocError;
 use std::{error, fmt};
-use thp_journal_reader::TextFault;
+use thp_journal_reader::{SummaryFault, TextFault};
 use thp_text::TextKind;
 
 /// Why a check of a journal of any length ended without its whole verdict. It is as a [`RunFault`], but that its lines count in
@@ -54,6 +54,17 @@ impl From<TextFault> for LongRunFault {
         LongRunFault::Text {
             line: fault.line,
             kind: fault.kind,
+        }
+    }
+}
+
+impl From<SummaryFault> for LongRunFault {
+    ghost from_gives = { λ summary fault. fault ≡ fault_of_summary summary };
+
+    fn from(fault: SummaryFault) -> LongRunFault {
+        match fault {
+            SummaryFault::Text(fault) => LongRunFault::from(fault),
+            SummaryFault::OutOfMemory => LongRunFault::OutOfMemory,
         }
     }
 }

@@ -77,7 +77,7 @@ fn write_line(program: Program) -> &'static [u8]
 }
 
 /// Writes a text to standard error; where that fails there is nowhere to tell it.
-fn put<E: Write>(errors: &mut Watched<E>, text: &[u8])
+pub fn tell_text<E: Write>(errors: &mut Watched<E>, text: &[u8])
     requires { errors.old.failed ≡ false }
     ensures { Takes (device_of E.contents errors.old errors.new) text.now }
 {
@@ -97,14 +97,14 @@ pub fn tell_run<E: Write>(
     match fault {
         LongRunFault::Text { .. } => {
             if let Ok(text) = line_of(alloc, program, &fault) {
-                put(errors, text.as_bytes());
+                tell_text(errors, text.as_bytes());
                 return FAULTY;
             }
-            put(errors, memory_line(program));
+            tell_text(errors, memory_line(program));
         }
-        LongRunFault::OutOfMemory => put(errors, memory_line(program)),
-        LongRunFault::Read => put(errors, read_line(program)),
-        LongRunFault::Write => put(errors, write_line(program)),
+        LongRunFault::OutOfMemory => tell_text(errors, memory_line(program)),
+        LongRunFault::Read => tell_text(errors, read_line(program)),
+        LongRunFault::Write => tell_text(errors, write_line(program)),
     }
     FAILED
 }
@@ -122,19 +122,19 @@ pub fn tell<E: Write>(
     match fault {
         ProgramFault::Run(fault) => tell_run(alloc, program, LongRunFault::from(fault), errors),
         ProgramFault::Usage(text) => {
-            put(errors, text.as_bytes());
+            tell_text(errors, text.as_bytes());
             FAULTY
         }
         ProgramFault::Orders => {
-            put(errors, b"thpsplit: bad orders\n");
+            tell_text(errors, b"thpsplit: bad orders\n");
             FAULTY
         }
         ProgramFault::Underused => {
-            put(errors, b"thpsplit: bad underused\n");
+            tell_text(errors, b"thpsplit: bad underused\n");
             FAULTY
         }
         ProgramFault::NoText => {
-            put(
+            tell_text(
                 errors,
                 b"error: invalid UTF-8 was detected in one or more arguments\n",
             );

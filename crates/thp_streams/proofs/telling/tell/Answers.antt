@@ -8,4 +8,4 @@ returns-in-Run g c =
     (Run told.0, rw c.in-Run.is (told.0, rw c.from.ensures at told.1, refl), (told.2, told.3))
 
 pub returns-in-Usage : goal.returns-in-Usage
-returns-in-Usage g c = (Usage c.in-Usage.text, rw c.in-Usage.is refl, (rw c.as_bytes.ensures.value at c.put.ensures, refl))
+returns-in-Usage g c = (Usage c.in-Usage.text, rw c.in-Usage.is refl, (rw c.as_bytes.ensures.value at c.tell_text.ensures, refl))

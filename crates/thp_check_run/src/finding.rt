@@ -1,0 +1,81 @@
+//! What the journal that a reader gives tells: its first illegal event, and the totals of its nodes.
+ghost use Rattle.std.specs.Prelude.{◌≡◌, ℕ, List, IfOk, IfErr, IfSome, true, false};
+ghost use Rattle.thp_text.specs.Limits.{max_counted};
+ghost use Rattle.thp_streams.specs.Calls.{ReadsOn};
+ghost use Rattle.thp_streams.specs.Devices.{IsFrontOf};
+ghost use Rattle.thp_streams.specs.RunFaults.{seen_fault};
+ghost use Rattle.thp_check_run.specs.Checks.{IsFindFault, IsFound};
+
+use crate::options::CheckOptions;
+use std::alloc::Global;
+use std::io::Read;
+use thp_check::Misfit;
+use thp_journal_reader::{Illegal, LongCheck, SummedCheck};
+use thp_model::{Outcome, Refusal, What};
+use thp_streams::{LongRunFault, Watched, read_parts};
+use thp_text::MAX_COUNTED;
+use thp_totals::Totals;
+
+/// What a journal tells.
+#[derive(Drop)]
+pub(crate) struct Found {
+    /// The first illegal event, or none where the journal is legal.
+    pub(crate) illegal: Option<Illegal>,
+    /// Of each node, where they are asked for.
+    pub(crate) totals: Vec<Totals>,
+}
+
+/// The first illegal event of the journal whose text a reader gives, part by part.
+fn find_first<R: Read>(alloc: Global, reader: &mut Watched<R>) -> Result<Found, LongRunFault>
+    requires { reader.old.failed ≡ false }
+    ensures found { IfOk result (λ found. (bytes : List ℕ) × IfSome (R.remaining reader.old.device) (IsFrontOf max_counted bytes) × IsFound false bytes found) }
+    ensures flag { IfOk result (λ _. reader.new.failed ≡ false) }
+    ensures fault { IfErr result (λ fault. IsFindFault (R.remaining reader.old.device) reader.new.failed (seen_fault fault)) }
+    ensures calls { ReadsOn reader.new.failed reader.old.calls reader.new.calls }
+{
+    // the toolchain finds these types, which stand in illegal events, only in functions that name them
+    let _in_illegal = (What::Close, Outcome::Stays, Refusal::NoPage, Misfit::Block);
+    let check = read_parts(LongCheck::new(alloc), MAX_COUNTED, reader)?;
+    let illegal = check.finish()?;
+    Ok(Found {
+        illegal,
+        totals: Vec::new(alloc),
+    })
+}
+
+/// The same, with the totals of each node.
+fn sum_up<R: Read>(alloc: Global, reader: &mut Watched<R>) -> Result<Found, LongRunFault>
+    requires { reader.old.failed ≡ false }
+    ensures found { IfOk result (λ found. (bytes : List ℕ) × IfSome (R.remaining reader.old.device) (IsFrontOf max_counted bytes) × IsFound true bytes found) }
+    ensures flag { IfOk result (λ _. reader.new.failed ≡ false) }
+    ensures fault { IfErr result (λ fault. IsFindFault (R.remaining reader.old.device) reader.new.failed (seen_fault fault)) }
+    ensures calls { ReadsOn reader.new.failed reader.old.calls reader.new.calls }
+{
+    // as above
+    let _in_illegal = (What::Close, Outcome::Stays, Refusal::NoPage, Misfit::Block);
+    let check = read_parts(SummedCheck::new(alloc), MAX_COUNTED, reader)?;
+    let summed = check.finish()?;
+    Ok(Found {
+        illegal: summed.illegal,
+        totals: summed.totals,
+    })
+}
+
+/// What the options ask for, of the journal whose text a reader gives.
+pub(crate) fn find<R: Read>(
+    alloc: Global,
+    options: CheckOptions,
+    reader: &mut Watched<R>,
+) -> Result<Found, LongRunFault>
+    requires { reader.old.failed ≡ false }
+    ensures found { IfOk result (λ found. (bytes : List ℕ) × IfSome (R.remaining reader.old.device) (IsFrontOf max_counted bytes) × IsFound options.summary bytes found) }
+    ensures flag { IfOk result (λ _. reader.new.failed ≡ false) }
+    ensures fault { IfErr result (λ fault. IsFindFault (R.remaining reader.old.device) reader.new.failed (seen_fault fault)) }
+    ensures calls { ReadsOn reader.new.failed reader.old.calls reader.new.calls }
+{
+    if options.summary {
+        sum_up(alloc, reader)
+    } else {
+        find_first(alloc, reader)
+    }
+}

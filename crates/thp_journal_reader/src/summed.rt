@@ -1,0 +1,44 @@
+//! What a check finds that also sums nodes up.
+use crate::illegal::{Illegal, TextFault};
+use std::alloc::AllocError;
+use thp_totals::Totals;
+
+/// What a check finds that also sums nodes up.
+#[derive(Drop)]
+pub struct Summed {
+    /// The first illegal event, in the order of the text, or none where each node's events are legal.
+    pub illegal: Option<Illegal>,
+    /// The totals of each node: of all its events, or of those before its first illegal one.
+    pub totals: Vec<Totals>,
+}
+
+/// Why there is no summary.
+#[derive(Clone, Copy, Debug, PartialEq, Eq)]
+pub enum SummaryFault {
+    /// The text has this fault first.
+    Text(TextFault),
+    /// Memory was refused.
+    OutOfMemory,
+}
+
+impl From<TextFault> for SummaryFault {
+    ghost use Rattle.std.specs.Prelude.{◌≡◌};
+    ghost use Rattle.thp_journal_reader.specs.declared.summed.SummaryFault.TheVariants as summary;
+
+    ghost from_gives = { λ fault summed. summed ≡ summary.Text fault };
+
+    fn from(fault: TextFault) -> SummaryFault {
+        SummaryFault::Text(fault)
+    }
+}
+
+impl From<AllocError> for SummaryFault {
+    ghost use Rattle.std.specs.Prelude.{◌≡◌};
+    ghost use Rattle.thp_journal_reader.specs.declared.summed.SummaryFault.TheVariants as summary;
+
+    ghost from_gives = { λ _ summed. summed ≡ summary.OutOfMemory };
+
+    fn from(_error: AllocError) -> SummaryFault {
+        SummaryFault::OutOfMemory
+    }
+}

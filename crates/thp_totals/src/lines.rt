@@ -1,0 +1,69 @@
+//! The totals of a node as text.
+ghost use Rattle.std.specs.Prelude.{◌≡◌, ◌++◌, OnOk};
+ghost use Rattle.thp_totals.specs.Totals.{lines_from, nine_lines, number_line, tenth_line, totals_lines};
+
+use crate::numbers::Totals;
+use itoa::Buffer;
+use std::alloc::AllocError;
+use thp_journal_writer::put;
+
+/// Puts the lines of the node of this number behind a text: nine, and a tenth where its shrinker looks for underused pages. Where
+/// memory is refused a front of them may stand in the text.
+pub fn put_totals(text: &mut Vec<u8>, number: usize, totals: &Totals) -> Result<(), AllocError>
+    ensures { OnOk result (text.new.items ≡ text.old.items ++ totals_lines number totals.now) }
+{
+    put_nine_lines(text, number, totals)?;
+    put_tenth_line(text, totals.thp_underused_split_page)
+}
+
+/// Puts the lines of nodes behind a text, which are numbered from 0 on. Where memory is refused a front of them may stand in the text.
+pub fn put_each(text: &mut Vec<u8>, totals: &[Totals]) -> Result<(), AllocError>
+    ensures { OnOk result (text.new.items ≡ text.old.items ++ lines_from 0 totals.now) }
+{
+    for (number, node) in totals.iter().enumerate() {
+        put_totals(text, number, node)?;
+    }
+    Ok(())
+}
+
+#[tactic(auto, using(crate::proofs::Pieces::nine), unfolding(crate::specs::Totals::nine_lines))]
+fn put_nine_lines(text: &mut Vec<u8>, number: usize, totals: &Totals) -> Result<(), AllocError>
+    ensures { OnOk result (text.new.items ≡ text.old.items ++ nine_lines number totals.now) }
+{
+    put_line(text, b"node ", number as u128)?;
+    put_line(text, b"pages ", u128::from(totals.pages))?;
+    put_line(text, b"queue ", u128::from(totals.queue))?;
+    put_line(text, b"frames_held ", totals.frames_held)?;
+    put_line(text, b"frames_given ", totals.frames_given)?;
+    put_line(text, b"thp_split_page ", u128::from(totals.thp_split_page))?;
+    put_line(
+        text,
+        b"thp_split_page_failed ",
+        u128::from(totals.thp_split_page_failed),
+    )?;
+    put_line(
+        text,
+        b"thp_deferred_split_page ",
+        u128::from(totals.thp_deferred_split_page),
+    )?;
+    put_line(text, b"thp_split_pmd ", totals.thp_split_pmd)
+}
+
+#[tactic(auto, unfolding(crate::specs::Totals::tenth_line))]
+fn put_tenth_line(text: &mut Vec<u8>, underused: Option<u64>) -> Result<(), AllocError>
+    ensures { OnOk result (text.new.items ≡ text.old.items ++ tenth_line underused) }
+{
+    match underused {
+        Some(split) => put_line(text, b"thp_underused_split_page ", u128::from(split)),
+        None => Ok(()),
+    }
+}
+
+#[tactic(auto, using(crate::proofs::Pieces::three), unfolding(crate::specs::Totals::number_line))]
+fn put_line(text: &mut Vec<u8>, label: &[u8], number: u128) -> Result<(), AllocError>
+    ensures { OnOk result (text.new.items ≡ text.old.items ++ number_line label.now number) }
+{
+    put(text, label)?;
+    put(text, Buffer::new().format(number).as_bytes())?;
+    put(text, b"\n")
+}
