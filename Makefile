@@ -4,7 +4,8 @@
 # make checker: the same of thpcheck, which checks journals of any length
 # make install: puts the proved programs and thpwhatif, their manual pages and completions below PREFIX (default /usr/local;
 #               DESTDIR as usual); make uninstall takes them away
-# make deb:     the Debian package of the proved programs and of thpwhatif, into DEBS (default out; wants dpkg-dev, debhelper)
+# make deb:     the Debian packages of the proved programs with thpwhatif, and of the library for C, into DEBS (default out; wants
+#               dpkg-dev, debhelper)
 # make test:    every check (proofs from nothing, must-fail edits, tests, stored runs, examples, documents); ends in
 #               'N passed, M failed'. What a machine lacks is named and counted neither way, or as failed with STRICT=1
 # make outside: examples and documents alone; PROGRAM=path: by that program, and all that is asked of it from outside:
@@ -12,6 +13,8 @@
 # make fuzz:    random scripts, journals and words on the built program and on a plain reading of the model in Python:
 #               CASES=n SEED=s; ends in a table of what was covered
 # make memory:  each growth of memory and each start of a thread refused in turn (wants Python 3 and a C compiler)
+# make c:       proves and builds the library for C and for Rust (docs/C.md) and tests it; PROGRAM=path: on CASES random
+#               scripts against that program, too
 # make edits:   the wrong bodies that the gate has no time for (tests/edits), beside those that it tries; CRATES=names: of
 #               these alone
 # make linux:   random scripts on the running kernel and on the built program: CASES=n SEED=s PROGRAM=path (wants root;
@@ -22,12 +25,13 @@
 PREFIX ?= /usr/local
 PROGRAM = crates/thpsplit/out/thpsplit
 CHECKER = crates/thpcheck/out/thpcheck
+ARCHIVE = crates/thp_c/out/libthp_c.a
 SCRIPT = examples/first.script
 DEBS ?= out
 CASES ?= 2000
 SEED ?= 1
 
-.PHONY: help try run checker install put put-whatif uninstall deb test outside toolchain fuzz memory edits linux bench
+.PHONY: help try run checker install put put-whatif uninstall deb test outside toolchain fuzz memory c edits linux bench
 
 help:
 	@sed -n '/^[^#]/q; s/^# //p' Makefile
@@ -79,8 +83,8 @@ uninstall:
 	@for pair in $(INSTALLED); do rm -f "$(DESTDIR)$(PREFIX)/$${pair%%=*}"; done
 	@$(MAKE) --no-print-directory -s -C linux/whatif uninstall PREFIX="$(PREFIX)" DESTDIR="$(abspath $(DESTDIR))"
 
-deb: run checker
-	@python3 debian/build.py $(PROGRAM) $(CHECKER) $(DEBS)
+deb: run checker $(ARCHIVE)
+	@python3 debian/build.py $(PROGRAM) $(CHECKER) $(ARCHIVE) $(DEBS)
 
 test: toolchain
 	@python3 tests/gate.py
@@ -99,7 +103,7 @@ outside:
 	@$(if $(GIVEN),python3 tests/outside.py --self-test $(GIVEN))
 	@$(if $(GIVEN),python3 tests/large.py $(GIVEN))
 	@$(if $(wildcard $(CHECKER)),python3 tests/checker.py $(CHECKER))
-	@$(if $(and $(GIVEN),$(wildcard $(CHECKER))),python3 tests/package.py $(GIVEN) $(CHECKER) || test $$? = 77)
+	@$(if $(and $(GIVEN),$(wildcard $(CHECKER)),$(wildcard $(ARCHIVE))),python3 tests/package.py $(GIVEN) $(CHECKER) $(ARCHIVE) || test $$? = 77)
 
 fuzz: run
 	@python3 tests/fuzz.py $(PROGRAM) --cases $(CASES) --seed $(SEED)
@@ -107,6 +111,16 @@ fuzz: run
 memory: run
 	@cd crates/tests_spoilt && rt test
 	@python3 tests/memory.py $(PROGRAM) crates/tests_spoilt/out/tests_spoilt_tests:memory::
+
+$(ARCHIVE):
+	@python3 prove.py thp_c
+	@cd crates/thp_c && rt lib
+
+# always anew: `rt lib` knows what has changed
+.PHONY: $(ARCHIVE)
+
+c: toolchain $(ARCHIVE)
+	@python3 tests/library.py $(ARCHIVE) $(if $(GIVEN),$(GIVEN) --cases $(CASES) --seed $(SEED))
 
 edits:
 	@bash tests/edits/run $(CRATES)

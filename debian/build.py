@@ -1,10 +1,11 @@
 #!/usr/bin/env python3
-"""Builds the Debian package `thpsplit` from programs that were built before.
+"""Builds the Debian packages `thpsplit`, `libthp0` and `libthp-dev` from what was built before.
 
-    debian/build.py THPSPLIT THPCHECK FOLDER
+    debian/build.py THPSPLIT THPCHECK ARCHIVE FOLDER
 
-The package goes into FOLDER, and its path is printed. It is built on a copy of what it is made from, so that nothing else of
-the tree changes. Status 77 with one line where Debian's tools aren't there (packages dpkg-dev, debhelper).
+ARCHIVE is that of the library for C, crates/thp_c/out/libthp_c.a. The packages go into FOLDER, and their paths are printed. They are
+built on a copy of what they are made from, so that nothing else of the tree changes. Status 77 with one line where Debian's tools
+aren't there (packages dpkg-dev, debhelper).
 """
 
 from __future__ import annotations
@@ -19,11 +20,11 @@ from email.utils import formatdate
 from pathlib import Path
 
 ROOT = Path(__file__).resolve().parent.parent
-PARTS = ("Makefile", "README.md", "CHANGELOG.md", "LICENSE-APACHE", "LICENSE-MIT", "completions", "debian", "docs", "linux")
-"""What the package is made from, beside the programs."""
+PARTS = ("Makefile", "README.md", "CHANGELOG.md", "LICENSE-APACHE", "LICENSE-MIT", "c", "completions", "debian", "docs", "linux")
+"""What the packages are made from, beside what was built."""
 
-PROGRAMS = ("thpsplit", "thpcheck")
-"""The proved programs, in the order of the words."""
+BUILT = ("crates/thpsplit/out/thpsplit", "crates/thpcheck/out/thpcheck", "crates/thp_c/out/libthp_c.a")
+"""Where the tree has what was proved and built, in the order of the words."""
 
 TOOLS = {"dpkg-buildpackage": "dpkg-dev", "dh": "debhelper", "cc": "gcc"}
 """Each program that is wanted, and the package that has it."""
@@ -34,7 +35,7 @@ LACKS = 77
 
 def version() -> str:
     """The version that the program tells, from the one place where it stands."""
-    found = re.search(r'VERSION: &str = "([^"]+)"', (ROOT / "crates/thp_options/src/help.rt").read_text())
+    found = re.search(r'VERSION: &str = "([^"]+)"', (ROOT / "crates/thp_command_line/src/version.rt").read_text())
     assert found is not None
     return found[1]
 
@@ -48,27 +49,26 @@ def changelog(number: str) -> str:
     return f"leversorrel ({number}) unstable; urgency=medium\n\n  * As CHANGELOG.md tells.\n\n -- {line}  {date}\n"
 
 
-def copy(tree: Path, programs: list[Path]) -> None:
-    """Puts what the package is made from into an empty folder."""
+def copy(tree: Path, built: list[Path]) -> None:
+    """Puts what the packages are made from into an empty folder."""
     for part in PARTS:
         source = ROOT / part
         if source.is_dir():
             shutil.copytree(source, tree / part, ignore=shutil.ignore_patterns("__pycache__", "out"))
         else:
             shutil.copy2(source, tree / part)
-    for name, program in zip(PROGRAMS, programs):
-        place = tree / f"crates/{name}/out/{name}"
-        place.parent.mkdir(parents=True)
-        shutil.copy2(program, place)
+    for name, file in zip(BUILT, built):
+        (tree / name).parent.mkdir(parents=True)
+        shutil.copy2(file, tree / name)
     (tree / "debian/changelog").write_text(changelog(version()))
 
 
-def build(programs: list[Path], folder: Path) -> list[Path]:
+def build(built: list[Path], folder: Path) -> list[Path]:
     """The packages, put into the folder."""
     with tempfile.TemporaryDirectory(prefix="thp-deb-") as name:
         tree = Path(name) / f"leversorrel-{version()}"
         tree.mkdir()
-        copy(tree, programs)
+        copy(tree, built)
         told = subprocess.run(["dpkg-buildpackage", "-b", "-us", "-uc"], cwd=tree, text=True, errors="replace",
                               stdout=subprocess.PIPE, stderr=subprocess.STDOUT)
         if told.returncode != 0:
@@ -78,18 +78,21 @@ def build(programs: list[Path], folder: Path) -> list[Path]:
 
 
 def main() -> None:
-    """Builds the package from the programs of the command line."""
-    if len(sys.argv) != len(PROGRAMS) + 2:
+    """Builds the packages from the files of the command line."""
+    if len(sys.argv) != len(BUILT) + 2:
         sys.exit(__doc__)
-    programs = [Path(word) for word in sys.argv[1:-1]]
-    for program in programs:
-        if not os.access(program, os.X_OK) or program.is_dir():
+    built = [Path(word) for word in sys.argv[1:-1]]
+    for file in built:
+        if not file.is_file():
+            sys.exit(f"{file} is no file")
+    for program in built[:2]:
+        if not os.access(program, os.X_OK):
             sys.exit(f"{program} is no program")
     lacks = [package for tool, package in TOOLS.items() if shutil.which(tool) is None]
     if lacks:
         print(f"no package: this machine lacks {', '.join(lacks)}")
         sys.exit(LACKS)
-    for package in build(programs, Path(sys.argv[-1])):
+    for package in build(built, Path(sys.argv[-1])):
         print(package)
 
 

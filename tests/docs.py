@@ -25,8 +25,8 @@ FOREIGN = {"transhuge", "admin", "guide", "split_huge_page", "cargo", "rustc"}
 """Words of other projects, which our tree needn't name."""
 
 DOCUMENTS = ["README.md", "CONTRIBUTING.md",
-             *(f"docs/{name}.md" for name in ("MAP", "MODEL", "PROVED", "TESTS", "LINUX", "WHATIF"))]
-PATH = re.compile(r"`((?:crates|docs|tests|examples|bench|linux)/[A-Za-z0-9_./*-]*)`")
+             *(f"docs/{name}.md" for name in ("MAP", "MODEL", "PROVED", "TESTS", "LINUX", "WHATIF", "C"))]
+PATH = re.compile(r"`((?:crates|docs|tests|examples|bench|linux|c|rust)/[A-Za-z0-9_./*-]*)`")
 CRATE = re.compile(r"`((?:thp|tests|bench|demo)_[a-z_]+|thpsplit|thpcheck)`")
 
 
@@ -63,6 +63,26 @@ def edits_are_told() -> str | None:
     return f"doesn't name {', '.join(missing)}" if missing else None
 
 
+def edits_apply() -> str | None:
+    """The text that each edit of `make edits` replaces stands once in its file."""
+    wrong = []
+    for edit in sorted(ROOT.glob("tests/edits/*/*.edit")):
+        texts: dict[Path, str] = {}
+        path, old = ROOT, ""
+        for line in edit.read_text().splitlines():
+            what, _, text = line.partition(": ")
+            if what == "file":
+                path = ROOT / "crates" / edit.parent.name / text
+                texts.setdefault(path, path.read_text())
+            elif what == "old":
+                old = text
+            elif what == "new":
+                if texts[path].count(old) != 1:
+                    wrong.append(edit.stem)
+                texts[path] = texts[path].replace(old, text)
+    return f"doesn't stand once: {', '.join(wrong)}" if wrong else None
+
+
 def words_of_tree() -> set[str]:
     """Each word that code, definitions, proofs and scripts write, and the names of their files."""
     words: set[str] = set()
@@ -70,7 +90,8 @@ def words_of_tree() -> set[str]:
     code = [path for path in ROOT.glob("crates/*/**/*") if path.relative_to(ROOT).parts[2] in parts]
     scripts = [path for folder in ("tests", "bench", "examples") for path in ROOT.glob(f"{folder}/*")]
     kernel = [path for path in ROOT.glob("linux/*/*") if path.suffix in (".py", ".c")]
-    for path in [*code, *scripts, *kernel, ROOT / "Makefile", ROOT / "crates.txt"]:
+    library = [path for top in ("c", "c/tests", "c/demos", "rust/src", "rust/tests") for path in ROOT.glob(f"{top}/*.*")]
+    for path in [*code, *scripts, *kernel, *library, ROOT / "Makefile", ROOT / "crates.txt"]:
         words.update(re.findall(r"\w+", str(path.relative_to(ROOT))))
         if path.is_file():
             words.update(re.findall(r"\w+", path.read_text(errors="replace")))
@@ -173,6 +194,7 @@ def main() -> None:
     tally.run("README.md shows what is stored of the examples", dialogues_are_true)
     tally.run("docs/PROVED.md tells of each crate", crates_are_told)
     tally.run("docs/PROOFS.md names each must-fail edit", edits_are_told)
+    tally.run("tests/edits apply", edits_apply)
     tally.run("docs/PROVED.md names the toolchain", toolchain_is_told)
     tally.run("limits that are told are those of the code", limits_are_told)
     for document in DOCUMENTS:

@@ -8,7 +8,6 @@ the built program get what `rt ci` has just built, by each of its compilers; whe
 
 from __future__ import annotations
 
-import os
 import re
 import subprocess
 import sys
@@ -33,6 +32,9 @@ BY_EACH = ("tests/examples.py", "tests/rows.py", "tests/outside.py", "tests/larg
 
 BY_ONE = ("tests/spoilt.py",)
 """What looks at a program and takes longer: at one of them."""
+
+ARCHIVE = "crates/thp_c/out/libthp_c.a"
+"""Where the archive of the library for C is built: `rt ci` proves it, and builds nothing of it."""
 
 SPOILT = "crates/tests_spoilt/out/tests_spoilt_tests"
 """Where `rt ci` leaves the tests of memory that is refused."""
@@ -79,7 +81,7 @@ def add(tally: Tally, name: str, command: list[str]) -> None:
 def made_since(began: float, names: tuple[str, ...]) -> list[str]:
     """The built programs of these names that were made since then: none that an earlier run left."""
     paths = [ROOT / name for name in names]
-    return [str(path) for path in paths if os.access(path, os.X_OK) and path.stat().st_mtime >= began]
+    return [str(path) for path in paths if path.is_file() and path.stat().st_mtime >= began]
 
 
 def main() -> None:
@@ -99,11 +101,14 @@ def main() -> None:
         add(tally, "outside.py --self-test", [sys.executable, "tests/outside.py", "--self-test", program])
         rows = [f"{path}:{REFUSED}" for path in made_since(began, (SPOILT,))]
         add(tally, "memory.py", [sys.executable, "tests/memory.py", program, *rows])
+    add(tally, "archive.py", [sys.executable, "tests/archive.py", ARCHIVE])
+    archives = made_since(began, (ARCHIVE,))
+    add(tally, "library.py", [sys.executable, "tests/library.py", *archives, *(programs[:1] if archives else [])])
     checkers = made_since(began, CHECKERS)
     for program in checkers:
         add(tally, f"checker.py {Path(program).name}", [sys.executable, "tests/checker.py", program])
-    if programs and checkers:
-        add(tally, "package.py", [sys.executable, "tests/package.py", programs[0], checkers[0]])
+    if programs and checkers and archives:
+        add(tally, "package.py", [sys.executable, "tests/package.py", programs[0], checkers[0], archives[0]])
     if not programs:
         add(tally, "examples.py", [sys.executable, "tests/examples.py"])
         tally.skip("the program from outside", "rt ci has built none")

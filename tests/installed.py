@@ -74,7 +74,7 @@ def options_are_told(path: str, options: str = "crates/thp_options/src/options.r
     """Each option of a command line stands in the file, and no other; of a page in its section of options. In fish's form an
     option is `-l NAME`."""
     source = (ROOT / options).read_text()
-    wanted = set(re.findall(r'\.long\("([a-z]+)"\)', source)) | {"help", "version"}
+    wanted = set(re.findall(r'(?:\.long\(|flag\(\s*alloc,\s*)"([a-z]+)"', source)) | {"help", "version"}
     text = (ROOT / path).read_text().replace("\\-", "-").split(".SH OPTIONS")[-1].split(".SH ")[0]
     told = set(re.findall(r"--([a-z]+)", text)) | set(re.findall(r" -l ([a-z]+)", text))
     if told == wanted:

@@ -1,8 +1,9 @@
-"""The Debian package: built from the programs, checked by lintian, installed in a clean root, tried there, and removed.
+"""The Debian packages: built from what was proved, checked by lintian, installed in a clean root, tried there, and removed.
 
-    tests/package.py THPSPLIT THPCHECK
+    tests/package.py THPSPLIT THPCHECK ARCHIVE
 
-Status 77 with one line where this machine lacks Debian's tools for packages. Nothing is installed on the machine itself.
+ARCHIVE is that of the library for C. Status 77 with one line where this machine lacks Debian's tools for packages. Nothing is
+installed on the machine itself.
 """
 
 from __future__ import annotations
@@ -25,25 +26,29 @@ ADMIN = "var/lib/dpkg"
 
 PUT = ("usr/bin/thpsplit", "usr/bin/thpcheck", "usr/bin/thpwhatif", "usr/share/man/man1/thpcheck.1.gz",
        "usr/share/man/man1/thpsplit.1.gz", "usr/share/man/man5/thpsplit.5.gz",
-       "usr/share/bash-completion/completions/thpsplit", "usr/share/doc/thpsplit/copyright")
-"""Files that the package has to have, among others."""
+       "usr/share/bash-completion/completions/thpsplit", "usr/share/doc/thpsplit/copyright",
+       "usr/include/thp.h", "usr/share/man/man3/libthp.3.gz")
+"""Files that the packages have to have, among others."""
+
+PACKAGES = ("libthp-dev", "libthp0", "thpsplit")
+"""Their names; each stands behind those that want it."""
 
 
-def built(programs: list[Path], folder: Path) -> Path:
-    """The package, built into the folder."""
-    done = subprocess.run([sys.executable, ROOT / "debian/build.py", *programs, folder], capture_output=True, text=True)
+def built(files: list[Path], folder: Path) -> list[Path]:
+    """The packages, built into the folder."""
+    done = subprocess.run([sys.executable, ROOT / "debian/build.py", *files, folder], capture_output=True, text=True)
     if done.returncode == SKIPPED:
         raise Missing(done.stdout.strip())
     if done.returncode != 0:
         sys.exit(f"{done.stdout}{done.stderr}")
-    return Path(done.stdout.splitlines()[0])
+    return [Path(line) for line in done.stdout.splitlines()]
 
 
-def lintian(package: Path) -> Optional[str]:
+def lintian(packages: list[Path]) -> Optional[str]:
     """The errors that lintian finds, or None."""
     if shutil.which("lintian") is None:
         raise Missing("no lintian")
-    done = subprocess.run(["lintian", "--fail-on", "error", package], capture_output=True, text=True)
+    done = subprocess.run(["lintian", "--fail-on", "error", *packages], capture_output=True, text=True)
     return None if done.returncode == 0 else done.stdout.strip()
 
 
@@ -80,17 +85,29 @@ def works(root: Path) -> Optional[str]:
     return told or run(root / "usr/bin/thpcheck", Call((), LEGAL.read_bytes())).differs_from(Ended(0, b"legal\n"))
 
 
-def comes_and_goes(package: Path, folder: Path) -> Optional[str]:
-    """What is wrong where the package is installed, tried and removed, or None."""
+def links(root: Path) -> Optional[str]:
+    """What is wrong where a program in C is built on the installed library and run, or None."""
+    place = next((root / "usr/lib").glob("*/libthp.so")).parent
+    first = root.parent / "first"
+    words = ["cc", ROOT / "c/demos/first.c", f"-I{root}/usr/include", f"-L{place}", "-lthp", "-o", first]
+    for command in (words, [first]):
+        done = subprocess.run(command, capture_output=True, text=True, env={**os.environ, "LD_LIBRARY_PATH": str(place)})
+        if done.returncode != 0:
+            return f"{command[0]}: {done.stderr.strip()}"
+    return None
+
+
+def comes_and_goes(packages: list[Path], folder: Path) -> Optional[str]:
+    """What is wrong where the packages are installed, tried and removed, or None."""
     root = clean_root(folder)
     before = below(root)
-    wrong = dpkg(root, "--install", str(package))
+    wrong = dpkg(root, "--install", *map(str, packages))
     if wrong:
         return wrong
     lacks = [name for name in PUT if name not in below(root)]
     if lacks:
         return f"not installed: {', '.join(lacks)}"
-    wrong = works(root) or dpkg(root, "--purge", "thpsplit")
+    wrong = works(root) or links(root) or dpkg(root, "--purge", *PACKAGES)
     if wrong:
         return wrong
     left = below(root) - before - {"log"}
@@ -98,20 +115,20 @@ def comes_and_goes(package: Path, folder: Path) -> Optional[str]:
 
 
 def main() -> None:
-    """Tests the package of the programs of the command line."""
-    programs = [Path(word) for word in sys.argv[1:]]
-    if len(programs) != 2 or not all(os.access(it, os.X_OK) and it.is_file() for it in programs):
-        sys.exit(f"not two programs\n\n{__doc__}")
+    """Tests the packages of the files of the command line."""
+    files = [Path(word) for word in sys.argv[1:]]
+    if len(files) != 3 or not all(it.is_file() for it in files):
+        sys.exit(f"not two programs and an archive\n\n{__doc__}")
     tally = Tally()
     with tempfile.TemporaryDirectory(prefix="thp-package-") as name:
         folder = Path(name)
         try:
-            package = built(programs, folder)
+            packages = built(files, folder)
         except Missing as missing:
-            tally.skip("the package", str(missing))
+            tally.skip("the packages", str(missing))
             tally.end()
-        tally.run("lintian", lambda: lintian(package))
-        tally.run("installed, tried and removed", lambda: comes_and_goes(package, folder))
+        tally.run("lintian", lambda: lintian(packages))
+        tally.run("installed, tried and removed", lambda: comes_and_goes(packages, folder))
     tally.end()
 
 

@@ -136,19 +136,48 @@ def first_illegal(lines: Iterable[str]) -> Optional[int]:
     for number, line in enumerate(lines, 1):
         words = line.split()
         if words[0] == "node":
-            options = dict(zip(words[2::2], words[3::2]))
-            switch = options.get("underused", "off")
-            underused = None if switch == "off" else int(switch)
-            node = Node(int(options["blocks"]), int(options.get("order", 9)), underused)
+            node = node_of(words)
         elif words[0] not in ("thp-journal", "end"):
             assert node is not None
-            try:
-                replay(node, int(words[0]), words[1], [int(word) for word in words[2:] if word.isdigit()])
-            except (Refused, Misfit):
-                return number
-            if node.journal[-1] != line:
+            if not fits(node, line):
                 return number
     return None
+
+
+def summary(lines: Iterable[str]) -> list[str]:
+    """The totals of each node of a journal text without text faults, up to the node's first illegal line."""
+    told: list[list[str]] = []
+    node: Optional[Node] = None
+    for line in lines:
+        words = line.split()
+        if words[0] == "node":
+            node = node_of(words)
+            told.append(node.totals(len(told)))
+        elif words[0] not in ("thp-journal", "end") and node is not None:
+            if fits(node, line):
+                told[-1] = node.totals(len(told) - 1)
+            else:
+                node = None
+    return [line for totals in told for line in totals]
+
+
+def node_of(words: list[str]) -> Node:
+    """The node that a line of a journal begins."""
+    options = dict(zip(words[2::2], words[3::2]))
+    switch = options.get("underused", "off")
+    underused = None if switch == "off" else int(switch)
+    return Node(int(options["blocks"]), int(options.get("order", 9)), underused)
+
+
+def fits(node: Node, line: str) -> bool:
+    """Whether the event that a line tells of fits those before it on the node, which does it. Where it doesn't the node is of no
+    more use."""
+    words = line.split()
+    try:
+        replay(node, int(words[0]), words[1], [int(word) for word in words[2:] if word.isdigit()])
+    except (Refused, Misfit):
+        return False
+    return node.journal[-1] == line
 
 
 def replay(node: Node, caller: int, word: str, numbers: list[int]) -> None:

@@ -10,3 +10,5 @@ mod calls;
 mod checks;
 #[cfg(test)]
 mod nodes;
+#[cfg(test)]
+mod recorders;

@@ -54,8 +54,8 @@ pub fn shape_of(blocks: u32) -> Shape {
 }
 
 /// A caller makes these calls one after the other, up to the first that is answered otherwise: its place and its answer.
-pub fn first_wrong(
-    node: &mut Node,
+pub fn first_wrong<R: Recorder>(
+    node: &mut Node<R>,
     caller: u32,
     steps: &[(Call, Answer)],
 ) -> Option<(usize, Answer)>

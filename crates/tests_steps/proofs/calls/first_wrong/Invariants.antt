@@ -3,4 +3,4 @@ use Rattle.thp_node.specs.Batches.{FrontsStay}
 use Rattle.tests_steps.proofs.calls.first_wrong.Given as goal
 
 abbrev pub invariant-loop-place : goal.invariant-loop-place
-invariant-loop-place l = FrontsStay l.initial.node.journal l.node.journal
+invariant-loop-place g l = FrontsStay l.initial.node.journal l.node.journal
