@@ -62,6 +62,7 @@ fn replay_tells_where_pages_stand(rt: HostRuntime) {
     assert!(rt; told == (2, Standing::Batch(64), 1, 0));
     assert!(rt; page.held == SubSet::full(9));
     assert!(rt; replay.page(PageId(3)) == None);
+    assert!(rt; replay.own(PageId(3), 0) == None);
 }
 
 // A page that is partly mapped and one that is underused are split, and one that is pinned isn't.
@@ -97,4 +98,6 @@ fn replay_tells_what_events_add_up_to(rt: HostRuntime) {
     assert!(rt; page.split && page.worth_split && page.partly_mapped);
     assert!(rt; page.used == rest && page.zero_filled == rest);
     assert!(rt; page.held == SubSet::empty());
+    let own = (replay.own(ONE, 0), replay.own(ONE, 3), replay.own(ONE, 4));
+    assert!(rt; own == (Some(0), Some(1), None));
 }

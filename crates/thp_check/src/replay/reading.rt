@@ -2,7 +2,7 @@
 ghost use Rattle.std.specs.Prelude.{◌≡◌, ℕ, length, map, slice_get, is_some, IfOk, IfSome, IsSome, Some, ◌&&◌, nat_lt};
 ghost use Rattle.std.specs.List.{filter, range_with_len};
 ghost use Rattle.thp_model.specs.Counters.{thp_split_page, thp_split_page_failed, thp_deferred_split_page, thp_split_pmd, thp_underused_split_page};
-ghost use Rattle.thp_model.specs.Counts.{is_live, is_split, is_used, pins, whole};
+ghost use Rattle.thp_model.specs.Counts.{is_live, is_split, is_used, own, pins, whole};
 ghost use Rattle.thp_model.specs.Frames.{block_in_use, frames_given, frames_held, is_held};
 ghost use Rattle.thp_model.specs.Places.{flight, queue};
 ghost use Rattle.thp_model.specs.Sets.{set_of};
@@ -73,6 +73,26 @@ impl Replay {
                 standing,
                 self.state.shape.underused,
             )),
+            None => unreachable!(),
+        }
+    }
+
+    /// How often a PTE entry maps subpage `i` of a page: its own map count. `None` where the page doesn't live or has no such
+    /// subpage.
+    pub fn own(&self, page: PageId, i: u32) -> Option<u32>
+        ensures there { is_some result ≡ (nat_lt i (subpages self.now.shape) && is_live self.now.history page) }
+        ensures own { IfSome result (λ count. count ≡ own self.now.history page i) }
+    {
+        if i >= self.state.shape.subpages() {
+            return None;
+        }
+        let table = self.state.places.table();
+        let block = match table.block_of(page) {
+            Some(block) => block,
+            None => return None,
+        };
+        match table.page(block) {
+            Some((_, state)) => Some(state.own(i)),
             None => unreachable!(),
         }
     }
