@@ -43,6 +43,12 @@ with Keeper(lock=folder + "/lock") as keeper:
 """
 
 
+def heed_signals() -> None:
+    """A shell's background job ignores SIGINT, and so would what it starts."""
+    for number in (signal.SIGINT, signal.SIGTERM, signal.SIGCHLD):
+        signal.signal(number, signal.SIG_DFL)
+
+
 class TypesTest(unittest.TestCase):
     def test_fields_are_found_in_unnamed_structs(self) -> None:
         fields = QueueFields.of(Types(queue_types()))
@@ -198,8 +204,8 @@ class KeeperTest(unittest.TestCase):
 
     def test_signals_put_back_and_end_processes(self) -> None:
         for number in (signal.SIGKILL, signal.SIGTERM, signal.SIGINT):
-            tool = subprocess.run([sys.executable, "-c", KILLED_TOOL, str(self.folder), str(int(number))],
-                                  cwd=ROOT, capture_output=True, text=True, timeout=60, check=False)
+            tool = subprocess.run([sys.executable, "-c", KILLED_TOOL, str(self.folder), str(int(number))], cwd=ROOT,
+                                  preexec_fn=heed_signals, capture_output=True, text=True, timeout=60, check=False)
             self.assertNotEqual(tool.returncode, 0)
             with Keeper(lock=str(self.folder / "lock")):  # waits until the guardian has let the lock go
                 self.assert_as_before()
