@@ -15,8 +15,10 @@ from pathlib import Path
 from typing import Iterator
 
 import faulty_texts
+import progress
 import usage
-from explanations import EXPLAINED
+from explanations import EXPLAINED, Explained
+from faulty_texts import ONE
 from outside import FEW_BYTES, FIRST, FIRST_JOURNAL, FIRST_TOTALS, ILLEGAL, LEGAL, LOST, STORED, Row, told
 from process import Call, Ended, Sink, Source
 from script import first_illegal, summary
@@ -57,7 +59,7 @@ BEHIND = 3 + 2 * ROUNDS + 1
 
 EXPLAIN = ("--explain",)
 SUMMARY = ("--summary",)
-FLAGS = ("--explain", "--summary")
+FLAGS = ("--explain", "--summary", "--progress")
 
 
 def is_illegal(line: int, errors: bytes = b"") -> Ended:
@@ -187,6 +189,12 @@ def failures() -> Iterator[Row]:
         yield Row("streams", f"a fault, standard error {name}", Call((), b"fly\n", errors=sink), Ended(2))
 
 
+def shown() -> Iterator[progress.Shown | progress.Slow]:
+    """How far it is, on standard error."""
+    row = Explained(ONE + b"0 alloc 0\n" + b"0 pin 0\n" * 3 + b"0 alloc 1\n", (), b"page 1 has no free block")
+    yield from progress.rows(LEGAL, LONG + b"end\n", row.text + b"end\n", row.lines())
+
+
 def main() -> None:
     """Tests the program of the command line."""
     program = Path(sys.argv[-1])
@@ -197,7 +205,7 @@ def main() -> None:
         # its name is what it is called by, whatever its file's is
         path = Path(name) / "thpcheck"
         path.symlink_to(program.resolve())
-        for part in (verdicts, explanations, summaries, faults, long_journals, requests, failures):
+        for part in (verdicts, explanations, summaries, faults, long_journals, requests, failures, shown):
             rows, failed = list(part()), tally.failed
             for row in rows:
                 tally.run(f"{row.group}: {row.name}", lambda row=row: row.wrong(path))

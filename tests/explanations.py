@@ -29,6 +29,11 @@ A_SPLIT = b"a split of page 0"
 FULL = ONE + b"0 alloc 0\n" + b"0 pin 0\n" * 65_535
 """A page that has as many pins as it may have."""
 
+WHOLE = TWO + b"0 alloc 0\n" + b"0 mapwhole 0\n" * 65_534
+"""A page that is mapped whole as often as it may be."""
+SUBPAGE = TWO + b"0 alloc 0\n" + b"0 mapsub 0 3 1\n" * 65_534
+"""A page whose last subpage is mapped as often as it may be, once by the mapping of the whole page."""
+
 
 class Explained(NamedTuple):
     """A journal without its line `end`, whose last line is its first illegal event, and what is said of that."""
@@ -66,6 +71,8 @@ EXPLAINED = [
     Explained(ONE + b"0 alloc 0\n0 splitpmd 0\n0 splitpmd 0\n", (), NOT_MAPPED),
     Explained(ONE + b"0 alloc 0\n0 taken 0\n", (), b"the queue is empty"),
     Explained(FULL + b"0 pin 0\n", (), TOO_MANY),
+    Explained(WHOLE + b"0 mapwhole 0\n", (), TOO_MANY),
+    Explained(SUBPAGE + b"0 mapsub 0 2 2\n", (), TOO_MANY),
     Explained(TWO + STEPS + b"0 taken 1\n", (b"0 taken 0",), b"page 0 is the oldest in the queue"),
     Explained(TWO + STEPS + b"0 split 0 0-1\n", (), b"page 0 isn't in the flight of caller 0"),
     Explained(TWO + STEPS + b"0 taken 0\n1 split 0 0-1\n", (), b"page 0 isn't in the flight of caller 1"),

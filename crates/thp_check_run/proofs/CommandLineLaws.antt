@@ -24,8 +24,9 @@ module _ (new start : Command) (version : _) (about after_help : _) (is : out-Co
   added : (old new : Command) (app : App) (option : Arg) (rule : Rule) → app_of old ≡ app → IsOption option rule → AddsArg old option new → app_of new ≡ with_rule app rule
   added old new app option rule was o adds = adds.shape o.local ∙ ap (with_rule (app_of old)) o.rules ∙ ap (λ (a : App). with_rule a rule) was
 
-  pub own : (first command : Command) (explain summary : Arg) → IsOption explain (flag_rule (codes "explain")) → AddsArg start explain first → IsOption summary (flag_rule (codes "summary")) → AddsArg first summary command → app_of command ≡ thpcheck
-  own first command explain summary e adds-e s adds-s = added first command _ summary _ (added start first bare explain _ start_app e adds-e) s adds-s
+  pub own : (first second command : Command) (explain summary progress : Arg) → IsOption explain (flag_rule (codes "explain")) → AddsArg start explain first → IsOption summary (flag_rule (codes "summary")) → AddsArg first summary second → IsOption progress (flag_rule (codes "progress")) → AddsArg second progress command → app_of command ≡ thpcheck
+  own first second command explain summary progress e adds-e s adds-s p adds-p =
+      added second command _ progress _ (added first second _ summary _ (added start first bare explain _ start_app e adds-e) s adds-s) p adds-p
 
 simple : is_simple thpcheck ≡ true
 unfolding clap_on_literals
@@ -44,6 +45,7 @@ memory_fails words (Err e) h = record { fails = inl h; holds = tt }
 pub record HoldsFound (found : Found) (options : CheckOptions) : Type 0 where
   pub explain : TellsFlag (one_text found (codes "explain")) options.explain
   pub summary : TellsFlag (one_text found (codes "summary")) options.summary
+  pub progress : TellsFlag (one_text found (codes "progress")) options.progress
 
 -- what `clap` answers to the words for the command
 module _ (command : Command) (is : app_of command ≡ thpcheck) (words : List (List ℕ)) (parse : Result ArgMatches Error) (kinds : is_simple_and_free (app_of command) ≡ true → FailsBy (fault_of (app_of command) words) parse) where
@@ -66,5 +68,6 @@ module _ (command : Command) (is : app_of command ≡ thpcheck) (words : List (L
         holds = record {
           explain = subst (λ o. TellsFlag o options.explain) (one (codes "explain")) held.explain;
           summary = subst (λ o. TellsFlag o options.summary) (one (codes "summary")) held.summary;
+          progress = subst (λ o. TellsFlag o options.progress) (one (codes "progress")) held.progress;
         };
       }

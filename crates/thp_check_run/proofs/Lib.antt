@@ -1,3 +1,5 @@
 pub mod CommandLineLaws
 pub mod CheckLaws
 pub mod OutcomeLaws
+mod CountLaws
+mod ProgressLaws

@@ -11,14 +11,15 @@ bare =
     let new = new_app (codes "thpcheck") in
     record new { top = record new.top { has_version = true } }
 
--- the command `thpcheck`, with the flags `--explain` and `--summary`
+-- the command `thpcheck`, with the flags `--explain`, `--summary` and `--progress`
 abbrev pub thpcheck : App
-thpcheck = with_rule (with_rule bare (flag_rule (codes "explain"))) (flag_rule (codes "summary"))
+thpcheck = with_rule (with_rule (with_rule bare (flag_rule (codes "explain"))) (flag_rule (codes "summary"))) (flag_rule (codes "progress"))
 
 -- the options are the flags that the matches hold
 pub record HoldsOptions (matches : List Row) (options : CheckOptions) : Type 0 where
   pub explain : TellsFlag (one_of (codes "explain") matches) options.explain
   pub summary : TellsFlag (one_of (codes "summary") matches) options.summary
+  pub progress : TellsFlag (one_of (codes "progress") matches) options.progress
 
 -- `clap` takes the words, whose matches the options hold, or refuses them for such a fault or for want of memory
 pub record AnswersWords (words : List (List ℕ)) (result : Result CheckOptions Error) : Type 0 where

@@ -1,3 +1,6 @@
 pub mod CommandLine
 pub mod Checks
+pub mod Counting
 pub mod Outcomes
+pub mod Progress
+pub mod Reaching

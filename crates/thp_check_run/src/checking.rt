@@ -1,15 +1,19 @@
 //! From the bytes of a journal of any length to whether it is legal.
 ghost use Rattle.std.specs.Prelude.{◌≡◌, ◌++◌, IfOk, false, option_map};
 ghost use Rattle.thp_streams.specs.Calls.{ReadsOn};
+ghost use Rattle.thp_streams.specs.Outcomes.{device_of};
 ghost use Rattle.thp_streams.specs.Passages.{WritesAnswer};
 ghost use Rattle.thp_streams.specs.Verdicts.{verdict_text};
 ghost use Rattle.thp_totals.specs.Totals.{lines_from};
 ghost use Rattle.thp_check_run.specs.Checks.{explanation_of, found_in, line_of, CheckEnds};
+ghost use Rattle.thp_check_run.specs.Progress.{may_show, ShowsProgress};
 
 use crate::finding::{Found, find};
 use crate::options::CheckOptions;
+use crate::screen::Screen;
 use std::alloc::{AllocError, Global};
 use std::io::{Read, Write};
+use std::time::Clock;
 use thp_explanations::put_explanation;
 use thp_journal_reader::Illegal;
 use thp_journal_writer::put;
@@ -69,21 +73,26 @@ fn text_of(alloc: Global, found: &Found) -> Result<Vec<u8>, AllocError>
 /// illegal event, and behind it the totals of each node up to its own first illegal event, where the options ask for them. Nothing
 /// else is written; where the writer fails, a front of it. An explanation is handed back.
 ///
+/// How far it is is shown on the screen while the journal is read, where the options ask for that or the screen is a terminal.
+///
 /// Of the journal no more is kept than what lives on the node at hand, the line begun, and the totals.
-pub fn check_long<R: Read, W: Write>(
+pub fn check_long<R: Read, W: Write, S: Write, C: Clock>(
     alloc: Global,
     options: CheckOptions,
     reader: &mut Watched<R>,
     writer: &mut Watched<W>,
+    screen: &mut Screen<S, C>,
 ) -> Result<Checked, LongRunFault>
     requires reader { reader.old.failed ≡ false }
     requires writer { writer.old.failed ≡ false }
+    requires screen { screen.old.writer.failed ≡ false }
     ensures ends { CheckEnds options (R.remaining reader.old.device) (W.contents writer.old.device) (W.contents writer.new.device) reader.new.failed writer.new.failed (found_in result) }
     ensures reads { ReadsOn reader.new.failed reader.old.calls reader.new.calls }
     ensures writes { WritesAnswer (found_in result) writer.new.failed writer.old.calls writer.new.calls }
     ensures explanation { IfOk result (λ checked. option_map (λ t. t.items) checked.explanation ≡ explanation_of options checked.illegal) }
+    ensures screen { ShowsProgress (may_show options screen.old.is_terminal) (R.remaining reader.old.device) (device_of S.contents screen.old.writer screen.new.writer) }
 {
-    let found = find(alloc, options, reader)?;
+    let found = find(alloc, options, reader, screen)?;
     let explanation = explanation_of(alloc, options, &found.illegal)?;
     let text = text_of(alloc, &found)?;
     write_text(writer, text.as_slice()).ok_or(LongRunFault::Write)?;

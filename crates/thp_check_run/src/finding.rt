@@ -3,17 +3,21 @@ ghost use Rattle.std.specs.Prelude.{◌≡◌, ℕ, List, IfOk, IfErr, IfSome, t
 ghost use Rattle.thp_text.specs.Limits.{max_counted};
 ghost use Rattle.thp_streams.specs.Calls.{ReadsOn};
 ghost use Rattle.thp_streams.specs.Devices.{IsFrontOf};
+ghost use Rattle.thp_streams.specs.Outcomes.{device_of};
 ghost use Rattle.thp_streams.specs.RunFaults.{seen_fault};
 ghost use Rattle.thp_check_run.specs.Checks.{IsFindFault, IsFound};
+ghost use Rattle.thp_check_run.specs.Progress.{may_show, ShowsProgress};
 
 use crate::options::CheckOptions;
+use crate::reading::read_journal;
+use crate::screen::Screen;
 use std::alloc::Global;
-use std::io::Read;
+use std::io::{Read, Write};
+use std::time::Clock;
 use thp_check::Misfit;
 use thp_journal_reader::{Illegal, LongCheck, SummedCheck};
 use thp_model::{Outcome, Refusal, What};
-use thp_streams::{LongRunFault, Watched, read_parts};
-use thp_text::MAX_COUNTED;
+use thp_streams::{LongRunFault, Watched};
 use thp_totals::Totals;
 
 /// What a journal tells.
@@ -26,16 +30,23 @@ pub(crate) struct Found {
 }
 
 /// The first illegal event of the journal whose text a reader gives, part by part.
-fn find_first<R: Read>(alloc: Global, reader: &mut Watched<R>) -> Result<Found, LongRunFault>
-    requires { reader.old.failed ≡ false }
+fn find_first<R: Read, S: Write, C: Clock>(
+    alloc: Global,
+    options: CheckOptions,
+    reader: &mut Watched<R>,
+    screen: &mut Screen<S, C>,
+) -> Result<Found, LongRunFault>
+    requires reader { reader.old.failed ≡ false }
+    requires screen { screen.old.writer.failed ≡ false }
     ensures found { IfOk result (λ found. (bytes : List ℕ) × IfSome (R.remaining reader.old.device) (IsFrontOf max_counted bytes) × IsFound false bytes found) }
     ensures flag { IfOk result (λ _. reader.new.failed ≡ false) }
     ensures fault { IfErr result (λ fault. IsFindFault (R.remaining reader.old.device) reader.new.failed (seen_fault fault)) }
     ensures calls { ReadsOn reader.new.failed reader.old.calls reader.new.calls }
+    ensures screen { ShowsProgress (may_show options screen.old.is_terminal) (R.remaining reader.old.device) (device_of S.contents screen.old.writer screen.new.writer) }
 {
     // the toolchain finds these types, which stand in illegal events, only in functions that name them
     let _in_illegal = (What::Close, Outcome::Stays, Refusal::NoPage, Misfit::Block);
-    let check = read_parts(LongCheck::new(alloc), MAX_COUNTED, reader)?;
+    let check = read_journal(alloc, options, LongCheck::new(alloc), reader, screen)?;
     let illegal = check.finish()?;
     Ok(Found {
         illegal,
@@ -44,16 +55,23 @@ fn find_first<R: Read>(alloc: Global, reader: &mut Watched<R>) -> Result<Found, 
 }
 
 /// The same, with the totals of each node.
-fn sum_up<R: Read>(alloc: Global, reader: &mut Watched<R>) -> Result<Found, LongRunFault>
-    requires { reader.old.failed ≡ false }
+fn sum_up<R: Read, S: Write, C: Clock>(
+    alloc: Global,
+    options: CheckOptions,
+    reader: &mut Watched<R>,
+    screen: &mut Screen<S, C>,
+) -> Result<Found, LongRunFault>
+    requires reader { reader.old.failed ≡ false }
+    requires screen { screen.old.writer.failed ≡ false }
     ensures found { IfOk result (λ found. (bytes : List ℕ) × IfSome (R.remaining reader.old.device) (IsFrontOf max_counted bytes) × IsFound true bytes found) }
     ensures flag { IfOk result (λ _. reader.new.failed ≡ false) }
     ensures fault { IfErr result (λ fault. IsFindFault (R.remaining reader.old.device) reader.new.failed (seen_fault fault)) }
     ensures calls { ReadsOn reader.new.failed reader.old.calls reader.new.calls }
+    ensures screen { ShowsProgress (may_show options screen.old.is_terminal) (R.remaining reader.old.device) (device_of S.contents screen.old.writer screen.new.writer) }
 {
     // as above
     let _in_illegal = (What::Close, Outcome::Stays, Refusal::NoPage, Misfit::Block);
-    let check = read_parts(SummedCheck::new(alloc), MAX_COUNTED, reader)?;
+    let check = read_journal(alloc, options, SummedCheck::new(alloc), reader, screen)?;
     let summed = check.finish()?;
     Ok(Found {
         illegal: summed.illegal,
@@ -62,20 +80,23 @@ fn sum_up<R: Read>(alloc: Global, reader: &mut Watched<R>) -> Result<Found, Long
 }
 
 /// What the options ask for, of the journal whose text a reader gives.
-pub(crate) fn find<R: Read>(
+pub(crate) fn find<R: Read, S: Write, C: Clock>(
     alloc: Global,
     options: CheckOptions,
     reader: &mut Watched<R>,
+    screen: &mut Screen<S, C>,
 ) -> Result<Found, LongRunFault>
-    requires { reader.old.failed ≡ false }
+    requires reader { reader.old.failed ≡ false }
+    requires screen { screen.old.writer.failed ≡ false }
     ensures found { IfOk result (λ found. (bytes : List ℕ) × IfSome (R.remaining reader.old.device) (IsFrontOf max_counted bytes) × IsFound options.summary bytes found) }
     ensures flag { IfOk result (λ _. reader.new.failed ≡ false) }
     ensures fault { IfErr result (λ fault. IsFindFault (R.remaining reader.old.device) reader.new.failed (seen_fault fault)) }
     ensures calls { ReadsOn reader.new.failed reader.old.calls reader.new.calls }
+    ensures screen { ShowsProgress (may_show options screen.old.is_terminal) (R.remaining reader.old.device) (device_of S.contents screen.old.writer screen.new.writer) }
 {
     if options.summary {
-        sum_up(alloc, reader)
+        sum_up(alloc, options, reader, screen)
     } else {
-        find_first(alloc, reader)
+        find_first(alloc, options, reader, screen)
     }
 }

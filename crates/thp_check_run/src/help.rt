@@ -19,6 +19,11 @@ error; what is written to standard output and the exit status are the same:
 With --summary, the totals of each node stand behind the verdict, as 'thpsplit --report totals' has them: of all its events, or
 of those before its first illegal one.
 
+With --progress, and also without it where standard error is a terminal and a second has passed, standard error shows how far
+the check is, a line a second, which is taken away before the verdict is written:
+
+    thpcheck: 12.3 MiB, 4567 events, 98.1 MiB/s
+
 Exit status:
   0  the journal is legal, or this help or the version was written
   1  the journal is illegal

@@ -3,14 +3,19 @@
 #![tactic(auto)]
 
 mod checking;
+mod counting;
 mod end_fault;
 mod finding;
 mod help;
 mod options;
 mod program;
+mod progress;
+mod reading;
+mod screen;
 
 pub use checking::{Checked, check_long};
 pub use end_fault::EndFault;
 pub use options::{CheckOptions, read_words};
 pub use program::run_check_program;
+pub use screen::Screen;
 pub use thp_streams::{LongRunFault, Watched, WordsFault, words_of};

@@ -15,6 +15,8 @@ pub struct CheckOptions {
     pub explain: bool,
     /// Whether the totals of each node are written behind the verdict.
     pub summary: bool,
+    /// Whether it is shown on standard error how far the check is.
+    pub progress: bool,
 }
 
 /// The command with its options.
@@ -34,6 +36,11 @@ fn command<'a>(alloc: Global) -> Result<Command<'a>, AllocError>
             alloc,
             "summary",
             "Write the totals of each node behind the verdict",
+        ))?
+        .arg(flag(
+            alloc,
+            "progress",
+            "Show on standard error how far the check is",
         ))
 }
 
@@ -46,5 +53,6 @@ pub fn read_words<'a>(alloc: Global, words: &'a [&'a str]) -> Result<CheckOption
     Ok(CheckOptions {
         explain: matches.get_flag("explain"),
         summary: matches.get_flag("summary"),
+        progress: matches.get_flag("progress"),
     })
 }

@@ -2,12 +2,15 @@
 ghost use Rattle.std.specs.Prelude.{◌≡◌, false, option_map};
 ghost use Rattle.thp_streams.specs.Outcomes.{device_of, given_words, source_of};
 ghost use Rattle.thp_check_run.specs.Outcomes.{end_of, ending_of, explained_by, Does, Finishes, Served, TakesExplanation};
+ghost use Rattle.thp_check_run.specs.Progress.{may_show, ShowsAsAsked, ShowsProgress};
 
 use crate::checking::check_long;
 use crate::end_fault::EndFault;
 use crate::options::{CheckOptions, read_words};
+use crate::screen::Screen;
 use std::alloc::Global;
 use std::io::{Read, Write};
+use std::time::Clock;
 use thp_journal_reader::Illegal;
 use thp_streams::{
     Ending, LongRunFault, Program, ProgramFault, Watched, WordsFault, answer, status_of_ending,
@@ -33,17 +36,20 @@ fn ending_of(illegal: &Option<Illegal>) -> Ending
 }
 
 /// Checks the journal.
-fn check<R: Read, W: Write>(
+fn check<R: Read, W: Write, S: Write, C: Clock>(
     alloc: Global,
     options: CheckOptions,
     reader: &mut Watched<R>,
     output: &mut Watched<W>,
+    screen: &mut Screen<S, C>,
 ) -> Result<Done, EndFault>
     requires reader { reader.old.failed ≡ false }
     requires output { output.old.failed ≡ false }
-    ensures { Does options (source_of R.remaining reader.old reader.new) (device_of W.contents output.old output.new) (end_of result) (explained_by result) }
+    requires screen { screen.old.writer.failed ≡ false }
+    ensures does { Does options (source_of R.remaining reader.old reader.new) (device_of W.contents output.old output.new) (end_of result) (explained_by result) }
+    ensures screen { ShowsProgress (may_show options screen.old.is_terminal) (R.remaining reader.old.device) (device_of S.contents screen.old.writer screen.new.writer) }
 {
-    match check_long(alloc, options, reader, output) {
+    match check_long(alloc, options, reader, output, screen) {
         Ok(checked) => Ok(Done {
             ending: ending_of(&checked.illegal),
             explanation: checked.explanation,
@@ -53,15 +59,18 @@ fn check<R: Read, W: Write>(
 }
 
 /// Does what the words ask for.
-fn serve<R: Read, W: Write>(
+fn serve<R: Read, W: Write, S: Write, C: Clock>(
     alloc: Global,
     words: &Result<Vec<String>, WordsFault>,
     reader: &mut Watched<R>,
     output: &mut Watched<W>,
+    screen: &mut Screen<S, C>,
 ) -> Result<Done, EndFault>
     requires reader { reader.old.failed ≡ false }
     requires output { output.old.failed ≡ false }
-    ensures { Served (given_words words.now) (source_of R.remaining reader.old reader.new) (device_of W.contents output.old output.new) (end_of result) (explained_by result) }
+    requires screen { screen.old.writer.failed ≡ false }
+    ensures served { Served (given_words words.now) (source_of R.remaining reader.old reader.new) (device_of W.contents output.old output.new) (end_of result) (explained_by result) }
+    ensures screen { ShowsAsAsked (given_words words.now) screen.old.is_terminal (source_of R.remaining reader.old reader.new) (device_of S.contents screen.old.writer screen.new.writer) }
 {
     let words = match words {
         Ok(words) => words,
@@ -72,7 +81,7 @@ fn serve<R: Read, W: Write>(
         return Err(EndFault::Check(LongRunFault::OutOfMemory));
     };
     match read_words(alloc, texts.as_slice()) {
-        Ok(options) => check(alloc, options, reader, output),
+        Ok(options) => check(alloc, options, reader, output, screen),
         Err(error) => match answer(alloc, &error, output) {
             Ok(()) => Ok(Done {
                 ending: Ending::Written,
@@ -99,19 +108,25 @@ fn explain<E: Write>(explanation: Option<Vec<u8>>, errors: &mut Watched<E>)
 /// 0 where the journal is legal, or the help or version that was asked for was written; 1 where the journal is illegal; 2 where
 /// the journal or the words are at fault; 3 where memory was refused, or a read or a write failed. Where standard error takes no
 /// explanation there is nowhere to tell that, and the status is the same.
-pub fn run_check_program<R: Read, W: Write, E: Write>(
+///
+/// The screen shows how far the check is, where the words ask for that or the screen is a terminal; what stands there is taken away
+/// before the verdict is written. Where it takes no line, or the clock can't be read, that changes nothing else.
+pub fn run_check_program<R: Read, W: Write, E: Write, S: Write, C: Clock>(
     alloc: Global,
     words: Result<Vec<String>, WordsFault>,
     reader: &mut Watched<R>,
     output: &mut Watched<W>,
     errors: &mut Watched<E>,
+    screen: &mut Screen<S, C>,
 ) -> u8
     requires reader { reader.old.failed ≡ false }
     requires output { output.old.failed ≡ false }
     requires errors { errors.old.failed ≡ false }
-    ensures { Finishes (given_words words) (source_of R.remaining reader.old reader.new) (device_of W.contents output.old output.new) (device_of E.contents errors.old errors.new) result }
+    requires screen { screen.old.writer.failed ≡ false }
+    ensures finishes { Finishes (given_words words) (source_of R.remaining reader.old reader.new) (device_of W.contents output.old output.new) (device_of E.contents errors.old errors.new) result }
+    ensures screen { ShowsAsAsked (given_words words) screen.old.is_terminal (source_of R.remaining reader.old reader.new) (device_of S.contents screen.old.writer screen.new.writer) }
 {
-    match serve(alloc, &words, reader, output) {
+    match serve(alloc, &words, reader, output, screen) {
         Ok(done) => {
             explain(done.explanation, errors);
             status_of_ending(done.ending)

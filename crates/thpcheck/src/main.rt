@@ -2,18 +2,31 @@
 //!
 //! Its exit status is 0 where the journal is legal, or the help or version that was asked for was written; 1 where the journal
 //! is illegal; 2 where the journal or the command line is at fault; 3 where memory was refused, or a read or a write failed.
-//! Faults are told on standard error. What it does is `thp_check_run::run_check_program`; here it gets its words and the three
+//! Faults are told on standard error, where it is also shown how far the check is. What it does is `thp_check_run::run_check_program`; here it gets its words and the three
 //! streams.
 #![tactic(auto)]
 
+use std::io::IsTerminal;
 use std::process::ExitCode;
-use thp_check_run::{Watched, run_check_program, words_of};
+use thp_check_run::{Screen, Watched, run_check_program, words_of};
 
 fn main(rt: HostRuntime) -> ExitCode {
     let words = words_of(&rt);
     let mut reader = Watched::new(rt.reader());
     let mut output = Watched::new(rt.stdout());
     let mut errors = Watched::new(rt.stderr());
-    let status = run_check_program(rt.alloc(), words, &mut reader, &mut output, &mut errors);
+    let mut screen = Screen {
+        writer: Watched::new(rt.stderr()),
+        clock: rt,
+        is_terminal: rt.stderr().is_terminal(),
+    };
+    let status = run_check_program(
+        rt.alloc(),
+        words,
+        &mut reader,
+        &mut output,
+        &mut errors,
+        &mut screen,
+    );
     ExitCode::from(status)
 }

@@ -7,13 +7,13 @@ use Rattle.thp_check_run.proofs.finding.find_first.Goals as goal
 
 pub returns-in_err-check-clause-fault : goal.returns-in_err-check-clause-fault
 returns-in_err-check-clause-fault g c =
-    err_at_reading (g.R.Read.remaining c.args.reader.now.device) c.read_parts.new.reader.failed c.in_err-check.field-0.0 c.from_residual.result c.from_residual.ensures.1 c.in_err-check.ensures.fault
+    err_at_reading (g.R.Read.remaining c.args.reader.now.device) c.read_journal.new.reader.failed c.in_err-check.field-0.0 c.from_residual.result c.from_residual.ensures.1 c.in_err-check.ensures.fault
 
 pub returns-in_err-illegal-clause-fault : goal.returns-in_err-illegal-clause-fault
 returns-in_err-illegal-clause-fault g c =
     let read = c.in_ok-check.ensures.parts in
     let fault = c.in_err-illegal.field-0.0 in
-    err_at_text (g.R.Read.remaining c.args.reader.now.device) read.0 read.1 c.read_parts.new.reader.failed c.in_ok-check.ensures.flag fault.line fault.kind
+    err_at_text (g.R.Read.remaining c.args.reader.now.device) read.0 read.1 c.read_journal.new.reader.failed c.in_ok-check.ensures.flag fault.line fault.kind
     c.from_residual-in_err-illegal.result c.from_residual-in_err-illegal.ensures.1
     (sym (read.2 [] ∙ c.new.ensures (read.0 ++ []) ∙ ap (journals_within max_counted) (append-nil read.0)) ∙ c.in_err-illegal.ensures.fault)
 

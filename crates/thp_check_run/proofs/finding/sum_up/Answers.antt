@@ -10,14 +10,14 @@ use Rattle.thp_check_run.proofs.finding.sum_up.Goals as goal
 
 pub returns-in_err-check-clause-fault : goal.returns-in_err-check-clause-fault
 returns-in_err-check-clause-fault g c =
-    err_at_reading (g.R.Read.remaining c.args.reader.now.device) c.read_parts.new.reader.failed c.in_err-check.field-0.0 c.from_residual.result c.from_residual.ensures.1 c.in_err-check.ensures.fault
+    err_at_reading (g.R.Read.remaining c.args.reader.now.device) c.read_journal.new.reader.failed c.in_err-check.field-0.0 c.from_residual.result c.from_residual.ensures.1 c.in_err-check.ensures.fault
 
 pub returns-in_err-summed-clause-fault : goal.returns-in_err-summed-clause-fault
 returns-in_err-summed-clause-fault g c =
     let read = c.in_ok-check.ensures.parts in
     let fault = c.in_err-summed.field-0.0 in
     let P : Result Journals Fault → Type 0 = λ told. TellsSummaryFault told fault in
-    err_at_summary (g.R.Read.remaining c.args.reader.now.device) read.0 read.1 c.read_parts.new.reader.failed c.in_ok-check.ensures.flag fault
+    err_at_summary (g.R.Read.remaining c.args.reader.now.device) read.0 read.1 c.read_journal.new.reader.failed c.in_ok-check.ensures.flag fault
     c.from_residual-in_err-summed.result c.from_residual-in_err-summed.ensures.1
     (subst P (read.2 [] ∙ c.new.ensures (read.0 ++ []) ∙ ap (journals_within max_counted) (append-nil read.0)) c.in_err-summed.ensures.fault)
 

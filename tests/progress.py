@@ -1,0 +1,138 @@
+"""What `thpcheck` shows of how far it is: lines on standard error, taken away before anything is told there."""
+
+from __future__ import annotations
+
+import os
+import pty
+import re
+import subprocess
+import time
+import tty
+from dataclasses import dataclass
+from pathlib import Path
+from typing import Iterator, Optional
+
+from process import Call, Ended, Sink, Source, run, shown
+
+ASKED = ("--progress",)
+REMOVAL = b"\r\x1b[K"
+"""What takes a line away."""
+
+PART = 65_536
+"""So many bytes of a file are read at a time."""
+
+PAUSE = 1.3
+"""Seconds between the halves of a slow input: a line is due a second after the one before."""
+
+SECONDS = 60
+"""A slow run that takes longer counts as one that never ends."""
+
+
+def line(text: bytes) -> bytes:
+    """The pattern of the line that is shown behind this front of a journal."""
+    tenths = len(text) * 10 // 2**20
+    events = sum(it[:1].isdigit() for it in text.split(b"\n"))
+    told = b"thpcheck: %d.%d MiB, %d events, " % (*divmod(tenths, 10), events)
+    return re.escape(REMOVAL + told) + rb"\d+\.\d MiB/s"
+
+
+def lines(*fronts: bytes, behind: bytes = b"") -> bytes:
+    """The pattern of what standard error takes: a line behind each front, the last of which is taken away, and what is told."""
+    return b"".join(line(it) for it in fronts) + (re.escape(REMOVAL) if fronts else b"") + re.escape(behind)
+
+
+def differs(ended: Ended, status: int, output: bytes, errors: bytes) -> Optional[str]:
+    """What is otherwise than wanted, standard error by its pattern; or None."""
+    if re.fullmatch(errors, ended.errors) is None:
+        return f"errors {shown(ended.errors, 0)} aren't {shown(errors, 0)}"
+    return Ended(ended.status, ended.output).differs_from(Ended(status, output))
+
+
+@dataclass(frozen=True)
+class Shown:
+    """A call that is to end so; of what is shown its pattern."""
+
+    name: str
+    call: Call
+    status: int
+    output: bytes
+    errors: bytes
+    group: str = "progress"
+
+    def wrong(self, program: Path) -> Optional[str]:
+        """What is otherwise than wanted, in one line; or None."""
+        return differs(run(program, self.call), self.status, self.output, self.errors)
+
+
+@dataclass(frozen=True)
+class Slow:
+    """A call whose input comes in halves, with a pause between them, and that is to be told legal."""
+
+    name: str
+    words: tuple[str, ...]
+    halves: tuple[bytes, ...]
+    errors: bytes
+    terminal: bool = True
+    group: str = "progress"
+
+    def wrong(self, program: Path) -> Optional[str]:
+        """What is otherwise than wanted, in one line; or None."""
+        return differs(self.ended(program), 0, b"legal\n", self.errors)
+
+    def ended(self, program: Path) -> Ended:
+        """How the run ends; its standard error is a pseudo-terminal, or a pipe."""
+        reader, writer = pty.openpty() if self.terminal else os.pipe()
+        if self.terminal:
+            tty.setraw(writer)
+        child = subprocess.Popen([program, *self.words], stdin=subprocess.PIPE, stdout=subprocess.PIPE, stderr=writer)
+        os.close(writer)
+        try:
+            for number, half in enumerate(self.halves):
+                time.sleep(PAUSE if number else 0)
+                child.stdin.write(half)
+                child.stdin.flush()
+            output, _ = child.communicate(timeout=SECONDS)
+            errors = all_of(reader)
+        except subprocess.TimeoutExpired:
+            child.kill()
+            child.communicate()
+            return Ended(-9)
+        finally:
+            os.close(reader)
+        return Ended(child.returncode, output, errors)
+
+
+def all_of(reader: int) -> bytes:
+    """All that was written to a pipe or a terminal whose writers have ended."""
+    told = b""
+    while True:
+        try:
+            part = os.read(reader, PART)
+        except OSError:
+            return told
+        if not part:
+            return told
+        told += part
+
+
+def rows(legal: bytes, long: bytes, illegal: bytes, told: bytes) -> Iterator[Shown | Slow]:
+    """Calls on a legal journal, on a long one, and on one whose illegal event, on line 7, is explained so."""
+    for source in (Source.FILE, Source.PIPE):
+        yield Shown(f"a line, {source.name.lower()}", Call(ASKED, legal, source), 0, b"legal\n", lines(legal))
+    yield Shown("more than one part", Call(ASKED, long), 0, b"legal\n", line(long[:PART]) + rb".*" + re.escape(REMOVAL))
+    explained = Call((*ASKED, "--explain"), illegal)
+    yield Shown("an explanation behind it", explained, 1, b"illegal line 7\n", lines(illegal, behind=told))
+    yield Shown("a fault behind it", Call(ASKED, b"fly\n"), 2, b"", lines(b"fly\n", behind=b"thpcheck: line 1: bad-word\n"))
+    failed = b"thpcheck: read failed\n"
+    yield Shown("no input", Call(ASKED, source=Source.CLOSED), 3, b"", lines(behind=failed))
+    yield Shown("an empty input", Call(ASKED), 2, b"", lines(behind=b"thpcheck: line 1: cut\n"))
+    for sink in (Sink.FULL, Sink.CLOSED, Sink.BROKEN):
+        yield Shown(f"standard error {sink.name.lower()}", Call(ASKED, illegal, errors=sink), 1, b"illegal line 7\n", b"")
+    yield Shown("standard output full", Call(ASKED, legal, output=Sink.FULL), 3, b"", lines(legal, behind=b"thpcheck: write failed\n"))
+    half = legal[: len(legal) // 2]
+    halves = (half, legal[len(half) :])
+    yield Slow("a terminal, and no second has passed", (), (legal,), lines())
+    yield Slow("a terminal, and a second has passed", (), halves, lines(legal))
+    yield Slow("a terminal, asked for", ASKED, halves, lines(half, legal))
+    yield Slow("no terminal", (), halves, lines(), terminal=False)
+    yield Slow("no terminal, asked for", ASKED, halves, lines(half, legal), terminal=False)
