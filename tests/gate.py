@@ -44,11 +44,14 @@ REFUSED = "memory::node_growths::put_back_without_memory"
 
 COUNT = re.compile(r"(\d+) passed, (\d+) failed$")
 
+TELLS_FAILURE = re.compile(r": failed: |^rt: FAILED|^must-fail .*: NOT |^(FAIL|ERROR): ")
+"""Lines that name what failed, which are said again at the end: of a long output often the end alone is kept."""
 
-def run(command: list[str]) -> tuple[int, int, int]:
+
+def run(command: list[str], failures: list[str]) -> tuple[int, int, int]:
     """Runs a command from the top of the repository and tells what it prints as it comes; its count, and its status.
 
-    A command that prints no count counts as nothing passed.
+    A command that prints no count counts as nothing passed. Lines that name what failed are kept.
     """
     passed, failed = 0, 0
     how = {"stdout": subprocess.PIPE, "stderr": subprocess.STDOUT, "text": True, "errors": "replace"}
@@ -64,18 +67,36 @@ def run(command: list[str]) -> tuple[int, int, int]:
             passed, failed = int(count[1]), int(count[2])
             continue
         print(line, end="", flush=True)
+        if TELLS_FAILURE.search(line):
+            failures.append(line[:300].rstrip())
     return passed, failed, child.wait()
 
 
-def add(tally: Tally, name: str, command: list[str]) -> None:
-    """Runs a command and adds its count. One that ends wrong and counts nothing failed counts as one failed."""
-    passed, failed, status = run(command)
-    if status not in (0, SKIPPED) and failed == 0:
-        print(f"{name}: ended with status {status}", flush=True)
-        failed = 1
-    print(f"{name}: {passed} of {passed + failed}", flush=True)
-    tally.passed += passed
-    tally.failed += failed
+class Gate(Tally):
+    """The parts of the gate, and what failed in them."""
+
+    def __init__(self) -> None:
+        super().__init__()
+        self.failures: list[str] = []
+
+    def add(self, name: str, command: list[str]) -> None:
+        """Runs a command and adds its count. One that ends wrong and counts nothing failed counts as one failed."""
+        lines: list[str] = []
+        passed, failed, status = run(command, lines)
+        if status not in (0, SKIPPED) and failed == 0:
+            lines.append(f"{name}: ended with status {status}")
+            failed = 1
+        print(f"{name}: {passed} of {passed + failed}", flush=True)
+        self.passed += passed
+        self.failed += failed
+        if failed:
+            self.failures += [f"failed in {name}: {line}" for line in lines or ["no line names it"]]
+
+    def end(self) -> None:
+        """Names what failed again, tells the count and ends."""
+        for line in self.failures:
+            print(line, flush=True)
+        super().end()
 
 
 def made_since(began: float, names: tuple[str, ...]) -> list[str]:
@@ -86,33 +107,33 @@ def made_since(began: float, names: tuple[str, ...]) -> list[str]:
 
 def main() -> None:
     """Runs everything and ends with the sum."""
-    tally = Tally()
+    gate = Gate()
     began = time.time() - 1
-    add(tally, "rt ci", ["rt", "ci"])
+    gate.add("rt ci", ["rt", "ci"])
     for script in WITHOUT:
-        add(tally, script, [sys.executable, script])
+        gate.add(script, [sys.executable, script])
     programs = made_since(began, BUILT)
     for program in programs:
         for script in BY_EACH:
-            add(tally, f"{Path(script).name} {Path(program).name}", [sys.executable, script, program])
+            gate.add(f"{Path(script).name} {Path(program).name}", [sys.executable, script, program])
     for program in programs[:1]:
         for script in BY_ONE:
-            add(tally, Path(script).name, [sys.executable, script, program])
-        add(tally, "outside.py --self-test", [sys.executable, "tests/outside.py", "--self-test", program])
+            gate.add(Path(script).name, [sys.executable, script, program])
+        gate.add("outside.py --self-test", [sys.executable, "tests/outside.py", "--self-test", program])
         rows = [f"{path}:{REFUSED}" for path in made_since(began, (SPOILT,))]
-        add(tally, "memory.py", [sys.executable, "tests/memory.py", program, *rows])
-    add(tally, "archive.py", [sys.executable, "tests/archive.py", ARCHIVE])
+        gate.add("memory.py", [sys.executable, "tests/memory.py", program, *rows])
+    gate.add("archive.py", [sys.executable, "tests/archive.py", ARCHIVE])
     archives = made_since(began, (ARCHIVE,))
-    add(tally, "library.py", [sys.executable, "tests/library.py", *archives, *(programs[:1] if archives else [])])
+    gate.add("library.py", [sys.executable, "tests/library.py", *archives, *(programs[:1] if archives else [])])
     checkers = made_since(began, CHECKERS)
     for program in checkers:
-        add(tally, f"checker.py {Path(program).name}", [sys.executable, "tests/checker.py", program])
+        gate.add(f"checker.py {Path(program).name}", [sys.executable, "tests/checker.py", program])
     if programs and checkers and archives:
-        add(tally, "package.py", [sys.executable, "tests/package.py", programs[0], checkers[0], archives[0]])
+        gate.add("package.py", [sys.executable, "tests/package.py", programs[0], checkers[0], archives[0]])
     if not programs:
-        add(tally, "examples.py", [sys.executable, "tests/examples.py"])
-        tally.skip("the program from outside", "rt ci has built none")
-    tally.end()
+        gate.add("examples.py", [sys.executable, "tests/examples.py"])
+        gate.skip("the program from outside", "rt ci has built none")
+    gate.end()
 
 
 if __name__ == "__main__":
