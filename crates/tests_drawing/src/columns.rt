@@ -1,0 +1,51 @@
+//! Columns of numbers made up.
+use std::process::Abort;
+use thp_series::{Column, Columns, MAX_COLUMNS, Numbers, Pages, Span};
+
+// A prefix with this number in each place, and all pages allocated.
+fn all(number: u64) -> Numbers {
+    Numbers {
+        queue: number,
+        in_batches: number,
+        held: u128::from(number),
+        given: u128::from(number),
+        pages: Pages {
+            allocated: number,
+            partly_mapped: 0,
+            queued: 0,
+            in_batch: 0,
+            split: 0,
+        },
+    }
+}
+
+// The column at this place, from 0.
+pub(crate) fn at(rt: &impl Abort, told: &[Column], place: usize) -> Column {
+    *told.get(place).expect(rt, "a column")
+}
+
+#[test]
+fn columns_fold_in_pairs(rt: HostRuntime) {
+    let mut columns = Columns::new(rt.alloc(), &all(0)).expect(&rt, "memory");
+    assert!(rt; columns.width() == 1);
+    for number in 1..2401 {
+        columns.push(&all(number));
+    }
+    assert!(rt; columns.width() == 8);
+    assert!(rt; columns.prefixes() == 2401);
+    let told = columns.into_columns();
+    assert!(rt; told.len() == 301);
+    assert!(rt; told.len() <= MAX_COLUMNS);
+    let second = at(&rt, &told, 1);
+    let queue = Span {
+        least: 8,
+        greatest: 15,
+    };
+    assert!(rt; second.queue == queue);
+    assert!(rt; second.pages.allocated == 92);
+    let given = Span {
+        least: 2400,
+        greatest: 2400,
+    };
+    assert!(rt; at(&rt, &told, 300).given == given);
+}

@@ -1,0 +1,105 @@
+//! The numbers of a node's events.
+ghost use Rattle.std.specs.Prelude.{◌≡◌, ◌<◌, length};
+
+use crate::columns::at;
+use std::alloc::Global;
+use std::process::Abort;
+use thp_model::{Event, Outcome, PageId, Shape, SubSet, What};
+use thp_series::{NodeSeries, Pages, Span};
+
+/// 16 blocks of 512 subpages each.
+pub(crate) const LARGE: Shape = Shape {
+    blocks: 16,
+    order: 9,
+    underused: None,
+};
+
+const PAGE: PageId = PageId(0);
+
+// What happens when page 0 of a large node is allocated, half of it is unmapped, and it is taken and split.
+pub(crate) fn first_run() -> [What; 5]
+    ensures { length result ≡ 5 }
+{
+    [
+        What::Alloc {
+            page: PAGE,
+            block: 0,
+        },
+        What::SplitPmd { page: PAGE },
+        What::UnmapSub {
+            outcome: Outcome::Queued,
+            page: PAGE,
+            first: 256,
+            count: 256,
+            released: SubSet::empty(),
+        },
+        What::Taken { page: PAGE },
+        What::Split {
+            page: PAGE,
+            released: SubSet::range(256, 256),
+        },
+    ]
+}
+
+// A large node with these events of caller 0, which are legal.
+pub(crate) fn followed(rt: &impl Abort, alloc: Global, happened: &[What]) -> NodeSeries
+    requires { length happened.now < 100 }
+    ensures shape { result.shape ≡ LARGE }
+    ensures events { length result.history ≡ length happened.now }
+{
+    let mut node = NodeSeries::new(alloc, LARGE).expect(rt, "memory");
+    for what in happened {
+        node = match node.admit(&Event {
+            caller: 0,
+            what: *what,
+        }) {
+            Ok(node) => node,
+            Err(_) => panic!(rt; "an illegal event"),
+        };
+    }
+    node
+}
+
+fn once(number: u128) -> Span {
+    Span {
+        least: number,
+        greatest: number,
+    }
+}
+
+#[test]
+fn node_series_follows_a_split(rt: HostRuntime) {
+    let node = followed(&rt, rt.alloc(), &first_run());
+    let numbers = node.numbers();
+    let split = Pages {
+        allocated: 0,
+        partly_mapped: 0,
+        queued: 0,
+        in_batch: 0,
+        split: 1,
+    };
+    assert!(rt; numbers.pages == split);
+    assert!(rt; (numbers.held, numbers.given) == (256, 256));
+    let told = node.into_columns().into_columns();
+    assert!(rt; at(&rt, &told, 3).queue == once(1));
+    assert!(rt; at(&rt, &told, 4).in_batches == once(1));
+    assert!(rt; at(&rt, &told, 4).pages.in_batch == 1);
+    assert!(rt; at(&rt, &told, 5).held == once(256));
+}
+
+#[test]
+fn node_series_tells_what_was_before_an_illegal_event(rt: HostRuntime) {
+    let node = followed(&rt, rt.alloc(), &first_run());
+    let before = node.numbers();
+    let event = Event {
+        caller: 0,
+        what: What::Taken { page: PAGE },
+    };
+    match node.admit(&event) {
+        Ok(_) => panic!(rt; "a split page is taken"),
+        Err(stopped) => {
+            assert!(rt; stopped.numbers == before);
+            assert!(rt; stopped.columns.prefixes() == 6);
+        }
+    }
+}

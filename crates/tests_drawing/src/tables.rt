@@ -1,0 +1,27 @@
+//! Tables of nodes.
+use crate::nodes::{LARGE, first_run, followed};
+use thp_drawing::{DrawnNode, put_table};
+
+// What a plain program outside tells of the same events.
+const TABLE: &[u8] =
+    b"#node\tnode\tblocks\torder\tunderused\tlegal\twidth\tqueue-last\tin-batches-last\theld-last\t\
+given-last\tallocated-last\tpartly-mapped-last\tqueued-last\tin-batch-last\tsplit-last\n\
+#column\tnode\tfirst\tlast\tqueue-least\tqueue-greatest\tin-batches-least\tin-batches-greatest\theld-least\t\
+held-greatest\tgiven-least\tgiven-greatest\tallocated-sum\tpartly-mapped-sum\tqueued-sum\tin-batch-sum\tsplit-sum\n\
+node\t0\t16\t9\toff\t5\t1\t0\t0\t256\t256\t0\t0\t0\t0\t1\n\
+column\t0\t0\t0\t0\t0\t0\t0\t0\t0\t0\t0\t0\t0\t0\t0\t0\n\
+column\t0\t1\t1\t0\t0\t0\t0\t512\t512\t0\t0\t1\t0\t0\t0\t0\n\
+column\t0\t2\t2\t0\t0\t0\t0\t512\t512\t0\t0\t1\t0\t0\t0\t0\n\
+column\t0\t3\t3\t1\t1\t0\t0\t512\t512\t0\t0\t0\t0\t1\t0\t0\n\
+column\t0\t4\t4\t0\t0\t1\t1\t512\t512\t0\t0\t0\t0\t0\t1\t0\n\
+column\t0\t5\t5\t0\t0\t0\t0\t256\t256\t256\t256\t0\t0\t0\t0\t1\n";
+
+#[test]
+fn table_of_the_first_run(rt: HostRuntime) {
+    let alloc = rt.alloc();
+    let node = followed(&rt, alloc, &first_run());
+    let nodes = [DrawnNode::of(LARGE, node)];
+    let mut text = Vec::new(alloc);
+    put_table(&mut text, &nodes).expect(&rt, "memory");
+    assert!(rt; text.as_slice() == TABLE);
+}

@@ -1,0 +1,63 @@
+-- The numbers of nodes as a table: lines of fields that are parted by tabs, the first of which says what the line tells (this
+-- project's format).
+use Rattle.std.specs.Prelude.{ℕ, ◌+◌, ◌*◌, ◌-◌, min, List, [], ◌∷◌, ◌++◌, Option, Some, None, codes}
+use Rattle.std.specs.Fmt.{decimal}
+use Rattle.thp_series.specs.declared.column.Column.{Column}
+use Rattle.thp_drawing.specs.declared.node.DrawnNode.{DrawnNode}
+
+-- numbers, each behind a tab
+abbrev pub fields : List ℕ → List ℕ
+fields [] = []
+fields (n ∷ ns) = codes "\t" ++ decimal n ++ fields ns
+
+-- the threshold of a shape, or that it has none
+abbrev pub threshold_field : Option ℕ → List ℕ
+threshold_field None = codes "\toff"
+threshold_field (Some threshold) = codes "\t" ++ decimal threshold
+
+-- the numbers of a column: of each series the least and the greatest, of each stage the sum
+unfoldable pub column_numbers : Column → List ℕ
+column_numbers c =
+    c.queue.least ∷ c.queue.greatest ∷ c.in_batches.least ∷ c.in_batches.greatest
+    ∷ c.held.least ∷ c.held.greatest ∷ c.given.least ∷ c.given.greatest
+    ∷ c.pages.allocated ∷ c.pages.partly_mapped ∷ c.pages.queued ∷ c.pages.in_batch ∷ c.pages.split ∷ []
+
+-- the line of a column of node n, with its first and its last prefix
+unfoldable pub column_line : ℕ → ℕ → ℕ → Column → List ℕ
+column_line n first last c = codes "column" ++ fields (n ∷ first ∷ last ∷ []) ++ fields (column_numbers c) ++ codes "\n"
+
+-- the lines of columns from column j on, w prefixes each of so many in all
+abbrev pub column_lines : ℕ → ℕ → ℕ → ℕ → List Column → List ℕ
+column_lines n w prefixes j [] = []
+column_lines n w prefixes j (c ∷ more) =
+    column_line n (w * j) (min (w * j + w) prefixes - 1) c ++ column_lines n w prefixes (j + 1) more
+
+-- the numbers of a node behind its shape: its events, the width of a column, and what is behind the last event
+unfoldable pub node_numbers : DrawnNode → List ℕ
+node_numbers d =
+    (d.prefixes - 1) ∷ d.width ∷ d.last.queue ∷ d.last.in_batches ∷ d.last.held ∷ d.last.given
+    ∷ d.last.pages.allocated ∷ d.last.pages.partly_mapped ∷ d.last.pages.queued ∷ d.last.pages.in_batch ∷ d.last.pages.split ∷ []
+
+-- the line of node n
+unfoldable pub node_line : ℕ → DrawnNode → List ℕ
+node_line n d =
+    codes "node" ++ fields (n ∷ d.shape.blocks ∷ d.shape.order ∷ []) ++ threshold_field d.shape.underused ++ fields (node_numbers d) ++ codes "\n"
+
+-- the lines of node n: its own, and those of its columns
+unfoldable pub node_lines : ℕ → DrawnNode → List ℕ
+node_lines n d = node_line n d ++ column_lines n d.width d.prefixes 0 d.columns.items
+
+-- the lines of nodes from node n on
+abbrev pub lines_from : ℕ → List DrawnNode → List ℕ
+lines_from n [] = []
+lines_from n (d ∷ more) = node_lines n d ++ lines_from (n + 1) more
+
+-- the names of the fields
+unfoldable pub heads : List ℕ
+heads =
+    codes "#node\tnode\tblocks\torder\tunderused\tlegal\twidth\tqueue-last\tin-batches-last\theld-last\tgiven-last\tallocated-last\tpartly-mapped-last\tqueued-last\tin-batch-last\tsplit-last\n"
+    ++ codes "#column\tnode\tfirst\tlast\tqueue-least\tqueue-greatest\tin-batches-least\tin-batches-greatest\theld-least\theld-greatest\tgiven-least\tgiven-greatest\tallocated-sum\tpartly-mapped-sum\tqueued-sum\tin-batch-sum\tsplit-sum\n"
+
+-- the table of nodes
+abbrev pub table_text : List DrawnNode → List ℕ
+table_text nodes = heads ++ lines_from 0 nodes

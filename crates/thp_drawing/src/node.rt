@@ -1,0 +1,47 @@
+//! What is drawn of a node.
+ghost use Rattle.std.specs.Prelude.{◌≡◌};
+ghost use Rattle.thp_drawing.specs.Drawn.{AreColumnsOf, IsDrawn};
+
+use thp_model::Shape;
+use thp_series::{Column, Columns, NodeSeries, Numbers};
+
+/// What is drawn of a node: its numbers over its events, or over those before its first illegal one.
+#[derive(Drop)]
+pub struct DrawnNode {
+    /// Its shape.
+    pub shape: Shape,
+    /// How many prefixes its events have, that of no event among them.
+    pub prefixes: u128,
+    /// How many prefixes a column has; the last may have fewer.
+    pub width: u64,
+    /// The columns, in the order of their prefixes.
+    pub columns: Vec<Column>,
+    /// The numbers behind the last event.
+    pub last: Numbers,
+}
+
+impl DrawnNode {
+    /// What is drawn of a node whose events are legal. The shape is the node's.
+    pub fn of(shape: Shape, node: NodeSeries) -> DrawnNode
+        requires { node.shape ≡ shape }
+        ensures { IsDrawn shape node.history result }
+    {
+        let last = node.numbers();
+        DrawnNode::from_columns(shape, node.into_columns(), last)
+    }
+
+    /// What is drawn of a node of this shape, of columns and the numbers behind the last event.
+    pub fn from_columns(shape: Shape, columns: Columns, last: Numbers) -> DrawnNode
+        ensures shape { result.shape ≡ shape }
+        ensures last { result.last ≡ last }
+        ensures columns { AreColumnsOf columns result }
+    {
+        DrawnNode {
+            shape,
+            prefixes: columns.prefixes(),
+            width: columns.width(),
+            columns: columns.into_columns(),
+            last,
+        }
+    }
+}

@@ -1,0 +1,195 @@
+//! The numbers of nodes as a table.
+ghost use Rattle.std.specs.Prelude.{◌≡◌, ◌≤◌, ◌++◌, ◌+◌, ◌*◌, ◌-◌, List, [], ◌∷◌, length, min, OnOk, codes};
+ghost use Rattle.std.specs.Fmt.{decimal};
+ghost use Rattle.thp_drawing.specs.Tables.{column_line, column_lines, column_numbers, fields, heads, lines_from, node_line, node_lines, node_numbers, table_text, threshold_field};
+
+use crate::node::DrawnNode;
+use itoa::Buffer;
+use std::alloc::AllocError;
+use thp_journal_writer::put;
+use thp_series::{Column, Numbers};
+
+// The names of a node's fields.
+const NODE_HEADS: &[u8] =
+    b"#node\tnode\tblocks\torder\tunderused\tlegal\twidth\tqueue-last\tin-batches-last\theld-last\tgiven-last\tallocated-last\tpartly-mapped-last\tqueued-last\tin-batch-last\tsplit-last\n";
+
+// The names of a column's fields.
+const COLUMN_HEADS: &[u8] =
+    b"#column\tnode\tfirst\tlast\tqueue-least\tqueue-greatest\tin-batches-least\tin-batches-greatest\theld-least\theld-greatest\tgiven-least\tgiven-greatest\tallocated-sum\tpartly-mapped-sum\tqueued-sum\tin-batch-sum\tsplit-sum\n";
+
+/// Puts the table of nodes, which are numbered from 0 on, behind a text. Where memory is refused a front of it may stand there.
+pub fn put_table(text: &mut Vec<u8>, nodes: &[DrawnNode]) -> Result<(), AllocError>
+    ensures { OnOk result (text.new.items ≡ text.old.items ++ table_text nodes.now) }
+{
+    put_heads(text)?;
+    put_nodes(text, nodes)
+}
+
+#[tactic(auto, using(crate::proofs::Pieces::two), unfolding(crate::specs::Tables::heads))]
+fn put_heads(text: &mut Vec<u8>) -> Result<(), AllocError>
+    ensures { OnOk result (text.new.items ≡ text.old.items ++ heads) }
+{
+    put(text, NODE_HEADS)?;
+    put(text, COLUMN_HEADS)
+}
+
+fn put_nodes(text: &mut Vec<u8>, nodes: &[DrawnNode]) -> Result<(), AllocError>
+    ensures { OnOk result (text.new.items ≡ text.old.items ++ lines_from 0 nodes.now) }
+{
+    for (number, node) in nodes.iter().enumerate() {
+        put_node(text, number, node)?;
+    }
+    Ok(())
+}
+
+#[tactic(auto, using(crate::proofs::Pieces::two), unfolding(crate::specs::Tables::node_lines))]
+fn put_node(text: &mut Vec<u8>, number: usize, node: &DrawnNode) -> Result<(), AllocError>
+    ensures { OnOk result (text.new.items ≡ text.old.items ++ node_lines number node.now) }
+{
+    put_node_line(text, number, node)?;
+    put_columns(
+        text,
+        number,
+        node.width,
+        node.prefixes,
+        node.columns.as_slice(),
+    )
+}
+
+#[tactic(auto, using(crate::proofs::Pieces::five), unfolding(crate::specs::Tables::node_line))]
+fn put_node_line(text: &mut Vec<u8>, number: usize, node: &DrawnNode) -> Result<(), AllocError>
+    ensures { OnOk result (text.new.items ≡ text.old.items ++ node_line number node.now) }
+{
+    let shape = &node.shape;
+    put(text, b"node")?;
+    put_fields(
+        text,
+        &[
+            number as u128,
+            u128::from(shape.blocks),
+            u128::from(shape.order),
+        ],
+    )?;
+    put_threshold(text, shape.underused)?;
+    put_node_numbers(text, node)?;
+    put(text, b"\n")
+}
+
+#[tactic(auto, unfolding(crate::specs::Tables::node_numbers))]
+fn put_node_numbers(text: &mut Vec<u8>, node: &DrawnNode) -> Result<(), AllocError>
+    ensures { OnOk result (text.new.items ≡ text.old.items ++ fields (node_numbers node.now)) }
+{
+    let Numbers {
+        queue,
+        in_batches,
+        held,
+        given,
+        pages,
+    } = node.last;
+    put_fields(
+        text,
+        &[
+            node.prefixes.saturating_sub(1),
+            u128::from(node.width),
+            u128::from(queue),
+            u128::from(in_batches),
+            held,
+            given,
+            u128::from(pages.allocated),
+            u128::from(pages.partly_mapped),
+            u128::from(pages.queued),
+            u128::from(pages.in_batch),
+            u128::from(pages.split),
+        ],
+    )
+}
+
+fn put_threshold(text: &mut Vec<u8>, threshold: Option<u32>) -> Result<(), AllocError>
+    ensures { OnOk result (text.new.items ≡ text.old.items ++ threshold_field threshold) }
+{
+    match threshold {
+        None => put(text, b"\toff"),
+        Some(threshold) => put_field(text, u128::from(threshold)),
+    }
+}
+
+fn put_columns(
+    text: &mut Vec<u8>,
+    number: usize,
+    width: u64,
+    prefixes: u128,
+    columns: &[Column],
+) -> Result<(), AllocError>
+    ensures { OnOk result (text.new.items ≡ text.old.items ++ column_lines number width prefixes 0 columns.now) }
+{
+    for (place, column) in columns.iter().enumerate() {
+        let first = u128::from(width) * place as u128;
+        let last = (first + u128::from(width)).min(prefixes).saturating_sub(1);
+        put_column(text, number, first, last, column)?;
+    }
+    Ok(())
+}
+
+#[tactic(auto, using(crate::proofs::Pieces::four), unfolding(crate::specs::Tables::column_line))]
+fn put_column(
+    text: &mut Vec<u8>,
+    number: usize,
+    first: u128,
+    last: u128,
+    column: &Column,
+) -> Result<(), AllocError>
+    ensures { OnOk result (text.new.items ≡ text.old.items ++ column_line number first last column.now) }
+{
+    put(text, b"column")?;
+    put_fields(text, &[number as u128, first, last])?;
+    put_column_numbers(text, column)?;
+    put(text, b"\n")
+}
+
+#[tactic(auto, unfolding(crate::specs::Tables::column_numbers))]
+fn put_column_numbers(text: &mut Vec<u8>, column: &Column) -> Result<(), AllocError>
+    ensures { OnOk result (text.new.items ≡ text.old.items ++ fields (column_numbers column.now)) }
+{
+    let Column {
+        queue,
+        in_batches,
+        held,
+        given,
+        pages,
+    } = *column;
+    put_fields(
+        text,
+        &[
+            queue.least,
+            queue.greatest,
+            in_batches.least,
+            in_batches.greatest,
+            held.least,
+            held.greatest,
+            given.least,
+            given.greatest,
+            pages.allocated,
+            pages.partly_mapped,
+            pages.queued,
+            pages.in_batch,
+            pages.split,
+        ],
+    )
+}
+
+fn put_fields(text: &mut Vec<u8>, numbers: &[u128]) -> Result<(), AllocError>
+    ensures { OnOk result (text.new.items ≡ text.old.items ++ fields numbers.now) }
+{
+    for number in numbers {
+        put_field(text, *number)?;
+    }
+    Ok(())
+}
+
+#[tactic(auto, using(crate::proofs::Pieces::two))]
+fn put_field(text: &mut Vec<u8>, number: u128) -> Result<(), AllocError>
+    ensures { OnOk result (text.new.items ≡ text.old.items ++ codes "\t" ++ decimal number) }
+{
+    put(text, b"\t")?;
+    put(text, Buffer::new().format(number).as_bytes())
+}

@@ -1,0 +1,237 @@
+-- What is kept of a node, with one more event.
+use Rattle.std.proofs.Common.{◌≡◌, ℕ, suc, zero, ◌+◌, ◌^◌, ◌<◌, ◌≤◌, Bool, true, false, cond, List, [], ◌∷◌, ◌++◌, Option, Some, None, length, map, take, refl, ap, sym, ◌∙◌, subst, arith, inl, inr, length-append}
+use Rattle.std.proofs.lemmas.Bool.{cases_lt}
+use Rattle.thp_model.proofs.SumsBelow.{sum_below_suc}
+use Rattle.std.specs.List.{range_with_len}
+use Rattle.std.specs.Option.{option_and_then}
+use Rattle.std.proofs.lemmas.List.{same_lists, take_all, take-append-le}
+use Rattle.std.proofs.lemmas.List.FromFn.{get_or-map-range_with_len, length-map-range_with_len, map-range_with_len_more}
+use Rattle.thp_model.specs.declared.events.Event.{Event}
+use Rattle.thp_model.specs.declared.shape.Shape.{Shape}
+use Rattle.thp_model.specs.Counts.{allocations, is_alloc, is_live, is_split}
+use Rattle.thp_model.specs.Frames.{frames_given, frames_held}
+use Rattle.thp_model.specs.History.{History, count_of}
+use Rattle.thp_model.specs.Legal.{Fits, IsLegal}
+use Rattle.thp_model.specs.Places.{flights, queue}
+use Rattle.thp_model.specs.Sets.{count_below, sum_below}
+use Rattle.thp_model.specs.Underused.{is_partly_mapped}
+use Rattle.thp_model.proofs.Alive.{legal_grown}
+use Rattle.thp_model.proofs.LegalSteps.{legal_none, legal_push}
+use Rattle.thp_model.proofs.Numbers.{live_below}
+use Rattle.thp_live_pages.specs.Homes.{standing_of}
+use Rattle.thp_live_pages.proofs.Starting.{few_events}
+use Rattle.thp_check.specs.Replays.{Replayed, with_event}
+use Rattle.thp_series.specs.declared.numbers.Numbers.{Numbers}
+use Rattle.thp_series.specs.declared.pages.Pages.{Pages}
+use Rattle.thp_series.specs.declared.stage.Stage.{Stage}
+use Rattle.thp_series.specs.declared.stage.Stage.TheVariants.{Allocated, PartlyMapped, Queued, InBatch, Split}
+use Rattle.thp_series.specs.Following.{count_in, entered, left, page_of, GoesAlong, MayEnter, MayLeave}
+use Rattle.thp_series.specs.Series.{numbers_at, series}
+use Rattle.thp_series.specs.Stages.{is_stage, pages_at, pages_in, stage_by, stage_of}
+use Rattle.thp_series.proofs.Batches.{in_batches_are}
+use Rattle.thp_series.proofs.Moving.{count_moves, count_stays, one}
+
+-- the numbers behind one more event stand behind the others
+pub series_push : (s : Shape) (h : History) (e : Event) → series s (h ++ e ∷ []) ≡ series s h ++ numbers_at s (h ++ e ∷ []) ∷ []
+series_push s h e =
+    let k : History = h ++ e ∷ [] in
+    let n : ℕ = length h + 1 in
+    let at : ℕ → Numbers = λ i. numbers_at s (take i k) in
+    let count : length k ≡ n = length-append h (e ∷ []) in
+    let front : map at (range_with_len 0 n) ≡ series s h =
+    same_lists (map at (range_with_len 0 n)) (series s h)
+    (length-map-range_with_len at 0 n ∙ sym (length-map-range_with_len (λ i. numbers_at s (take i h)) 0 n))
+    (λ i d below.
+    let low : i < n = omega (arith, below, length-map-range_with_len at 0 n) in
+    get_or-map-range_with_len at 0 n i i d low (omega arith)
+    ∙ ap (λ j. numbers_at s j) (take-append-le i h (e ∷ []) (omega (arith, low)))
+    ∙ sym (get_or-map-range_with_len (λ j. numbers_at s (take j h)) 0 n i i d low (omega arith))) in
+    ap (λ m. map at (range_with_len 0 (m + 1))) count
+    ∙ map-range_with_len_more at 0 n n (omega arith)
+    ∙ ap (λ ns. ns ++ at n ∷ []) front
+    ∙ ap (λ j. series s h ++ numbers_at s j ∷ []) (take_all n k (omega (arith, count)))
+
+pub length_of_series : (s : Shape) (h : History) → length (series s h) ≡ length h + 1
+length_of_series s h = length-map-range_with_len (λ i. numbers_at s (take i h)) 0 (length h + 1)
+
+make : ℕ → ℕ → ℕ → ℕ → Pages → Numbers
+make queue in_batches held given pages = record { queue = queue; in_batches = in_batches; held = held; given = given; pages = pages }
+
+-- numbers are told by the parts
+pub numbers_are : (s : Shape) (h : History) (q held given : ℕ) (pages : Pages) → IsLegal s h → q ≡ length (queue s h) → held ≡ frames_held s h → given ≡ frames_given h → pages ≡ pages_at s h →
+    (record { queue = q; in_batches = pages.in_batch; held = held; given = given; pages = pages }) ≡ numbers_at s h
+unfolding make
+numbers_are s h q held given pages l a b c d =
+    ap (λ x. make x pages.in_batch held given pages) a
+    ∙ ap (λ x. make (length (queue s h)) x held given pages) (ap (λ (p : Pages). p.in_batch) d ∙ in_batches_are s h l)
+    ∙ ap (λ x. make (length (queue s h)) (length (flights h)) x given pages) b
+    ∙ ap (λ x. make (length (queue s h)) (length (flights h)) (frames_held s h) x pages) c
+    ∙ ap (λ x. make (length (queue s h)) (length (flights h)) (frames_held s h) (frames_given h) x) d
+
+count_at : (s : Shape) (h : History) (x : Stage) → count_in (pages_at s h) x ≡ pages_in s h x
+count_at s h Allocated = refl
+count_at s h PartlyMapped = refl
+count_at s h Queued = refl
+count_at s h InBatch = refl
+count_at s h Split = refl
+
+-- a page that leaves was counted
+count_left : (n : Pages) (x : Stage) (o : Option Stage) → MayLeave n o → count_in (left n o) x + one x o ≡ count_in n x
+count_left n x None may = omega arith
+count_left n Allocated (Some Allocated) may = omega (arith, may)
+count_left n PartlyMapped (Some Allocated) may = omega arith
+count_left n Queued (Some Allocated) may = omega arith
+count_left n InBatch (Some Allocated) may = omega arith
+count_left n Split (Some Allocated) may = omega arith
+count_left n Allocated (Some PartlyMapped) may = omega arith
+count_left n PartlyMapped (Some PartlyMapped) may = omega (arith, may)
+count_left n Queued (Some PartlyMapped) may = omega arith
+count_left n InBatch (Some PartlyMapped) may = omega arith
+count_left n Split (Some PartlyMapped) may = omega arith
+count_left n Allocated (Some Queued) may = omega arith
+count_left n PartlyMapped (Some Queued) may = omega arith
+count_left n Queued (Some Queued) may = omega (arith, may)
+count_left n InBatch (Some Queued) may = omega arith
+count_left n Split (Some Queued) may = omega arith
+count_left n Allocated (Some InBatch) may = omega arith
+count_left n PartlyMapped (Some InBatch) may = omega arith
+count_left n Queued (Some InBatch) may = omega arith
+count_left n InBatch (Some InBatch) may = omega (arith, may)
+count_left n Split (Some InBatch) may = omega arith
+count_left n Allocated (Some Split) may = omega arith
+count_left n PartlyMapped (Some Split) may = omega arith
+count_left n Queued (Some Split) may = omega arith
+count_left n InBatch (Some Split) may = omega arith
+count_left n Split (Some Split) may = omega (arith, may)
+
+count_entered : (n : Pages) (x : Stage) (o : Option Stage) → count_in (entered n o) x ≡ count_in n x + one x o
+count_entered n x None = omega arith
+count_entered n Allocated (Some Allocated) = omega arith
+count_entered n PartlyMapped (Some Allocated) = omega arith
+count_entered n Queued (Some Allocated) = omega arith
+count_entered n InBatch (Some Allocated) = omega arith
+count_entered n Split (Some Allocated) = omega arith
+count_entered n Allocated (Some PartlyMapped) = omega arith
+count_entered n PartlyMapped (Some PartlyMapped) = omega arith
+count_entered n Queued (Some PartlyMapped) = omega arith
+count_entered n InBatch (Some PartlyMapped) = omega arith
+count_entered n Split (Some PartlyMapped) = omega arith
+count_entered n Allocated (Some Queued) = omega arith
+count_entered n PartlyMapped (Some Queued) = omega arith
+count_entered n Queued (Some Queued) = omega arith
+count_entered n InBatch (Some Queued) = omega arith
+count_entered n Split (Some Queued) = omega arith
+count_entered n Allocated (Some InBatch) = omega arith
+count_entered n PartlyMapped (Some InBatch) = omega arith
+count_entered n Queued (Some InBatch) = omega arith
+count_entered n InBatch (Some InBatch) = omega arith
+count_entered n Split (Some InBatch) = omega arith
+count_entered n Allocated (Some Split) = omega arith
+count_entered n PartlyMapped (Some Split) = omega arith
+count_entered n Queued (Some Split) = omega arith
+count_entered n InBatch (Some Split) = omega arith
+count_entered n Split (Some Split) = omega arith
+
+pages_of : ℕ → ℕ → ℕ → ℕ → ℕ → Pages
+pages_of a b c d e = record { allocated = a; partly_mapped = b; queued = c; in_batch = d; split = e }
+
+same_pages : (n m : Pages) → ((x : Stage) → count_in n x ≡ count_in m x) → n ≡ m
+unfolding pages_of
+same_pages n m same =
+    ap (λ x. pages_of x n.partly_mapped n.queued n.in_batch n.split) (same Allocated)
+    ∙ ap (λ x. pages_of m.allocated x n.queued n.in_batch n.split) (same PartlyMapped)
+    ∙ ap (λ x. pages_of m.allocated m.partly_mapped x n.in_batch n.split) (same Queued)
+    ∙ ap (λ x. pages_of m.allocated m.partly_mapped m.queued x n.split) (same InBatch)
+    ∙ ap (λ x. pages_of m.allocated m.partly_mapped m.queued m.in_batch x) (same Split)
+
+-- a sum is no less than a part of it
+part_of : (m : ℕ) (f : ℕ → ℕ) (p : ℕ) → p < m → f p ≤ sum_below m f
+part_of zero f p l = absurd (omega (arith, l))
+part_of (suc m) f p l =
+    elim (cases_lt p m) [
+      | inl less ↦ omega (arith, sum_below_suc m f, part_of m f p less)
+      | inr more ↦ omega (arith, sum_below_suc m f, ap f (last m p l more))
+    ]
+  where
+    last : (m p : ℕ) → p < suc m → m ≤ p → p ≡ m
+    last m p l more = omega (arith, l, more)
+
+at_most_one : (b : Bool) → cond {A = ℕ} b 1 0 ≤ 1
+at_most_one true = omega arith
+at_most_one false = omega arith
+
+no_more : (m : ℕ) (test : ℕ → Bool) → count_below m test ≤ m
+unfolding sum_below
+no_more zero test = omega arith
+no_more (suc m) test = omega (arith, sum_below_suc m (λ i. cond (test i) 1 0), no_more m test, at_most_one (test m))
+
+live_of : (s : Shape) (h : History) (p : ℕ) (x : Stage) → stage_of s h p ≡ Some x → is_live h p ≡ true
+live_of s h p x e = go (is_live h p) (stage_by (is_split h p) (standing_of s h p) (is_partly_mapped s h p)) e where
+  go : (b : Bool) (y : Stage) → cond b (Some y) None ≡ Some x → b ≡ true
+  go true y e = refl
+  go false y e = absurd (cc)
+
+is_itself : (x : Stage) → one x (Some x) ≡ 1
+is_itself Allocated = refl
+is_itself PartlyMapped = refl
+is_itself Queued = refl
+is_itself InBatch = refl
+is_itself Split = refl
+
+some_in : (s : Shape) (h : History) (p : ℕ) (x : Stage) → IsLegal s h → stage_of s h p ≡ Some x → 0 < pages_in s h x
+some_in s h p x l e =
+    let below : p < allocations h = live_below h p (legal_grown s h l).numbered (live_of s h p x e) in
+    let here : one x (stage_of s h p) ≡ 1 = ap (one x) e ∙ is_itself x in
+    omega (arith, here, part_of (allocations h) (λ i. one x (stage_of s h i)) p below)
+
+pub may_leave : (s : Shape) (h : History) (n : Pages) (o : Option Stage) (page : Option ℕ) → IsLegal s h → n ≡ pages_at s h → o ≡ option_and_then (stage_of s h) page → MayLeave n o
+may_leave s h n None page l same is = tt
+may_leave s h n (Some x) None l same is = absurd (cc)
+may_leave s h n (Some x) (Some page) l same is =
+    subst (λ (m : Pages). 0 < count_in m x) (sym same) (subst (λ (k : ℕ). 0 < k) (sym (count_at s h x)) (some_in s h page x l (sym is)))
+
+pub may_enter : (s : Shape) (h : History) (n m : Pages) (o u : Option Stage) → n ≡ pages_at s h → length h + 1 < 2 ^ 64 → MayLeave n o → m ≡ left n o → MayEnter m u
+may_enter s h n m o None same few may is = tt
+may_enter s h n m o (Some x) same few may is =
+    omega (arith, ap (λ (k : Pages). count_in k x) is, count_left n x o may, ap (λ (k : Pages). count_in k x) same, count_at s h x, no_more (allocations h) (λ i. is_stage x (stage_of s h i)), few_events is_alloc h, few)
+
+-- how many pages are in each stage, with one more event
+pages_push : (s : Shape) (h : History) (e : Event) (n : Pages) (o u : Option Stage) → IsLegal s h → Fits s h e → n ≡ pages_at s h → MayLeave n o → o ≡ option_and_then (stage_of s h) (page_of e.what) → u ≡ option_and_then (stage_of s (h ++ e ∷ [])) (page_of e.what) →
+    entered (left n o) u ≡ pages_at s (h ++ e ∷ [])
+pages_push s h e n o u l f same may before after = same_pages (entered (left n o) u) (pages_at s k) (λ x.
+    omega (arith, count_entered (left n o) x u, count_left n x o may, ap (λ (m : Pages). count_in m x) same, count_at s h x, count_at s k x, ap (one x) before, ap (one x) after, by_page x (page_of e.what) refl)) where
+      k : History
+      k = h ++ e ∷ []
+
+      by_page : (x : Stage) (page : Option ℕ) → page_of e.what ≡ page → pages_in s k x + one x (option_and_then (stage_of s h) page) ≡ pages_in s h x + one x (option_and_then (stage_of s k) page)
+      by_page x (Some p) is = count_moves s h e.caller e.what p x l f is
+      by_page x None is = ap (λ i. i + 0) (count_stays s h e x f is)
+
+pub goes_on : (r t : Replayed) (e : Event) (m v : Pages) (cs ds : List Numbers) (old new : Numbers) (o u : Option Stage) → GoesAlong r old cs → t ≡ with_event r e → Fits r.shape r.history e →
+    MayLeave old.pages o → o ≡ option_and_then (stage_of r.shape r.history) (page_of e.what) → u ≡ option_and_then (stage_of t.shape t.history) (page_of e.what) →
+    m ≡ left old.pages o → v ≡ entered m u → (IsLegal t.shape t.history → v ≡ pages_at t.shape t.history → new ≡ numbers_at t.shape t.history) → ds ≡ cs ++ new ∷ [] → GoesAlong t new ds
+goes_on r t e m v cs ds old new o u along is f may before after leaves enters told more =
+    let s : Shape = r.shape in
+    let h : History = r.history in
+    let legal : IsLegal s (h ++ e ∷ []) = legal_push s h e along.legal f in
+    let pages : v ≡ pages_at s (h ++ e ∷ []) =
+    enters ∙ ap (λ (k : Pages). entered k u) leaves
+    ∙ pages_push s h e old.pages o u along.legal f (ap (λ (n : Numbers). n.pages) along.numbers_are) may before (after ∙ ap (λ (x : Replayed). option_and_then (stage_of x.shape x.history) (page_of e.what)) is) in
+    let numbers_is : new ≡ numbers_at s (h ++ e ∷ []) =
+    subst (λ (x : Replayed). IsLegal x.shape x.history → v ≡ pages_at x.shape x.history → new ≡ numbers_at x.shape x.history) is told legal pages in
+    subst (λ (x : Replayed). GoesAlong x new ds) (sym is) (record {
+      legal = legal;
+      numbers_are = numbers_is;
+      columns_are = more ∙ ap (λ ns. ns ++ new ∷ []) along.columns_are ∙ ap (λ x. series s h ++ x ∷ []) numbers_is ∙ sym (series_push s h e);
+    })
+
+pub begins_along : (r : Replayed) (n : Pages) (cs : List Numbers) (numbers : Numbers) → r.history ≡ [] → n ≡ record { allocated = 0; partly_mapped = 0; queued = 0; in_batch = 0; split = 0 } →
+    (IsLegal r.shape r.history → n ≡ pages_at r.shape r.history → numbers ≡ numbers_at r.shape r.history) → cs ≡ numbers ∷ [] → GoesAlong r numbers cs
+unfolding count_of sum_below
+begins_along r n cs numbers none no_page told is =
+    let P : History → Type 0 = λ h. (IsLegal r.shape h → n ≡ pages_at r.shape h → numbers ≡ numbers_at r.shape h) → GoesAlong (record { shape = r.shape; history = h }) numbers cs in
+    subst P (sym none) (λ told. record {
+      legal = legal_none r.shape;
+      numbers_are = told (legal_none r.shape) no_page;
+      columns_are = is ∙ ap (λ x. x ∷ []) (told (legal_none r.shape) no_page);
+    }) told

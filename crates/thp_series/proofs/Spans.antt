@@ -1,0 +1,58 @@
+-- What a column tells of the prefixes of two lists, by what it tells of each.
+use Rattle.std.proofs.Common.{◌≡◌, ℕ, ◌<◌, min, max, List, [], ◌∷◌, ◌++◌, length, map, refl, ap, subst, sym, ◌^◌, ◌*◌, length-append, ◌∙◌, arith}
+use Rattle.std.proofs.lemmas.List.{map-append, length-map}
+use Rattle.thp_series.specs.declared.numbers.Numbers.{Numbers}
+use Rattle.thp_series.specs.Spans.{least, greatest, span_of, joined}
+use Rattle.thp_series.specs.Columns.{column_of, sums_of}
+use Rattle.thp_series.specs.declared.pages.PageSums.{PageSums}
+use Rattle.thp_series.specs.Folding.{HasLowSums}
+use Rattle.std.proofs.lemmas.List.Sums.{sum_by-append}
+use Rattle.thp_series.specs.Joining.{added, both, AreWithin}
+
+least_append : (x : ℕ) (xs : List ℕ) (y : ℕ) (ys : List ℕ) → least ((x ∷ xs) ++ (y ∷ ys)) ≡ min (least (x ∷ xs)) (least (y ∷ ys))
+least_append x [] y ys = refl
+least_append x (z ∷ zs) y ys = omega (arith, least_append z zs y ys)
+
+greatest_append : (xs ys : List ℕ) → greatest (xs ++ ys) ≡ max (greatest xs) (greatest ys)
+greatest_append [] ys = omega arith
+greatest_append (x ∷ xs) ys = omega (arith, greatest_append xs ys)
+
+span_append : (xs ys : List ℕ) → 0 < length xs → 0 < length ys → span_of (xs ++ ys) ≡ joined (span_of xs) (span_of ys)
+span_append [] ys h k = absurd (omega (arith, h))
+span_append (x ∷ xs) [] h k = absurd (omega (arith, k))
+span_append (x ∷ xs) (y ∷ ys) h k = rw (least_append x xs y ys, greatest_append (x ∷ xs) (y ∷ ys)) refl
+
+span_of_both : (f : Numbers → ℕ) (xs ys : List Numbers) → 0 < length xs → 0 < length ys → span_of (map f (xs ++ ys)) ≡ joined (span_of (map f xs)) (span_of (map f ys))
+span_of_both f xs ys h k = ap span_of (map-append f xs ys) ∙ span_append (map f xs) (map f ys) (rw (length-map xs f) h) (rw (length-map ys f) k)
+
+sums_append : (xs ys : List Numbers) → sums_of (xs ++ ys) ≡ added (sums_of xs) (sums_of ys)
+sums_append xs ys =
+    rw (
+      sum_by-append (λ (n : Numbers). n.pages.allocated) xs ys,
+      sum_by-append (λ (n : Numbers). n.pages.partly_mapped) xs ys,
+      sum_by-append (λ (n : Numbers). n.pages.queued) xs ys,
+      sum_by-append (λ (n : Numbers). n.pages.in_batch) xs ys,
+      sum_by-append (λ (n : Numbers). n.pages.split) xs ys,
+    ) refl
+
+-- sums of both are low where those of each are
+pub low_append : (xs ys : List Numbers) → HasLowSums xs → HasLowSums ys → HasLowSums (xs ++ ys)
+low_append xs ys a b =
+    subst (λ (sums : PageSums). AreWithin (2 ^ 64 * length (xs ++ ys)) sums) (sym (sums_append xs ys)) (record {
+      allocated = omega (arith, a.allocated, b.allocated, length-append xs ys);
+      partly_mapped = omega (arith, a.partly_mapped, b.partly_mapped, length-append xs ys);
+      queued = omega (arith, a.queued, b.queued, length-append xs ys);
+      in_batch = omega (arith, a.in_batch, b.in_batch, length-append xs ys);
+      split = omega (arith, a.split, b.split, length-append xs ys);
+    })
+
+-- a column of the prefixes of both is the two columns joined
+pub column_append : (xs ys : List Numbers) → 0 < length xs → 0 < length ys → column_of (xs ++ ys) ≡ both (column_of xs) (column_of ys)
+column_append xs ys h k =
+    rw (
+      span_of_both (λ (n : Numbers). n.queue) xs ys h k,
+      span_of_both (λ (n : Numbers). n.in_batches) xs ys h k,
+      span_of_both (λ (n : Numbers). n.held) xs ys h k,
+      span_of_both (λ (n : Numbers). n.given) xs ys h k,
+      sums_append xs ys,
+    ) refl

@@ -1,0 +1,72 @@
+-- What is kept of a node while its events come. No public clause cites this module.
+use Rattle.std.specs.Prelude.{◌≡◌, ℕ, ◌+◌, ◌-◌, ◌<◌, ◌^◌, List, Option, Some, None}
+use Rattle.thp_model.specs.declared.events.What.{What}
+use Rattle.thp_model.specs.declared.events.What.TheVariants as what
+use Rattle.thp_model.specs.Legal.{IsLegal}
+use Rattle.thp_check.specs.Replays.{Replayed}
+use Rattle.thp_series.specs.declared.numbers.Numbers.{Numbers}
+use Rattle.thp_series.specs.declared.pages.Pages.{Pages}
+use Rattle.thp_series.specs.declared.stage.Stage.{Stage}
+use Rattle.thp_series.specs.declared.stage.Stage.TheVariants.{Allocated, PartlyMapped, Queued, InBatch, Split}
+use Rattle.thp_series.specs.Series.{numbers_at, series}
+
+-- the page that an event is about
+abbrev pub page_of : What → Option ℕ
+page_of (what.Alloc p block) = Some p
+page_of (what.MapWhole p) = Some p
+page_of (what.UnmapWhole outcome p set) = Some p
+page_of (what.MapSub p first count) = Some p
+page_of (what.UnmapSub outcome p first count set) = Some p
+page_of (what.SplitPmd p) = Some p
+page_of (what.Pin p) = Some p
+page_of (what.Unpin outcome p set) = Some p
+page_of (what.Write p first count) = Some p
+page_of (what.Zero p first count) = Some p
+page_of (what.Taken p) = Some p
+page_of (what.Split p set) = Some p
+page_of (what.Pinned p) = Some p
+page_of (what.Used p) = Some p
+page_of (what.Back p) = Some p
+page_of (what.Dropped p) = Some p
+page_of what.Close = None
+
+abbrev pub count_in : Pages → Stage → ℕ
+count_in n Allocated = n.allocated
+count_in n PartlyMapped = n.partly_mapped
+count_in n Queued = n.queued
+count_in n InBatch = n.in_batch
+count_in n Split = n.split
+
+-- a page left this stage
+abbrev pub left : Pages → Option Stage → Pages
+left n None = n
+left n (Some Allocated) = record n { allocated = n.allocated - 1 }
+left n (Some PartlyMapped) = record n { partly_mapped = n.partly_mapped - 1 }
+left n (Some Queued) = record n { queued = n.queued - 1 }
+left n (Some InBatch) = record n { in_batch = n.in_batch - 1 }
+left n (Some Split) = record n { split = n.split - 1 }
+
+-- a page entered this stage
+abbrev pub entered : Pages → Option Stage → Pages
+entered n None = n
+entered n (Some Allocated) = record n { allocated = n.allocated + 1 }
+entered n (Some PartlyMapped) = record n { partly_mapped = n.partly_mapped + 1 }
+entered n (Some Queued) = record n { queued = n.queued + 1 }
+entered n (Some InBatch) = record n { in_batch = n.in_batch + 1 }
+entered n (Some Split) = record n { split = n.split + 1 }
+
+-- there is a page to leave it
+abbrev pub MayLeave : Pages → Option Stage → Type 0
+MayLeave n None = Unit {0}
+MayLeave n (Some x) = 0 < count_in n x
+
+-- and there is room for one to enter it
+abbrev pub MayEnter : Pages → Option Stage → Type 0
+MayEnter n None = Unit {0}
+MayEnter n (Some x) = count_in n x + 1 < 2 ^ 64
+
+-- the numbers are those of the events so far, which are legal
+pub record GoesAlong (r : Replayed) (numbers : Numbers) (columns : List Numbers) : Type 0 where
+  pub legal : IsLegal r.shape r.history
+  pub numbers_are : numbers ≡ numbers_at r.shape r.history
+  pub columns_are : columns ≡ series r.shape r.history

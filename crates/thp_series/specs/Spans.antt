@@ -1,0 +1,21 @@
+-- The least and the greatest of some numbers.
+use Rattle.std.specs.Prelude.{ℕ, min, max, List, [], ◌∷◌}
+use Rattle.thp_series.specs.declared.span.Span.{Span}
+
+-- the least number of a list; 0 of none
+abbrev pub least : List ℕ → ℕ
+least [] = 0
+least (x ∷ []) = x
+least (x ∷ y ∷ ys) = min x (least (y ∷ ys))
+
+-- the greatest; 0 of none
+abbrev pub greatest : List ℕ → ℕ
+greatest [] = 0
+greatest (x ∷ xs) = max x (greatest xs)
+
+abbrev pub span_of : List ℕ → Span
+span_of xs = record { least = least xs; greatest = greatest xs }
+
+-- that of the numbers of both
+abbrev pub joined : Span → Span → Span
+joined a b = record { least = min a.least b.least; greatest = max a.greatest b.greatest }

@@ -1,0 +1,54 @@
+//! What is kept of the prefixes of a column.
+ghost use Rattle.std.specs.Prelude.{◌≡◌, ◌^◌, [], ◌∷◌};
+ghost use Rattle.thp_series.specs.Columns.{column_of};
+ghost use Rattle.thp_series.specs.Joining.{both, AreWithin, FitTogether};
+
+use crate::numbers::Numbers;
+use crate::pages::PageSums;
+use crate::span::Span;
+
+/// The least and the greatest of each number of a node over a column's prefixes, and of how many pages are in each stage
+/// the sums.
+#[derive(Clone, Copy, Debug, PartialEq, Eq)]
+pub struct Column {
+    /// Pages in the deferred split queue.
+    pub queue: Span,
+    /// Pages in batches.
+    pub in_batches: Span,
+    /// Frames held.
+    pub held: Span,
+    /// Frames given back so far.
+    pub given: Span,
+    /// Live pages in each stage, summed over the prefixes.
+    pub pages: PageSums,
+}
+
+impl Column {
+    // That of one prefix.
+    pub(crate) fn of(numbers: &Numbers) -> Column
+        ensures column { result ≡ column_of (numbers.now ∷ []) }
+        ensures few { AreWithin (2 ^ 64) result.pages }
+    {
+        Column {
+            queue: Span::of(u128::from(numbers.queue)),
+            in_batches: Span::of(u128::from(numbers.in_batches)),
+            held: Span::of(numbers.held),
+            given: Span::of(numbers.given),
+            pages: PageSums::of(numbers),
+        }
+    }
+
+    // That of the prefixes of both.
+    pub(crate) fn join(&self, other: &Column) -> Column
+        requires { FitTogether self.now.pages other.now.pages }
+        ensures { result ≡ both self.now other.now }
+    {
+        Column {
+            queue: self.queue.join(&other.queue),
+            in_batches: self.in_batches.join(&other.in_batches),
+            held: self.held.join(&other.held),
+            given: self.given.join(&other.given),
+            pages: self.pages.join(&other.pages),
+        }
+    }
+}

@@ -1,0 +1,25 @@
+//! The numbers of a node over its events, in at most 600 columns.
+//!
+//! A prefix of a node's events has [`Numbers`]: how long the queue is, how many pages are in batches, how many frames
+//! are held and given back, how many pages are in each stage. [`NodeSeries`] follows a node's events and has them of each
+//! prefix; [`Columns`] keeps the least and the greatest of each column. A column is as wide as the least power of two of
+//! which 600 serve, so that nothing is kept of a prefix.
+#![tactic(auto)]
+
+mod column;
+mod columns;
+mod folded;
+mod node_series;
+mod numbers;
+mod pages;
+mod past;
+mod span;
+mod stage;
+
+pub use column::Column;
+pub use columns::{Columns, MAX_COLUMNS};
+pub use node_series::{NodeSeries, Stopped};
+pub use numbers::Numbers;
+pub use pages::{PageSums, Pages};
+pub use span::Span;
+pub use stage::Stage;

@@ -1,0 +1,17 @@
+//! The numbers of a node.
+use crate::pages::Pages;
+
+/// The numbers of a node behind a prefix of its events.
+#[derive(Clone, Copy, Debug, PartialEq, Eq)]
+pub struct Numbers {
+    /// How many pages are in the deferred split queue.
+    pub queue: u64,
+    /// How many pages callers took and still have in their batches.
+    pub in_batches: u64,
+    /// How many frames the live pages hold.
+    pub held: u128,
+    /// How many frames were given back.
+    pub given: u128,
+    /// How many live pages are in each stage.
+    pub pages: Pages,
+}
