@@ -7,3 +7,4 @@ pub mod PlainLines
 pub mod PartLaws
 pub mod CheckLaws
 pub mod SummaryLaws
+pub mod NumberLaws

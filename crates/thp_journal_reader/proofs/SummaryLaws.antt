@@ -43,7 +43,7 @@ summaries_push (n ∷ nodes) [] node more are is = absurd are
 summaries_push (n ∷ nodes) (t ∷ totals) node more are is = (are.0, summaries_push nodes totals node more are.1 is)
 
 -- the node behind others has an illegal event
-illegal_push : (nodes : List NodeJournal) (node : NodeJournal) (place : ℕ) → IsFirstMisfit node.shape node.events place → LastIsIllegal (nodes ++ node ∷ [])
+pub illegal_push : (nodes : List NodeJournal) (node : NodeJournal) (place : ℕ) → IsFirstMisfit node.shape node.events place → LastIsIllegal (nodes ++ node ∷ [])
 illegal_push [] node place first = (place, first)
 illegal_push (n ∷ []) node place first = (place, first)
 illegal_push (n ∷ m ∷ nodes) node place first = illegal_push (m ∷ nodes) node place first
@@ -71,7 +71,7 @@ summaries_stay event (n ∷ m ∷ nodes) [] last are = absurd are
 summaries_stay event (n ∷ m ∷ nodes) (t ∷ totals) last are = (are.0, summaries_stay event (m ∷ nodes) totals last are.1)
 
 -- and it stays illegal
-illegal_stays : (event : Event) (nodes : List NodeJournal) → LastIsIllegal nodes → LastIsIllegal (on_last (with_event event) nodes)
+pub illegal_stays : (event : Event) (nodes : List NodeJournal) → LastIsIllegal nodes → LastIsIllegal (on_last (with_event event) nodes)
 illegal_stays event [] last = tt
 illegal_stays event (n ∷ []) last = (last.0, misfit_stays event n last.0 last.1)
 illegal_stays event (n ∷ m ∷ []) last = illegal_stays event (m ∷ []) last

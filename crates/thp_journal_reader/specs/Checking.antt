@@ -1,5 +1,5 @@
 -- What a check keeps of the nodes so far. Public clauses cite this module through `Parts` alone.
-use Rattle.std.specs.Prelude.{◌≡◌, ◌<◌, ◌≤◌, ◌+◌, ℕ, All, List, [], ◌∷◌, ◌++◌, length, Option, Some, None, IfSome}
+use Rattle.std.specs.Prelude.{◌≡◌, ◌≤◌, ◌+◌, ℕ, All, List, [], ◌∷◌, ◌++◌, length, Option, Some, None, IfSome}
 use Rattle.std.specs.List.{fold}
 use Rattle.thp_model.specs.Legal.{IsLegal}
 use Rattle.thp_check.specs.Replays.{Replayed}

@@ -7,7 +7,9 @@ use Rattle.thp_journal_reader.specs.declared.journals.NodeJournal.{NodeJournal}
 use Rattle.thp_journal_reader.specs.declared.reading.Nodes.{Nodes}
 use Rattle.thp_journal_reader.specs.Checking.{nodes_told, GoesWith}
 use Rattle.thp_journal_reader.specs.Reading.{nodes_in, IsNodeBefore, IsReading}
+use Rattle.thp_journal_reader.specs.Numbering.{GoesNumbered}
 use Rattle.thp_journal_reader.specs.Summing.{GoesSummed}
+use Rattle.thp_journal_reader.specs.declared.numbering.NumberedNodes.{NumberedNodes}
 use Rattle.thp_journal_reader.specs.declared.summary.SummedNodes.{SummedNodes}
 
 node_later : (number : ℕ) (node : NodeJournal) → IsNodeBefore number node → IsNodeBefore (number + 1) node
@@ -24,3 +26,6 @@ goes_later number nodes along = record { each = each_later number (nodes_told no
 
 pub sums_later : (number : ℕ) (nodes : SummedNodes) → GoesSummed number nodes → GoesSummed (number + 1) nodes
 sums_later number nodes along = record { each = each_later number (nodes_told nodes.lines) along.each; sums = along.sums }
+
+pub numbers_later : (number : ℕ) (nodes : NumberedNodes) → GoesNumbered number nodes → GoesNumbered (number + 1) nodes
+numbers_later number nodes along = record { each = each_later number (nodes_told nodes.lines) along.each; numbers = along.numbers }

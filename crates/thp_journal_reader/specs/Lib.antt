@@ -11,4 +11,6 @@ pub mod PastLines
 pub mod Checking
 pub mod Summaries
 pub mod Summing
+pub mod Numbered
+pub mod Numbering
 pub mod Later

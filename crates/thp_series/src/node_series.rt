@@ -1,6 +1,7 @@
 //! The numbers of a node while its events come.
 ghost use Rattle.std.specs.Prelude.{◌≡◌, ◌≤◌, ◌<◌, ◌+◌, ◌^◌, [], length, IfOk, IfErr};
 ghost use Rattle.std.specs.Option.{option_and_then};
+ghost use Rattle.thp_model.specs.BlockLaws.{least_free};
 ghost use Rattle.thp_model.specs.Legal.{Fits, IsLegal};
 ghost use Rattle.thp_model.specs.Limits.{max_order, min_order};
 ghost use Rattle.thp_check.specs.Reasons.{Explains};
@@ -112,6 +113,13 @@ impl NodeSeries {
         ensures { result ≡ numbers_at self.now.shape self.now.history }
     {
         self.numbers
+    }
+
+    /// The least block where no live page lies; 0 where one lies in each.
+    pub fn least_free_block(&self) -> u32
+        ensures { result ≡ least_free self.now.shape self.now.history }
+    {
+        self.replay.least_free_block()
     }
 
     /// The numbers of each prefix of the events so far, in columns.

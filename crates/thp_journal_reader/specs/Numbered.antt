@@ -1,0 +1,24 @@
+-- What a check that also keeps the numbers of nodes over their events answers.
+use Rattle.std.specs.Prelude.{◌≡◌, ⊤, List, [], ◌∷◌}
+use Rattle.thp_model.specs.History.{History}
+use Rattle.thp_series.specs.Series.{numbers_at, series}
+use Rattle.thp_journal_reader.specs.declared.journals.NodeJournal.{NodeJournal}
+use Rattle.thp_journal_reader.specs.declared.numbered.NumberedNode.{NumberedNode}
+use Rattle.thp_journal_reader.specs.Answers.{TellsFirst}
+use Rattle.thp_journal_reader.specs.Summaries.{IsLegalFront}
+
+-- the numbers of the node's legal events, all or those before its first illegal one, which it tells
+pub record IsNumbered (node : NodeJournal) (kept : NumberedNode) : Type 0 where
+  pub front : History
+  pub legal : IsLegalFront node front
+  pub shape_is : kept.shape ≡ node.shape
+  pub numbers_are : kept.numbers ≡ numbers_at node.shape front
+  pub columns_are : kept.columns ≡ series node.shape front
+  pub first : TellsFirst (node ∷ []) kept.illegal
+
+-- those of each node, in order
+abbrev pub AreNumbered : List NodeJournal → List NumberedNode → Type 0
+AreNumbered [] [] = ⊤
+AreNumbered [] (kept ∷ more) = ⊥
+AreNumbered (node ∷ nodes) [] = ⊥
+AreNumbered (node ∷ nodes) (kept ∷ more) = IsNumbered node kept × AreNumbered nodes more

@@ -1,0 +1,75 @@
+//! The check of journals of any length that also keeps the numbers of nodes over their events.
+ghost use Rattle.std.specs.Prelude.{◌≡◌, ◌++◌, Ok, [], IfOk, IfErr};
+ghost use Rattle.thp_journal_reader.specs.Numbered.{AreNumbered};
+ghost use Rattle.thp_journal_reader.specs.Summaries.{TellsSummaryFault};
+ghost use Rattle.thp_journal_reader.specs.Journals.{journals_within};
+ghost use Rattle.thp_journal_reader.specs.Parts.{told_with};
+ghost use Rattle.thp_journal_reader.specs.declared.journals.Journals.{Journals};
+ghost use Rattle.thp_text.specs.Limits.{max_counted};
+ghost use Rattle.thp_text.specs.Words.{Text};
+
+use crate::illegal::TextFault;
+use crate::numbered::NumberedNode;
+use crate::numbering::NumberedNodes;
+use crate::summed::SummaryFault;
+use crate::text_reader::TextReader;
+use std::alloc::{AllocError, Global};
+use std::marker::Model;
+use thp_text::TextInParts;
+
+/// A check of journals of any length that also keeps the numbers of each node over its events, in columns. It is as a
+/// [`SummedCheck`](crate::SummedCheck), but that it tells of each node its own first illegal event.
+#[derive(Drop)]
+pub struct SeriesCheck {
+    text: TextReader<NumberedNodes>,
+}
+
+impl Model for SeriesCheck {
+    ghost use Rattle.std.specs.Prelude.{◌≤◌};
+    ghost use Rattle.thp_journal_reader.specs.Checking.{nodes_told};
+    ghost use Rattle.thp_journal_reader.specs.Numbering.{GoesNumbered};
+    ghost use Rattle.thp_journal_reader.specs.Parts.{so_far, ReadSoFar};
+    ghost use Rattle.thp_text.specs.Limits.{max_counted};
+
+    ghost Value = { ReadSoFar };
+
+    ghost view = { λ c. so_far (nodes_told c.text.nodes.lines) c.text.place c.text.text };
+
+    ghost invariant = { λ c. GoesNumbered c.text.text.line c.text.nodes × (c.text.text.most ≤ max_counted) };
+}
+
+impl SeriesCheck {
+    /// A check of journals of which nothing has come. They may have any length that a machine can read.
+    pub fn new(alloc: Global) -> SeriesCheck
+        ensures { (text : Text) → told_with result text ≡ journals_within max_counted text }
+    {
+        SeriesCheck {
+            text: TextReader::new(
+                alloc,
+                TextInParts::unlimited(alloc),
+                NumberedNodes::new(alloc),
+            ),
+        }
+    }
+
+    /// Reads the next part of the text. Behind the first fault nothing of it is looked at. Fails where the memory for a node's
+    /// replay and its columns, or for a line that lies in several parts, is refused.
+    pub fn read_part(self, part: &[u8]) -> Result<SeriesCheck, AllocError>
+        ensures { IfOk result (λ check. (more : Text) → told_with check more ≡ told_with self (part.now ++ more)) }
+    {
+        let text = self.text.read_part(part)?;
+        Ok(SeriesCheck { text })
+    }
+
+    /// The numbers of each node that the whole text tells; or the first fault of the text, wherever it stands, or that the memory
+    /// for the last node is refused.
+    pub fn finish(self) -> Result<Vec<NumberedNode>, SummaryFault>
+        ensures numbered { IfOk result (λ kept. (journals : Journals) × (told_with self [] ≡ Ok journals) × AreNumbered journals.nodes kept.items) }
+        ensures fault { IfErr result (TellsSummaryFault (told_with self [])) }
+    {
+        match self.text.fault() {
+            Some((line, kind)) => Err(SummaryFault::Text(TextFault { line, kind })),
+            None => Ok(self.text.into_nodes().finish()?),
+        }
+    }
+}
