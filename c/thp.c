@@ -139,6 +139,10 @@ uint32_t thp_c_pass_close(thp_pass *pass, uint32_t caller);
 uint32_t thp_c_pass_unmap_whole(thp_pass *pass, uint32_t caller, uint64_t page, thp_done *done);
 uint32_t thp_c_pass_unpin(thp_pass *pass, uint32_t caller, uint64_t page, thp_done *done);
 uint32_t thp_c_pass_scan(thp_pass *pass, uint32_t caller, uint32_t n, thp_scan *scan);
+uint32_t thp_c_pass_take(thp_pass *pass, uint32_t caller, uint32_t n, uint32_t *count);
+uint32_t thp_c_pass_split_next(thp_pass *pass, uint32_t caller, thp_tried *tried);
+uint32_t thp_c_pass_put_back(thp_pass *pass, uint32_t caller, thp_back *back);
+uint32_t thp_c_pass_abandon(thp_pass *pass, uint32_t caller);
 uint32_t thp_c_pass_count(thp_pass *pass, uint32_t *pages);
 
 /* the proved functions lay their structs out as these do */
@@ -360,6 +364,26 @@ thp_code thp_pass_unpin(thp_pass *pass, uint32_t caller, uint64_t page, thp_done
 thp_code thp_pass_scan(thp_pass *pass, uint32_t caller, uint32_t n, thp_scan *scan) {
     if (pass == NULL || scan == NULL) return THP_NULL;
     return (thp_code)thp_c_pass_scan(pass, caller, n, scan);
+}
+
+thp_code thp_pass_take(thp_pass *pass, uint32_t caller, uint32_t n, uint32_t *count) {
+    if (pass == NULL || count == NULL) return THP_NULL;
+    return (thp_code)thp_c_pass_take(pass, caller, n, count);
+}
+
+thp_code thp_pass_split_next(thp_pass *pass, uint32_t caller, thp_tried *tried) {
+    if (pass == NULL || tried == NULL) return THP_NULL;
+    return (thp_code)thp_c_pass_split_next(pass, caller, tried);
+}
+
+thp_code thp_pass_put_back(thp_pass *pass, uint32_t caller, thp_back *back) {
+    if (pass == NULL || back == NULL) return THP_NULL;
+    return (thp_code)thp_c_pass_put_back(pass, caller, back);
+}
+
+thp_code thp_pass_abandon(thp_pass *pass, uint32_t caller) {
+    if (pass == NULL) return THP_NULL;
+    return (thp_code)thp_c_pass_abandon(pass, caller);
 }
 
 thp_code thp_pass_count(thp_pass *pass, uint32_t *pages) {

@@ -61,7 +61,7 @@ typedef enum thp_code {
     THP_BAD_SIZE = 15,   /**< no node has this shape */
     THP_BAD_COUNT = 16,  /**< more than 128 pages were asked for */
     THP_NO_BATCH = 17,   /**< the caller has no batch open */
-    THP_BATCH_OPEN = 18, /**< a batch is open on the node */
+    THP_BATCH_OPEN = 18, /**< a batch is open: on the node, or by the caller of a pass */
     THP_TOO_SMALL = 19,  /**< the buffer is too small */
     THP_NULL = 20,       /**< a pointer is null */
     /* what the check of a text answers */
@@ -301,7 +301,9 @@ thp_code thp_node_journal(thp_node *node, uint8_t *buffer, size_t capacity, size
  * @name A shared node
  * A cell is a node that threads share. It is reached by passes: each has some of the cell's callers and a handle of its own, and
  * belongs to one thread at a time. A call finds the node free, or answers THP_BUSY and does nothing; none waits. A pass of all
- * callers never meets THP_BUSY. Each call may also answer THP_EMPTY and THP_NULL.
+ * callers never meets THP_BUSY. Each caller of a pass may have a batch open, which goes with the caller where passes are divided and
+ * joined. A take, each try and a put-back find the node anew: between them other passes may free pages of the batch, which are passed
+ * over then. Each call may also answer THP_EMPTY and THP_NULL.
  * @{
  */
 /**
@@ -316,13 +318,18 @@ thp_code thp_node_journal(thp_node *node, uint8_t *buffer, size_t capacity, size
 thp_code thp_cell_create(thp_pass *pass, uint32_t blocks, uint32_t order, uint32_t underused, uint32_t callers);
 /**
  * @brief Takes the cell apart and gives its node to a node's handle, whose journal is the one legal history of all that the passes
- * did. The pass has all callers, as after the joins, and every other handle of the cell leads to nothing.
+ * did. The pass has all callers, as after the joins, none of which has a batch open, and every other handle of the cell leads to
+ * nothing.
  * @param pass the cell's one pass
  * @param[out] node an empty handle, which is filled; the pass's is emptied
- * @return THP_OK, THP_IN_USE, THP_BAD_PASS, THP_OUT_OF_MEMORY
+ * @return THP_OK, THP_IN_USE, THP_BAD_PASS, THP_BATCH_OPEN, THP_OUT_OF_MEMORY
  */
 thp_code thp_cell_finish(thp_pass *pass, thp_node *node);
-/** @brief Gives the pass back, and the cell with its last pass. A cell of which a pass was given back can't be finished. @return THP_OK */
+/**
+ * @brief Gives the pass back, and the cell with its last pass. A cell of which a pass was given back can't be finished. Open batches of
+ * its callers are let go, as by thp_pass_abandon.
+ * @return THP_OK
+ */
 thp_code thp_pass_destroy(thp_pass *pass);
 /**
  * @brief Divides the callers of a pass: those below `at` stay, and those from it on go to the other handle.
@@ -361,6 +368,28 @@ thp_code thp_pass_unmap_whole(thp_pass *pass, uint32_t caller, uint64_t page, th
 thp_code thp_pass_unpin(thp_pass *pass, uint32_t caller, uint64_t page, thp_done *done);
 /** @brief As thp_node_scan. @return as that; THP_BAD_CALLER where the caller isn't one of the pass's; THP_BUSY */
 thp_code thp_pass_scan(thp_pass *pass, uint32_t caller, uint32_t n, thp_scan *scan);
+/**
+ * @brief Takes up to n pages, the oldest first, into a batch of the caller, which is open then.
+ * @param pass the pass
+ * @param caller the caller's number, one of the pass's
+ * @param n the most pages, at most 128
+ * @param[out] count how many it got
+ * @return THP_OK, THP_BAD_CALLER, THP_BAD_COUNT (n above 128), THP_BATCH_OPEN (the caller has one), THP_BUSY, THP_HAS_BATCH,
+ *         THP_OUT_OF_MEMORY
+ */
+thp_code thp_pass_take(thp_pass *pass, uint32_t caller, uint32_t n, uint32_t *count);
+/**
+ * @brief Tries the next page of the caller's open batch that is still in flight.
+ * @return THP_OK, THP_BAD_CALLER, THP_NO_BATCH, THP_BUSY, THP_OUT_OF_MEMORY
+ */
+thp_code thp_pass_split_next(thp_pass *pass, uint32_t caller, thp_tried *tried);
+/**
+ * @brief Returns the pages that are left of the caller's open batch, and closes it; with another code than THP_OK it stays open.
+ * @return THP_OK, THP_BAD_CALLER, THP_NO_BATCH, THP_BUSY, THP_OUT_OF_MEMORY
+ */
+thp_code thp_pass_put_back(thp_pass *pass, uint32_t caller, thp_back *back);
+/** @brief As thp_node_abandon; it never meets THP_BUSY, since no node takes part. @return THP_OK, THP_BAD_CALLER, THP_NO_BATCH */
+thp_code thp_pass_abandon(thp_pass *pass, uint32_t caller);
 /** @brief How many pages are queued, also while another pass has the node. @return THP_OK */
 thp_code thp_pass_count(thp_pass *pass, uint32_t *pages);
 /** @} */

@@ -244,7 +244,7 @@ class Built:
         return called(words, ROOT / "rust", THP_LIB=str(self.folder), **asked)
 
     def same_answers(self, program: Path, cases: int, seed: int) -> str | None:
-        """The library answers random scripts as the program does, and has the same journals."""
+        """The library answers random scripts as the program does, by nodes and by passes of shared ones, and has the same journals."""
         replay = self.folder / "replay"
         wrong = called(["cc", "-std=c11", "-O1", "-I.", "tests/replay.c", self.folder / "libthp.a", "-o", replay], C)
         for case in range(cases if wrong is None else 0):
@@ -257,7 +257,7 @@ class Built:
 
 
 def differs(replay: Path, program: Path, script: Script, options: list[str]) -> str | None:
-    """What the library does otherwise than the program, on one script."""
+    """What the library does otherwise than the program, on one script: by nodes, and by passes of shared ones."""
     shapes = [f"{order},{'off' if switch is None else switch}" for _, order, switch in script.shapes]
     wanted = b""
     for report in ("answers", "journal")[: 2 if len(shapes) == 1 else 1]:
@@ -265,15 +265,16 @@ def differs(replay: Path, program: Path, script: Script, options: list[str]) -> 
         if ended.returncode != 0:
             return f"the program ended with status {ended.returncode}"
         wanted += ended.stdout
-    command = [replay, str(script.shapes[0][0]), *shapes]
-    ended = subprocess.run(command, input=script.text(), capture_output=True, check=False)
-    if ended.returncode != 0:
-        return f"status {ended.returncode}: {ended.stderr.decode(errors='replace')}"
-    if ended.stdout == wanted:
-        return None
-    pairs = zip(ended.stdout.splitlines() + [b"(end)"], wanted.splitlines() + [b"(end)"])
-    one, other = next((one, other) for one, other in pairs if one != other)
-    return f"{one!r} in place of {other!r}"
+    for way in ("nodes", "passes"):
+        command = [replay, way, str(script.shapes[0][0]), *shapes]
+        ended = subprocess.run(command, input=script.text(), capture_output=True, check=False)
+        if ended.returncode != 0:
+            return f"by {way}: status {ended.returncode}: {ended.stderr.decode(errors='replace')}"
+        if ended.stdout != wanted:
+            pairs = zip(ended.stdout.splitlines() + [b"(end)"], wanted.splitlines() + [b"(end)"])
+            one, other = next((one, other) for one, other in pairs if one != other)
+            return f"by {way}: {one!r} in place of {other!r}"
+    return None
 
 
 ASKED = {"malloc", "realloc", "free", "memcpy", "memmove", "memset", "memcmp"}
@@ -290,7 +291,7 @@ BUILDS = (
 )
 """How the tests in C are built."""
 
-TESTS = ("tests/calls.c", "tests/refused.c", "tests/interrupted.c", "tests/passes.c", "demos/threads.c", "demos/cell.c")
+TESTS = ("tests/calls.c", "tests/refused.c", "tests/interrupted.c", "tests/passes.c", "tests/busy.c", "demos/threads.c", "demos/cell.c")
 
 RACING = ["-std=gnu11", "-fsanitize=thread"]
 """How what has threads is built to find what two of them do to one place."""
@@ -315,7 +316,7 @@ def builds(tally: Tally, built: Built) -> None:
     for compiler, words in BUILDS:
         for name in TESTS:
             tally.run(f"{name}: {compiler} {' '.join(words)}", lambda: built.test(name, compiler, words, []))
-    for name in ("demos/threads.c", "demos/cell.c", "tests/interrupted.c"):
+    for name in ("demos/threads.c", "demos/cell.c", "tests/interrupted.c", "tests/busy.c"):
         tally.run(f"{name}: gcc -fsanitize=thread", lambda: built.test(name, "gcc", RACING, []))
     under = ["valgrind", "-q", "--error-exitcode=9", "--leak-check=full", "--errors-for-leak-kinds=all"]
     for name in TESTS:

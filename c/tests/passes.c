@@ -53,6 +53,10 @@ static void nulls(void) {
     ANSWERS(thp_pass_zero(NULL, 0, 0, 0, 1), THP_NULL);
     ANSWERS(thp_pass_close(NULL, 0), THP_NULL);
     ANSWERS(thp_pass_scan(&pass, 0, 1, NULL), THP_NULL);
+    ANSWERS(thp_pass_take(&pass, 0, 1, NULL), THP_NULL);
+    ANSWERS(thp_pass_split_next(&pass, 0, NULL), THP_NULL);
+    ANSWERS(thp_pass_put_back(&pass, 0, NULL), THP_NULL);
+    ANSWERS(thp_pass_abandon(NULL, 0), THP_NULL);
     ANSWERS(thp_pass_count(&pass, NULL), THP_NULL);
     ANSWERS(thp_pass_destroy(&pass), THP_OK);
 }
@@ -64,6 +68,8 @@ static void empty_handles(void) {
     uint32_t pages = 7;
     thp_done done = {7, {7, 7, 7, 7, 7, 7, 7, 7}};
     thp_scan scan = {7, 7, 7, 7, 7, 7};
+    thp_tried tried = {7, 7};
+    thp_back back = {7, 7};
     ANSWERS(thp_cell_finish(&pass, &node), THP_EMPTY);
     ANSWERS(thp_pass_destroy(&pass), THP_EMPTY);
     ANSWERS(thp_pass_split(&pass, 1, &other), THP_EMPTY);
@@ -80,7 +86,12 @@ static void empty_handles(void) {
     ANSWERS(thp_pass_zero(&pass, 0, 0, 0, 1), THP_EMPTY);
     ANSWERS(thp_pass_close(&pass, 0), THP_EMPTY);
     ANSWERS(thp_pass_scan(&pass, 0, 1, &scan), THP_EMPTY);
+    ANSWERS(thp_pass_take(&pass, 0, 1, &pages), THP_EMPTY);
+    ANSWERS(thp_pass_split_next(&pass, 0, &tried), THP_EMPTY);
+    ANSWERS(thp_pass_put_back(&pass, 0, &back), THP_EMPTY);
+    ANSWERS(thp_pass_abandon(&pass, 0), THP_EMPTY);
     ANSWERS(thp_pass_count(&pass, &pages), THP_EMPTY);
+    WANT(tried.page == 7 && back.dropped == 7);
     WANT(page == 7 && pages == 7 && done.outcome == 7 && done.released[7] == 7 && scan.taken == 7);
 }
 
@@ -144,6 +155,70 @@ static void faults(void) {
     ANSWERS(thp_pass_destroy(&pass), THP_OK);
 }
 
+/* a page with a queued half, by a caller of the pass */
+static uint64_t queued(thp_pass *pass, uint32_t caller) {
+    uint64_t page = 0;
+    thp_done done;
+    ANSWERS(thp_pass_alloc(pass, caller, &page), THP_OK);
+    ANSWERS(thp_pass_split_pmd(pass, caller, page), THP_OK);
+    ANSWERS(thp_pass_unmap_sub(pass, caller, page, 0, 2, &done), THP_OK);
+    return page;
+}
+
+/* each caller has a batch of its own, which goes with it from pass to pass */
+static void batches(void) {
+    thp_pass pass = small_cell(4, 3), other = NO_PASS;
+    thp_node node = NO_NODE;
+    uint32_t count = 7;
+    thp_tried tried = {7, 7};
+    thp_back back = {7, 7};
+    thp_scan scan;
+    thp_done done;
+    ANSWERS(thp_pass_take(&pass, 3, 1, &count), THP_BAD_CALLER);
+    ANSWERS(thp_pass_split_next(&pass, 3, &tried), THP_BAD_CALLER);
+    ANSWERS(thp_pass_put_back(&pass, 3, &back), THP_BAD_CALLER);
+    ANSWERS(thp_pass_abandon(&pass, 3), THP_BAD_CALLER);
+    ANSWERS(thp_pass_take(&pass, 0, 129, &count), THP_BAD_COUNT);
+    ANSWERS(thp_pass_split_next(&pass, 0, &tried), THP_NO_BATCH);
+    ANSWERS(thp_pass_put_back(&pass, 0, &back), THP_NO_BATCH);
+    ANSWERS(thp_pass_abandon(&pass, 0), THP_NO_BATCH);
+    WANT(count == 7 && tried.page == 7 && back.back == 7);
+    for (uint32_t k = 0; k < 4; k++) WANT(queued(&pass, k % 3) == k);
+    ANSWERS(thp_pass_take(&pass, 0, 1, &count), THP_OK);
+    ANSWERS(thp_pass_take(&pass, 0, 1, &count), THP_BATCH_OPEN);
+    ANSWERS(thp_pass_scan(&pass, 0, 1, &scan), THP_HAS_BATCH);
+    ANSWERS(thp_pass_take(&pass, 2, 2, &count), THP_OK);
+    WANT(count == 2);
+    ANSWERS(thp_pass_split(&pass, 1, &other), THP_OK);
+    ANSWERS(thp_pass_split_next(&other, 1, &tried), THP_NO_BATCH);
+    ANSWERS(thp_pass_pin(&pass, 0, 2), THP_OK);
+    ANSWERS(thp_pass_split_next(&other, 2, &tried), THP_OK);
+    WANT(tried.kind == THP_TRY_SPLIT && tried.page == 1);
+    ANSWERS(thp_pass_split_next(&other, 2, &tried), THP_OK);
+    WANT(tried.kind == THP_TRY_PINNED && tried.page == 2);
+    ANSWERS(thp_pass_split_next(&other, 2, &tried), THP_OK);
+    WANT(tried.kind == THP_TRY_DONE && tried.page == 0);
+    ANSWERS(thp_pass_split_next(&pass, 2, &tried), THP_BAD_CALLER);
+    /* a page that another pass frees is passed over */
+    ANSWERS(thp_pass_unmap_sub(&other, 1, 0, 2, 2, &done), THP_OK);
+    WANT(done.outcome == THP_FREED);
+    ANSWERS(thp_pass_split_next(&pass, 0, &tried), THP_OK);
+    WANT(tried.kind == THP_TRY_DONE);
+    ANSWERS(thp_pass_join(&pass, &other), THP_OK);
+    ANSWERS(thp_cell_finish(&pass, &node), THP_BATCH_OPEN);
+    ANSWERS(thp_pass_put_back(&pass, 2, &back), THP_OK);
+    WANT(back.back == 1 && back.dropped == 0);
+    ANSWERS(thp_pass_put_back(&pass, 2, &back), THP_NO_BATCH);
+    ANSWERS(thp_cell_finish(&pass, &node), THP_BATCH_OPEN);
+    ANSWERS(thp_pass_abandon(&pass, 0), THP_OK);
+    /* what is let go stays in flight */
+    ANSWERS(thp_pass_take(&pass, 1, 1, &count), THP_OK);
+    ANSWERS(thp_pass_abandon(&pass, 1), THP_OK);
+    ANSWERS(thp_pass_take(&pass, 1, 1, &count), THP_HAS_BATCH);
+    ANSWERS(thp_cell_finish(&pass, &node), THP_OK);
+    ANSWERS(thp_node_destroy(&node), THP_OK);
+}
+
 /* a call that is refused for want of memory is done when it is made again */
 #define DONE(call) \
     do { \
@@ -159,12 +234,14 @@ enum { LONGEST = 4096 };
 
 /* two passes on one cell; the journal of both, and its length */
 static size_t whole_life(uint8_t *text) {
-    thp_pass one = NO_PASS, two = NO_PASS;
+    thp_pass one = NO_PASS, two = NO_PASS, three = NO_PASS;
     thp_node node = NO_NODE;
     uint64_t page;
     uint32_t pages = 9, line;
     thp_done done;
     thp_scan scan;
+    thp_tried tried;
+    thp_back back;
     size_t size = 0;
     DONE(thp_cell_create(&one, 8, 2, THP_UNDERUSED_OFF, 3));
     DONE(thp_pass_split(&one, 2, &two));
@@ -186,8 +263,20 @@ static size_t whole_life(uint8_t *text) {
         DONE(thp_pass_count(&two, &pages));
         WANT(pages == k + 1);
     }
-    DONE(thp_pass_scan(&two, 2, 3, &scan));
-    WANT(scan.taken == 3 && scan.split == 3 && scan.pinned == 0);
+    DONE(thp_pass_take(&one, 1, 2, &pages));
+    WANT(pages == 2);
+    DONE(thp_pass_pin(&two, 2, 1));
+    DONE(thp_pass_split_next(&one, 1, &tried));
+    WANT(tried.kind == THP_TRY_SPLIT && tried.page == 0);
+    DONE(thp_pass_split_next(&one, 1, &tried));
+    WANT(tried.kind == THP_TRY_PINNED && tried.page == 1);
+    DONE(thp_pass_split(&one, 1, &three));
+    DONE(thp_pass_put_back(&three, 1, &back));
+    WANT(back.back == 1 && back.dropped == 0);
+    DONE(thp_pass_join(&one, &three));
+    DONE(thp_pass_unpin(&two, 2, 1, &done));
+    DONE(thp_pass_scan(&two, 2, 1, &scan));
+    WANT(scan.taken == 1 && scan.split == 1 && scan.pinned == 0);
     DONE(thp_pass_unmap_sub(&one, 0, 3, 2, 2, &done));
     WANT(done.outcome == THP_FREED && done.released[0] == 15);
     DONE(thp_pass_join(&one, &two));
@@ -208,6 +297,7 @@ int main(void) {
     empty_handles();
     refused();
     faults();
+    batches();
     WANT(blocks == 0);
     requests = 0;
     const size_t length = whole_life(wanted);

@@ -1,9 +1,10 @@
 /* Does what a script says by the library: writes the answers as `thpsplit --report answers` does, and of one node the journal, too.
  * The check finds the journal of each node legal.
  *
- *     replay BLOCKS ORDER,UNDERUSED ..
+ *     replay nodes|passes BLOCKS ORDER,UNDERUSED ..
  *
- * a word for each node, UNDERUSED a threshold or off. The script has no fault, and its sections are done one after the other. */
+ * a word for each node, UNDERUSED a threshold or off. The script has no fault, and its sections are done one after the other. With
+ * `passes` each node is shared by two, which are joined and divided elsewhere before each command. */
 #include <inttypes.h>
 #include <stdbool.h>
 #include <stdio.h>
@@ -12,16 +13,19 @@
 
 #include "thp.h"
 
-enum { NODES = 8, LINE = 256, WORDS = 5 };
+enum { NODES = 8, LINE = 256, WORDS = 5, CALLERS = 64 };
 
 typedef struct place {
     thp_node node;
+    thp_pass lower, upper; /* the callers below `at`, and those from it on */
+    uint32_t at;
     bool tells_used;
     bool is_open; /* the section's caller has an open batch here */
 } place;
 
 static place places[NODES];
 static size_t nodes;
+static bool by_passes;
 
 static const char *const refused[] = {NULL, "no-page", "bad-range", "is-split", "not-mapped", "gone", "not-pinned", "too-many",
                                       "closed", "no-block", "has-batch"};
@@ -57,11 +61,28 @@ static void put_tried(const thp_tried *tried) {
     else printf("%s %" PRIu64 "\n", kinds[tried->kind], tried->page);
 }
 
+/* passes that were divided are so at the next place */
+static void divide(place *at) {
+    if (thp_pass_join(&at->lower, &at->upper) != THP_OK) fail("no joint");
+    at->at = at->at % (CALLERS - 1) + 1;
+    if (thp_pass_split(&at->lower, at->at, &at->upper) != THP_OK) fail("no division");
+}
+
+/* the pass of a caller, divided anew */
+static thp_pass *pass_of(place *at, uint32_t caller) {
+    if (by_passes) divide(at);
+    return caller < at->at ? &at->lower : &at->upper;
+}
+
+/* a call by the node, or by the caller's pass */
+#define ASK(name, ...) (by_passes ? thp_pass_##name(pass, __VA_ARGS__) : thp_node_##name(node, __VA_ARGS__))
+
 /* one command of a caller: its answer's line, behind the section and the place */
 static void command(uint32_t caller, char *words[WORDS]) {
     const char *word = words[0];
     place *at = &places[strtoul(words[1], NULL, 10)];
     thp_node *node = &at->node;
+    thp_pass *pass = pass_of(at, caller);
     const uint64_t number = words[2] != NULL ? strtoull(words[2], NULL, 10) : 0;
     const uint32_t first = words[3] != NULL ? (uint32_t)strtoul(words[3], NULL, 10) : 0;
     const uint32_t count = words[4] != NULL ? (uint32_t)strtoul(words[4], NULL, 10) : 0;
@@ -69,24 +90,24 @@ static void command(uint32_t caller, char *words[WORDS]) {
     thp_done done;
     if (strcmp(word, "alloc") == 0) {
         uint64_t page;
-        code = thp_node_alloc(node, caller, &page);
+        code = ASK(alloc, caller, &page);
         if (code == THP_OK) printf("page %" PRIu64 "\n", page);
     } else if (strcmp(word, "unmapwhole") == 0) {
-        code = thp_node_unmap_whole(node, caller, number, &done);
+        code = ASK(unmap_whole, caller, number, &done);
         if (code == THP_OK) put_done(&done);
     } else if (strcmp(word, "unmap") == 0) {
-        code = thp_node_unmap_sub(node, caller, number, first, count, &done);
+        code = ASK(unmap_sub, caller, number, first, count, &done);
         if (code == THP_OK) put_done(&done);
     } else if (strcmp(word, "unpin") == 0) {
-        code = thp_node_unpin(node, caller, number, &done);
+        code = ASK(unpin, caller, number, &done);
         if (code == THP_OK) put_done(&done);
     } else if (strcmp(word, "count") == 0) {
         uint32_t pages;
-        code = thp_node_queue_length(node, &pages);
+        code = by_passes ? thp_pass_count(pass, &pages) : thp_node_queue_length(node, &pages);
         if (code == THP_OK) printf("count %" PRIu32 "\n", pages);
     } else if (strcmp(word, "scan") == 0) {
         thp_scan scan;
-        code = at->is_open ? THP_HAS_BATCH : thp_node_scan(node, caller, (uint32_t)number, &scan);
+        code = at->is_open ? THP_HAS_BATCH : ASK(scan, caller, (uint32_t)number, &scan);
         if (code == THP_OK) {
             printf("taken %" PRIu32 " split %" PRIu32 " pinned %" PRIu32 " back %" PRIu32 " dropped %" PRIu32, scan.taken,
                    scan.split, scan.pinned, scan.back, scan.dropped);
@@ -95,7 +116,7 @@ static void command(uint32_t caller, char *words[WORDS]) {
         }
     } else if (strcmp(word, "take") == 0) {
         uint32_t taken;
-        code = thp_node_take(node, caller, (uint32_t)number, &taken);
+        code = ASK(take, caller, (uint32_t)number, &taken);
         if (code == THP_OK) {
             printf("taken %" PRIu32 "\n", taken);
             at->is_open = true;
@@ -103,23 +124,23 @@ static void command(uint32_t caller, char *words[WORDS]) {
         if (code == THP_BATCH_OPEN) code = THP_HAS_BATCH;
     } else if (strcmp(word, "splitnext") == 0) {
         thp_tried tried;
-        code = thp_node_split_next(node, caller, &tried);
+        code = ASK(split_next, caller, &tried);
         if (code == THP_OK) put_tried(&tried);
     } else if (strcmp(word, "putback") == 0) {
         thp_back back;
-        code = thp_node_put_back(node, caller, &back);
+        code = ASK(put_back, caller, &back);
         if (code == THP_OK) {
             printf("back %" PRIu32 " dropped %" PRIu32 "\n", back.back, back.dropped);
             at->is_open = false;
         }
     } else {
-        if (strcmp(word, "mapwhole") == 0) code = thp_node_map_whole(node, caller, number);
-        else if (strcmp(word, "map") == 0) code = thp_node_map_sub(node, caller, number, first, count);
-        else if (strcmp(word, "splitpmd") == 0) code = thp_node_split_pmd(node, caller, number);
-        else if (strcmp(word, "pin") == 0) code = thp_node_pin(node, caller, number);
-        else if (strcmp(word, "write") == 0) code = thp_node_write(node, caller, number, first, count);
-        else if (strcmp(word, "zero") == 0) code = thp_node_zero(node, caller, number, first, count);
-        else if (strcmp(word, "close") == 0) code = thp_node_close(node, caller);
+        if (strcmp(word, "mapwhole") == 0) code = ASK(map_whole, caller, number);
+        else if (strcmp(word, "map") == 0) code = ASK(map_sub, caller, number, first, count);
+        else if (strcmp(word, "splitpmd") == 0) code = ASK(split_pmd, caller, number);
+        else if (strcmp(word, "pin") == 0) code = ASK(pin, caller, number);
+        else if (strcmp(word, "write") == 0) code = ASK(write, caller, number, first, count);
+        else if (strcmp(word, "zero") == 0) code = ASK(zero, caller, number, first, count);
+        else if (strcmp(word, "close") == 0) code = ASK(close, caller);
         else { fail("unknown word"); return; }
         if (code == THP_OK) printf("ok\n");
     }
@@ -131,8 +152,11 @@ static void command(uint32_t caller, char *words[WORDS]) {
 /* at a section's end its open batches go back */
 static void end_section(uint32_t caller) {
     for (size_t n = 0; n < nodes; n++) {
+        if (!places[n].is_open) continue;
         thp_back back;
-        if (places[n].is_open && thp_node_put_back(&places[n].node, caller, &back) != THP_OK) fail("no put-back");
+        thp_node *node = &places[n].node;
+        thp_pass *pass = pass_of(&places[n], caller);
+        if (ASK(put_back, caller, &back) != THP_OK) fail("no put-back");
         places[n].is_open = false;
     }
 }
@@ -143,10 +167,20 @@ static void make(uint32_t blocks, char *const *shapes) {
         if (underused == NULL) fail("a node wants its order and its threshold");
         places[nodes].tells_used = strcmp(underused, ",off") != 0;
         const uint32_t threshold = places[nodes].tells_used ? (uint32_t)strtoul(underused + 1, NULL, 10) : THP_UNDERUSED_OFF;
-        const thp_code code =
-            thp_node_create(&places[nodes].node, blocks, (uint32_t)strtoul(shapes[nodes], NULL, 10), threshold);
+        const uint32_t order = (uint32_t)strtoul(shapes[nodes], NULL, 10);
+        place *at = &places[nodes];
+        thp_code code = by_passes ? thp_cell_create(&at->lower, blocks, order, threshold, CALLERS)
+                                  : thp_node_create(&at->node, blocks, order, threshold);
+        at->at = 1;
+        if (code == THP_OK && by_passes) code = thp_pass_split(&at->lower, at->at, &at->upper);
         if (code != THP_OK) fail(thp_strerror(code));
     }
+}
+
+/* the node of two passes */
+static void finish(place *at) {
+    if (thp_pass_join(&at->lower, &at->upper) != THP_OK) fail("no joint");
+    if (thp_cell_finish(&at->lower, &at->node) != THP_OK) fail("not finished");
 }
 
 /* each node's journal is legal, and is written where it is asked for */
@@ -163,10 +197,11 @@ static void end_node(thp_node *node, bool tells) {
 }
 
 int main(int argc, char **argv) {
-    if (argc < 3) fail("BLOCKS ORDER,UNDERUSED ..");
+    if (argc < 4) fail("nodes|passes BLOCKS ORDER,UNDERUSED ..");
+    by_passes = strcmp(argv[1], "passes") == 0;
     char line[LINE];
     uint32_t caller = 0, count = 0;
-    make((uint32_t)strtoul(argv[1], NULL, 10), argv + 2);
+    make((uint32_t)strtoul(argv[2], NULL, 10), argv + 3);
     while (fgets(line, sizeof line, stdin) != NULL) {
         char *words[WORDS] = {NULL};
         size_t found = 0;
@@ -182,6 +217,9 @@ int main(int argc, char **argv) {
         command(caller, words);
     }
     end_section(caller);
-    for (size_t n = 0; n < nodes; n++) end_node(&places[n].node, nodes == 1);
+    for (size_t n = 0; n < nodes; n++) {
+        if (by_passes) finish(&places[n]);
+        end_node(&places[n].node, nodes == 1);
+    }
     return 0;
 }

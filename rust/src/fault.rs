@@ -39,7 +39,7 @@ pub enum Fault {
     BadCount = 16,
     /// The caller has no batch open.
     NoBatch = 17,
-    /// A batch is open on the node.
+    /// A batch is open: on the node, or by the caller of a pass.
     BatchOpen = 18,
     /// The text is longer than 16,777,216 bytes.
     TextTooLong = 22,

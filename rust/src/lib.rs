@@ -20,12 +20,16 @@
 //! given back once, by `Drop`.
 #![warn(missing_docs)]
 
+mod batch;
+mod cell;
 mod fault;
 mod node;
 mod pass;
 #[allow(missing_docs)]
 mod sys;
 
+pub use batch::{Batch, HasBatches};
+pub use cell::Cell;
 pub use fault::Fault;
 pub use node::{Back, Done, Node, Outcome, Scan, Stats, SubSet, Tried};
 pub use pass::Pass;

@@ -1,6 +1,7 @@
 //! A node.
 use std::fmt;
 
+use crate::batch::Batch;
 use crate::fault::{done, Fault};
 use crate::sys;
 
@@ -76,6 +77,17 @@ pub enum Tried {
     Used(u64),
 }
 
+impl Tried {
+    pub(crate) fn of(told: sys::Tried) -> Tried {
+        match told.kind {
+            0 => Tried::Done,
+            1 => Tried::Split(told.page),
+            2 => Tried::Pinned(told.page),
+            _ => Tried::Used(told.page),
+        }
+    }
+}
+
 /// How many pages a scan took, split, found pinned, put back, dropped, and found in use.
 #[derive(Clone, Copy, PartialEq, Eq, Hash, Debug)]
 #[allow(missing_docs)]
@@ -101,6 +113,12 @@ impl Scan {
 pub struct Back {
     pub back: u32,
     pub dropped: u32,
+}
+
+impl Back {
+    pub(crate) fn of(told: sys::Back) -> Back {
+        Back { back: told.back, dropped: told.dropped }
+    }
 }
 
 /// A node's numbers; one that is larger than 2^64 - 1 is told as that.
@@ -247,17 +265,18 @@ impl Node {
         Ok(count)
     }
 
+    /// Takes up to `n` pages as [`Node::take`] does, and answers the batch as a value that is put back where it is dropped.
+    pub fn batch(&mut self, caller: u32, n: u32) -> Result<Batch<'_, Node>, Fault> {
+        let taken = self.take(caller, n)?;
+        Ok(Batch::new(self, caller, taken))
+    }
+
     /// Tries the next page of the caller's open batch.
     pub fn split_next(&mut self, caller: u32) -> Result<Tried, Fault> {
         let mut told = sys::Tried::default();
         // SAFETY: the handle is this node's own, and what is told goes to a local.
         done(unsafe { sys::thp_node_split_next(&mut self.handle, caller, &mut told) })?;
-        Ok(match told.kind {
-            0 => Tried::Done,
-            1 => Tried::Split(told.page),
-            2 => Tried::Pinned(told.page),
-            _ => Tried::Used(told.page),
-        })
+        Ok(Tried::of(told))
     }
 
     /// Returns the pages that are left of the caller's open batch, and closes it.
@@ -265,7 +284,7 @@ impl Node {
         let mut told = sys::Back::default();
         // SAFETY: the handle is this node's own, and what is told goes to a local.
         done(unsafe { sys::thp_node_put_back(&mut self.handle, caller, &mut told) })?;
-        Ok(Back { back: told.back, dropped: told.dropped })
+        Ok(Back::of(told))
     }
 
     /// Closes the caller's open batch, and leaves its pages in flight, out of the queue.

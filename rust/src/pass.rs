@@ -1,6 +1,10 @@
 //! A shared node, and passes to it.
+use std::fmt;
+use std::ops::Range;
+
+use crate::batch::Batch;
 use crate::fault::{done, Fault};
-use crate::node::{Done, Node, Scan};
+use crate::node::{Back, Done, Node, Scan, Tried};
 use crate::sys;
 
 /// A pass to a shared node: some of its callers. What a pass does is done, or answered [`Fault::Busy`], where another pass has the
@@ -22,6 +26,10 @@ use crate::sys;
 /// ```
 pub struct Pass {
     handle: sys::PassHandle,
+    // as the calls that divide and join it leave them
+    callers: Range<u32>,
+    // how many callers the node has
+    all: u32,
 }
 
 // SAFETY: what a handle leads to is a pass and a share of its cell, which may go to another thread: proved, `pass_handle_send` in
@@ -39,7 +47,17 @@ impl Pass {
         let mut handle = sys::PassHandle::EMPTY;
         // SAFETY: the handle is a local that leads to nothing.
         done(unsafe { sys::thp_cell_create(&mut handle, blocks, order, underused.unwrap_or(OFF), callers) })?;
-        Ok(Pass { handle })
+        Ok(Pass { handle, callers: 0..callers, all: callers })
+    }
+
+    /// The callers of the pass.
+    pub fn callers(&self) -> Range<u32> {
+        self.callers.clone()
+    }
+
+    // Whether it has all callers of its node.
+    pub(crate) fn has_all(&self) -> bool {
+        self.callers == (0..self.all)
     }
 
     /// Divides the callers: those below `at` stay, and those from it on are the answer's. [`Fault::BadCaller`] where none would stay
@@ -48,19 +66,25 @@ impl Pass {
         let mut other = sys::PassHandle::EMPTY;
         // SAFETY: the handle is this pass's own, and the other is a local that leads to nothing.
         done(unsafe { sys::thp_pass_split(&mut self.handle, at, &mut other) })?;
-        Ok(Pass { handle: other })
+        let callers = at..self.callers.end;
+        self.callers.end = at;
+        Ok(Pass { handle: other, callers, all: self.all })
     }
 
     /// Takes the other pass's callers, which follow on this one's. Else hands it back, with [`Fault::BadPass`].
     pub fn join(&mut self, mut other: Pass) -> Result<(), (Pass, Fault)> {
         // SAFETY: both handles are their passes' own, and apart.
         match done(unsafe { sys::thp_pass_join(&mut self.handle, &mut other.handle) }) {
-            Ok(()) => Ok(()),
+            Ok(()) => {
+                self.callers.end = other.callers.end;
+                Ok(())
+            }
             Err(fault) => Err((other, fault)),
         }
     }
 
-    /// Takes the node out, where the pass has all callers and no other pass is left. Else hands the pass back.
+    /// Takes the node out, where the pass has all callers, none has a batch open, and no other pass is left. Else hands the pass
+    /// back.
     pub fn finish(mut self) -> Result<Node, (Pass, Fault)> {
         let mut handle = sys::Handle::EMPTY;
         // SAFETY: the handle is this pass's own, and the node's is a local that leads to nothing.
@@ -152,6 +176,42 @@ impl Pass {
         Ok(Scan::of(told))
     }
 
+    /// Takes up to `n` pages (128 at most), the oldest first, into a batch of the caller, which is open then. Answers how many.
+    pub fn take(&mut self, caller: u32, n: u32) -> Result<u32, Fault> {
+        let mut count = 0;
+        // SAFETY: the handle is this pass's own, and the count is a local.
+        done(unsafe { sys::thp_pass_take(&mut self.handle, caller, n, &mut count) })?;
+        Ok(count)
+    }
+
+    /// Takes up to `n` pages as [`Pass::take`] does, and answers the batch as a value that is put back where it is dropped.
+    pub fn batch(&mut self, caller: u32, n: u32) -> Result<Batch<'_, Pass>, Fault> {
+        let taken = self.take(caller, n)?;
+        Ok(Batch::new(self, caller, taken))
+    }
+
+    /// Tries the next page of the caller's open batch that is still in flight.
+    pub fn split_next(&mut self, caller: u32) -> Result<Tried, Fault> {
+        let mut told = sys::Tried::default();
+        // SAFETY: the handle is this pass's own, and what is told is a local.
+        done(unsafe { sys::thp_pass_split_next(&mut self.handle, caller, &mut told) })?;
+        Ok(Tried::of(told))
+    }
+
+    /// Returns the pages that are left of the caller's open batch, and closes it. After an error it is as it was.
+    pub fn put_back(&mut self, caller: u32) -> Result<Back, Fault> {
+        let mut told = sys::Back::default();
+        // SAFETY: the handle is this pass's own, and what is told is a local.
+        done(unsafe { sys::thp_pass_put_back(&mut self.handle, caller, &mut told) })?;
+        Ok(Back::of(told))
+    }
+
+    /// Closes the caller's open batch, and leaves its pages in flight, out of the queue.
+    pub fn abandon(&mut self, caller: u32) -> Result<(), Fault> {
+        // SAFETY: the handle is this pass's own.
+        done(unsafe { sys::thp_pass_abandon(&mut self.handle, caller) })
+    }
+
     /// How many pages are queued, also while another pass has the node.
     pub fn count(&mut self) -> u32 {
         let mut pages = 0;
@@ -165,5 +225,11 @@ impl Drop for Pass {
     fn drop(&mut self) {
         // SAFETY: the handle is this pass's own. It leads to nothing where the pass was joined or finished, which is told alone.
         unsafe { sys::thp_pass_destroy(&mut self.handle) };
+    }
+}
+
+impl fmt::Debug for Pass {
+    fn fmt(&self, f: &mut fmt::Formatter<'_>) -> fmt::Result {
+        f.debug_struct("Pass").field("callers", &self.callers).finish_non_exhaustive()
     }
 }

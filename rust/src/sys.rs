@@ -123,5 +123,9 @@ extern "C" {
     pub fn thp_pass_unmap_whole(pass: *mut PassHandle, caller: u32, page: u64, done: *mut Done) -> u32;
     pub fn thp_pass_unpin(pass: *mut PassHandle, caller: u32, page: u64, done: *mut Done) -> u32;
     pub fn thp_pass_scan(pass: *mut PassHandle, caller: u32, n: u32, scan: *mut Scan) -> u32;
+    pub fn thp_pass_take(pass: *mut PassHandle, caller: u32, n: u32, count: *mut u32) -> u32;
+    pub fn thp_pass_split_next(pass: *mut PassHandle, caller: u32, tried: *mut Tried) -> u32;
+    pub fn thp_pass_put_back(pass: *mut PassHandle, caller: u32, back: *mut Back) -> u32;
+    pub fn thp_pass_abandon(pass: *mut PassHandle, caller: u32) -> u32;
     pub fn thp_pass_count(pass: *mut PassHandle, pages: *mut u32) -> u32;
 }

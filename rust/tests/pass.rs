@@ -1,5 +1,5 @@
 //! Each call of a pass, and what it answers.
-use leversorrel::{check, Fault, Outcome, Pass, Verdict};
+use leversorrel::{check, Back, Cell, Fault, Outcome, Pass, Tried, Verdict};
 
 #[test]
 fn two_passes_have_one_journal() -> Result<(), Fault> {
@@ -77,5 +77,66 @@ fn what_does_not_fit_is_handed_back() -> Result<(), Fault> {
     };
     one.join(two).map_err(|(_, fault)| fault)?;
     assert!(one.finish().is_ok());
+    Ok(())
+}
+
+#[test]
+fn batches_go_with_their_callers() -> Result<(), Fault> {
+    let mut one = Pass::of_new_cell(16, 2, None, 3)?;
+    for caller in 0..3 {
+        let page = one.alloc(caller)?;
+        one.split_pmd(caller, page)?;
+        one.unmap_sub(caller, page, 0, 2)?;
+    }
+    assert_eq!((one.take(0, 1)?, one.take(2, 2)?), (1, 2));
+    assert_eq!(one.take(2, 1), Err(Fault::BatchOpen));
+    let mut two = one.split(1)?;
+    assert_eq!((one.callers(), two.callers()), (0..1, 1..3));
+    assert_eq!(two.split_next(2)?, Tried::Split(1));
+    assert_eq!(two.split_next(1), Err(Fault::NoBatch));
+    one.pin(0, 2)?;
+    assert_eq!(two.split_next(2)?, Tried::Pinned(2));
+    one.join(two).map_err(|(_, fault)| fault)?;
+    let Err((mut one, Fault::BatchOpen)) = one.finish() else {
+        panic!("a node with open batches was taken out");
+    };
+    assert_eq!(one.put_back(2)?, Back { back: 1, dropped: 0 });
+    one.abandon(0)?;
+    assert_eq!(one.take(0, 1), Err(Fault::HasBatch));
+    assert!(one.finish().is_ok());
+    Ok(())
+}
+
+#[test]
+fn a_batch_that_is_dropped_is_put_back() -> Result<(), Fault> {
+    let mut pass = Cell::new(4, 2, None, 2)?.into_pass();
+    let page = pass.alloc(0)?;
+    pass.split_pmd(0, page)?;
+    pass.unmap_sub(0, page, 0, 2)?;
+    assert_eq!(pass.batch(1, 128)?.taken(), 1);
+    assert_eq!((pass.count(), pass.put_back(1)), (1, Err(Fault::NoBatch)));
+    let mut batch = pass.batch(1, 1)?;
+    assert_eq!(batch.split_next()?, Tried::Split(page));
+    assert_eq!(batch.put_back().map_err(|(_, fault)| fault)?, Back { back: 0, dropped: 0 });
+    pass.batch(1, 1)?.abandon()?;
+    assert_eq!(pass.put_back(1), Err(Fault::NoBatch));
+    Ok(())
+}
+
+#[test]
+fn a_cell_is_made_of_its_passes_alone() -> Result<(), Fault> {
+    let mut passes = Cell::new(4, 2, None, 3)?.passes().map_err(|(_, fault)| fault)?;
+    assert_eq!(passes.len(), 3);
+    let last = passes.remove(1);
+    let Err((passes, Fault::BadPass)) = Cell::of(passes) else {
+        panic!("a cell was made of some of its passes");
+    };
+    let stranger = Pass::of_new_cell(4, 2, None, 1)?;
+    assert!(matches!(Cell::of(vec![stranger, last]), Err((_, Fault::BadPass))));
+    assert!(matches!(Cell::of(passes), Err((_, Fault::BadPass))));
+    assert!(matches!(Cell::of(Vec::new()), Err((_, Fault::BadPass))));
+    let passes = Cell::new(4, 2, None, 3)?.passes().map_err(|(_, fault)| fault)?;
+    let cell = Cell::of(passes.into_iter().rev().collect()).map_err(|(_, fault)| fault)?;
+    assert!(cell.finish().is_ok());
     Ok(())
 }

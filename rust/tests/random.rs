@@ -1,13 +1,14 @@
 //! Random sequences of calls, made by this crate and by the program. `THP_PROGRAM` names a built `thpsplit`, `THP_CASES` how many
 //! sequences there are (100), `THP_SEED` where they begin (1).
 //!
-//! A sequence is made call by call on nodes of this crate, and written down as a script. The program's answers to the script are
-//! to be the same, so are each node's numbers, and so is the journal where there is one node. The check finds each journal legal.
+//! A sequence is made call by call on nodes of this crate, or by passes of shared ones, and written down as a script. The program's
+//! answers to the script are to be the same, so are each node's numbers, and so is the journal where there is one node. The check
+//! finds each journal legal.
 use std::env;
 use std::io::{self, Write};
 use std::process::{Command, Stdio};
 
-use leversorrel::{check, Done, Fault, Node, Outcome, SubSet, Tried, Verdict};
+use leversorrel::{check, Done, Fault, Node, Outcome, Pass, SubSet, Tried, Verdict};
 
 /// Numbers that look random, the same ones for the same seed: SplitMix64.
 struct Chance(u64);
@@ -103,9 +104,81 @@ impl Call {
     }
 }
 
+const CALLERS: u32 = 64;
+
+/// How calls reach a node.
+enum Way {
+    Own(Node),
+    /// By two passes that are joined and divided elsewhere before each call.
+    Shared {
+        lower: Pass,
+        upper: Option<Pass>,
+    },
+}
+
+impl Way {
+    fn new(shape: Shape, is_shared: bool) -> Way {
+        let Shape { blocks, order, underused } = shape;
+        if is_shared {
+            Way::Shared { lower: Pass::of_new_cell(blocks, order, underused, CALLERS).unwrap(), upper: None }
+        } else {
+            Way::Own(Node::new(blocks, order, underused).unwrap())
+        }
+    }
+
+    /// The pass of a caller, divided anew. (Only of a shared node.)
+    fn pass(&mut self, caller: u32) -> &mut Pass {
+        let Way::Shared { lower, upper } = self else {
+            panic!("the node isn't shared");
+        };
+        let at = lower.callers().end % (CALLERS - 1) + 1;
+        if let Some(upper) = upper.take() {
+            lower.join(upper).unwrap();
+        }
+        let upper = upper.insert(lower.split(at).unwrap());
+        if caller < at {
+            lower
+        } else {
+            upper
+        }
+    }
+
+    fn count(&mut self, caller: u32) -> u32 {
+        match self {
+            Way::Own(node) => node.queue_length(),
+            Way::Shared { .. } => self.pass(caller).count(),
+        }
+    }
+
+    /// The node, which is shared no more.
+    fn node(&mut self) -> &mut Node {
+        if let Way::Shared { lower, upper } = self {
+            let mut whole = std::mem::replace(lower, Pass::of_new_cell(1, 2, None, 1).unwrap());
+            if let Some(upper) = upper.take() {
+                whole.join(upper).unwrap();
+            }
+            *self = Way::Own(whole.finish().unwrap());
+        }
+        match self {
+            Way::Own(node) => node,
+            Way::Shared { .. } => panic!("the node is shared still"),
+        }
+    }
+}
+
+/// A call on the node, or on the caller's pass.
+macro_rules! ask {
+    ($way:expr, $call:ident, $caller:expr $(, $more:expr)*) => {
+        match $way {
+            Way::Own(node) => node.$call($caller $(, $more)*),
+            shared => shared.pass($caller).$call($caller $(, $more)*),
+        }
+    };
+}
+
 /// A node, and what is known of it by its answers.
 struct Place {
-    node: Node,
+    node: Way,
     shape: Shape,
     live: Vec<Page>,
     allocated: u64,
@@ -122,8 +195,8 @@ struct Page {
 }
 
 impl Place {
-    fn new(shape: Shape) -> Place {
-        let node = Node::new(shape.blocks, shape.order, shape.underused).unwrap();
+    fn new(shape: Shape, is_shared: bool) -> Place {
+        let node = Way::new(shape, is_shared);
         Place { node, shape, live: Vec::new(), allocated: 0, open: None }
     }
 
@@ -191,29 +264,29 @@ impl Place {
         let node = &mut self.node;
         match call {
             Call::Alloc => {
-                let page = node.alloc(caller)?;
+                let page = ask!(node, alloc, caller)?;
                 self.live.push(Page { number: page, has_entries: false });
                 self.allocated += 1;
                 return Ok(format!("page {page}"));
             }
-            Call::UnmapWhole(page) => return node.unmap_whole(caller, page).map(|done| self.lost(page, done)),
+            Call::UnmapWhole(page) => return ask!(node, unmap_whole, caller, page).map(|done| self.lost(page, done)),
             Call::Unmap(page, Range { first, count }) => {
-                return node.unmap_sub(caller, page, first, count).map(|done| self.lost(page, done));
+                return ask!(node, unmap_sub, caller, page, first, count).map(|done| self.lost(page, done));
             }
-            Call::Unpin(page) => return node.unpin(caller, page).map(|done| self.lost(page, done)),
-            Call::Count => return Ok(format!("count {}", node.queue_length())),
+            Call::Unpin(page) => return ask!(node, unpin, caller, page).map(|done| self.lost(page, done)),
+            Call::Count => return Ok(format!("count {}", node.count(caller))),
             Call::Scan(_) | Call::Take(_) | Call::SplitNext | Call::PutBack => return self.shrunk(caller, call),
-            Call::MapWhole(page) => node.map_whole(caller, page),
-            Call::Map(page, Range { first, count }) => node.map_sub(caller, page, first, count),
+            Call::MapWhole(page) => ask!(node, map_whole, caller, page),
+            Call::Map(page, Range { first, count }) => ask!(node, map_sub, caller, page, first, count),
             Call::SplitPmd(page) => {
-                node.split_pmd(caller, page)?;
+                ask!(node, split_pmd, caller, page)?;
                 self.live.iter_mut().filter(|it| it.number == page).for_each(|it| it.has_entries = true);
                 Ok(())
             }
-            Call::Pin(page) => node.pin(caller, page),
-            Call::Write(page, Range { first, count }) => node.write(caller, page, first, count),
-            Call::Zero(page, Range { first, count }) => node.zero(caller, page, first, count),
-            Call::Close => node.close(caller),
+            Call::Pin(page) => ask!(node, pin, caller, page),
+            Call::Write(page, Range { first, count }) => ask!(node, write, caller, page, first, count),
+            Call::Zero(page, Range { first, count }) => ask!(node, zero, caller, page, first, count),
+            Call::Close => ask!(node, close, caller),
         }
         .map(|()| "ok".into())
     }
@@ -237,18 +310,18 @@ impl Place {
         Ok(match call {
             Call::Scan(_) if self.open.is_some() => return Err(Fault::HasBatch),
             Call::Scan(n) => {
-                let told = node.scan(caller, n)?;
+                let told = ask!(node, scan, caller, n)?;
                 let used = self.shape.underused.map_or(String::new(), |_| format!(" used {}", told.used));
                 let (taken, split, pinned) = (told.taken, told.split, told.pinned);
                 format!("taken {taken} split {split} pinned {pinned} back {} dropped {}{used}", told.back, told.dropped)
             }
             Call::Take(n) => {
-                let taken = node.take(caller, n)?;
+                let taken = ask!(node, take, caller, n)?;
                 self.open = Some(taken);
                 format!("taken {taken}")
             }
             Call::SplitNext => {
-                let tried = node.split_next(caller)?;
+                let tried = ask!(node, split_next, caller)?;
                 self.open = self.open.map(|left| left.saturating_sub(1));
                 match tried {
                     Tried::Done => "done".into(),
@@ -258,7 +331,7 @@ impl Place {
                 }
             }
             _ => {
-                let told = node.put_back(caller)?;
+                let told = ask!(node, put_back, caller)?;
                 self.open = None;
                 format!("back {} dropped {}", told.back, told.dropped)
             }
@@ -267,7 +340,7 @@ impl Place {
 
     /// The lines of the report of totals.
     fn totals(&mut self, number: usize) -> String {
-        let told = self.node.stats();
+        let told = self.node.node().stats();
         let mut lines = format!("node {number}\npages {}\nqueue {}\n", told.allocations, told.queued);
         lines += &format!("frames_held {}\nframes_given {}\n", told.frames_held, told.frames_given);
         lines += &format!("thp_split_page {}\nthp_split_page_failed {}\n", told.split_page, told.split_page_failed);
@@ -326,7 +399,8 @@ struct Sequence {
 impl Sequence {
     /// Makes up to 60 calls by caller 0, by a worker, or by both one after the other.
     fn new(chance: &mut Chance) -> Sequence {
-        let places = shapes(chance).into_iter().map(Place::new).collect();
+        let is_shared = chance.below(2) == 0;
+        let places = shapes(chance).into_iter().map(|shape| Place::new(shape, is_shared)).collect();
         let worker = chance.among(&[1, 1, 2, 63]);
         let mut made = Sequence { places, worker, script: String::new(), answers: String::new(), calls: 0 };
         for &caller in chance.among(&[&[0][..], &[worker][..], &[0, worker][..], &[0, worker][..]]) {
@@ -346,7 +420,7 @@ impl Sequence {
             self.calls += 1;
         }
         for place in self.places.iter_mut().filter(|place| place.open.is_some()) {
-            place.node.put_back(caller).unwrap();
+            ask!(&mut place.node, put_back, caller).unwrap();
             place.open = None;
         }
     }
@@ -373,7 +447,7 @@ impl Sequence {
         let mut wrong = differing(&self.answers, &self.report(program, "answers"));
         wrong = wrong.or_else(|| differing(&totals, &self.report(program, "totals")));
         for number in 0..self.places.len() {
-            let journal = self.places[number].node.journal().unwrap();
+            let journal = self.places[number].node.node().journal().unwrap();
             if check(&journal) != Ok(Verdict::Legal) {
                 return Some(format!("the journal of node {number} isn't legal"));
             }

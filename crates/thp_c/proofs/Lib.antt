@@ -5,3 +5,4 @@ mod Masks
 mod Losses
 mod Crossings
 mod PassCrossings
+mod Opened

@@ -1,4 +1,4 @@
--- A handle of a pass may go to another thread, as what it leads to may: a pass, and a share of its cell.
+-- A handle of a pass may go to another thread, as what it leads to may: a pass, a share of its cell, and open batches.
 use base.Shift.{Keyless}
 use mir.Raw.{raw}
 use denote.Memory.{lone}
@@ -10,7 +10,7 @@ use denote.Struct.Owning.{shape, fields, to}
 use Rattle.std.specs.Prelude.{Option, None, Some}
 use Rattle.std.specs.contracts.alloc.Global as Global
 use Rattle.std.specs.contracts.impls.GlobalAllocator.TheImpl as global
-use Rattle.std.proofs.Crossing.{frees, send, Arc-send}
+use Rattle.std.proofs.Crossing.{frees, send, Arc-send, Vec-send}
 use Rattle.std.proofs.option.Option.TheSendSync as option
 use Rattle.std_alloc.proofs.SendSync.{lies, quiet}
 use Rattle.atomic_table.proofs.owned.Table.TheSendSync as table
@@ -23,7 +23,7 @@ use Rattle.thp_cell.specs.contracts.rule.Knows as Knows
 use Rattle.thp_cell.specs.contracts.rule.Key as Key
 use Rattle.thp_cell.specs.contracts.rule.CellRule as CellRule
 use Rattle.thp_cell.specs.contracts.rule.CellRuleTableRuleNodeKnowsKey.TheImpl as rule
-use Rattle.thp_cell.proofs.Crossings.{kept_cell_sync, kept_pass_send}
+use Rattle.thp_cell.proofs.Crossings.{batch_send, kept_cell_sync, kept_pass_send}
 use Rattle.thp_c.specs.NodeHandle.{heap}
 use Rattle.thp_c.specs.PassHandle.{boxed_at}
 use Rattle.thp_c.specs.declared.pass_room.PassRoom.{PassRoom}
@@ -37,7 +37,7 @@ cell_send : IsSend (NodeCell.the_row Kept.the_row keeps.ghosts)
 cell_send = view_send (in_cell.the_row Kept.the_row keeps.ghosts) _ _ _ _ (declared_send (in_cell.the_type Kept.the_row keeps.ghosts) (table.the_send (Node.the_row Kept.the_row keeps.ghosts) Knows.the_row (Key.the_row Kept.the_row keeps.ghosts) CellRule.the_row Global.the_row (rule.ghosts Kept.the_row keeps.ghosts keeps.dict keeps.dict) global.ghosts node_send send frees, tt))
 
 shared_send : IsSend SharedPass.the_row
-shared_send = view_send in_shared.the_row _ _ _ _ (declared_send in_shared.the_type (Arc-send _ cell_send kept_cell_sync, (kept_pass_send, (search sendable, (search sendable, tt)))))
+shared_send = view_send in_shared.the_row _ _ _ _ (declared_send in_shared.the_type (Arc-send _ cell_send kept_cell_sync, (kept_pass_send, (Vec-send _ (option.the_send _ batch_send), (search sendable, (search sendable, tt))))))
 
 room_send : IsSend R
 room_send = declared_send room_type (option.the_send _ shared_send, tt)

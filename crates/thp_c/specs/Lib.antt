@@ -5,5 +5,7 @@ pub mod Calls
 pub mod Replies
 pub mod NodeHandle
 pub mod PassCodes
+pub mod Sharing
 pub mod Passes
+pub mod PassBatches
 pub mod PassHandle

@@ -4,7 +4,7 @@ use base.Fml.{Fml, fsep, ftrue, feq}
 use denote.RawPtr.{Ptr}
 use Rattle.std_alloc.specs.Box.Ownership.{box_owns}
 use Rattle.thp_c.specs.NodeHandle.{token}
-use Rattle.thp_c.specs.Passes.{SharedState}
+use Rattle.thp_c.specs.Sharing.{SharedState}
 use Rattle.thp_c.specs.declared.pass_room.PassRoom.{PassRoom}
 use Rattle.thp_c.specs.contracts.pass_room.PassRoom.{the_row}
 

@@ -12,21 +12,17 @@ use Rattle.thp_model.specs.Refusals.{Call, refusal, alloc_page, scan}
 use Rattle.thp_model.specs.Runs.{take_events}
 use Rattle.thp_model.specs.Shapes.{IsShape}
 use Rattle.thp_node.specs.declared.answers.ScanReply.{ScanReply}
-use Rattle.thp_cell.specs.Calls.{at_front, Called, Follows, IsBusy, IsRefused, IsJoined, below, from}
+use Rattle.thp_cell.specs.Calls.{Called, Follows, IsBusy, IsRefused, IsJoined, below, from}
 use Rattle.thp_cell.specs.Says.{DidOne, DidAlloc, DidLose, DidScan}
 use Rattle.thp_cell.specs.Views.{PassState, HasCaller, HasAll}
 use Rattle.thp_c.specs.PassCodes.{PassAnswer}
 use Rattle.thp_c.specs.Engines.{EngineState}
 use Rattle.thp_c.specs.Replies.{MasksSet, outcome_number}
-use Rattle.thp_c.specs.declared.codes.Fault.TheVariants.{Refused as RefusedWith, BadCaller, BadCount, BadSize, Empty, InUse}
+use Rattle.thp_c.specs.Sharing.{SharedState, OnlyFront, IsPart, IsShut, HasOpen, OpenStay}
+use Rattle.thp_c.specs.declared.codes.Fault.TheVariants.{Refused as RefusedWith, BadCaller, BadCount, BadSize, BatchOpen, Empty, InUse}
 use Rattle.thp_c.specs.declared.pass_codes.PassFault.{PassFault}
 use Rattle.thp_c.specs.declared.replies.ThpDone.{ThpDone}
 use Rattle.thp_c.specs.declared.pass_codes.PassFault.TheVariants.{Plain, Busy, BadPass}
-
--- a pass, and the mark of its cell
-pub record SharedState : Type 0 where
-  pub mark : ℕ
-  pub pass : PassState
 
 -- ---- calls of a caller
 
@@ -42,10 +38,6 @@ PassFails caller why m p q _ = ⊥
 abbrev pub PassFailsAsking : ℕ → ℕ → Option Refusal → ℕ → PassState → PassState → PassFault → Type 0
 PassFailsAsking n caller why m p q (Plain BadCount) = (max_batch < n) × (q ≡ p)
 PassFailsAsking n caller why m p q f = PassFails caller why m p q f
-
--- nothing but the front of the pass changed
-abbrev pub OnlyFront : SharedState → SharedState → Type 0
-OnlyFront old new = new ≡ record old { pass = at_front old.pass new.pass.front }
 
 -- a call that records one event
 abbrev pub PassOne : ℕ → Call → What → SharedState → SharedState → PassAnswer → Type 0
@@ -115,9 +107,9 @@ PassDoes None None answer P = answer ≡ Err (Plain Empty)
 PassDoes (Some old) (Some new) answer P = P old new answer
 PassDoes _ _ answer P = ⊥
 
--- the pass of all callers of a new cell, with this mark; or why the handle stays empty; or it leads to something already
+-- the pass of all callers of a new cell, with this mark and no open batch; or why the handle stays empty; or it leads to something already
 abbrev pub CellMade : Option SharedState → Option SharedState → Shape → ℕ → ℕ → PassAnswer → Type 0
-CellMade None (Some new) s callers mark answer = (answer ≡ Ok tt) × IsNewPass s callers new.pass × (new.mark ≡ mark) × IsCellSize s callers
+CellMade None (Some new) s callers mark answer = (answer ≡ Ok tt) × IsNewPass s callers new.pass × IsShut new × (new.mark ≡ mark) × IsCellSize s callers
 CellMade None None s callers mark answer = ((answer ≡ Err (Plain BadSize)) × (IsCellSize s callers → ⊥)) ⊎ (answer ≡ Err (Plain (RefusedWith OutOfMemory)))
 CellMade (Some old) (Some new) s callers mark answer = (new ≡ old) × (answer ≡ Err (Plain InUse))
 CellMade (Some old) None s callers mark answer = ⊥
@@ -128,13 +120,10 @@ PassEmptied None None answer = answer ≡ Err (Plain Empty)
 PassEmptied (Some old) None answer = answer ≡ Ok tt
 PassEmptied _ (Some new) answer = ⊥
 
--- the callers below `at` stay, and those from it on are the other handle's
+-- the callers below `at` stay, and those from it on are the other handle's, each with its open batch
 abbrev pub Divided : ℕ → Option SharedState → Option SharedState → Option SharedState → Type 0
-Divided at (Some s) left right =
-    Divides at s.pass
-    × (left ≡ Some (record s { pass = below s.pass at }))
-    × (right ≡ Some (record s { pass = from s.pass at }))
-Divided at None left right = ⊥
+Divided at (Some s) (Some left) (Some right) = Divides at s.pass × IsPart (below s.pass at) s left × IsPart (from s.pass at) s right
+Divided at _ _ _ = ⊥
 
 -- why a pass was not divided
 abbrev pub WhyUndivided : ℕ → Option SharedState → Option SharedState → PassFault → Type 0
@@ -144,9 +133,14 @@ WhyUndivided at pass other (Plain BadCaller) = IfSome pass (λ s. Divides at s.p
 WhyUndivided at pass other (Plain (RefusedWith OutOfMemory)) = ⊤
 WhyUndivided at pass other _ = ⊥
 
--- the first handle has the callers of both
+-- the first handle has the callers of both, each with its open batch
 abbrev pub Joined : Option SharedState → Option SharedState → Option SharedState → Type 0
-Joined (Some left) (Some right) (Some both) = Adjoin left right × IsJoined left.pass right.pass both.pass × (both.mark ≡ left.mark)
+Joined (Some left) (Some right) (Some both) =
+    Adjoin left right
+    × IsJoined left.pass right.pass both.pass
+    × (both.mark ≡ left.mark)
+    × OpenStay left both
+    × OpenStay right both
 Joined _ _ _ = ⊥
 
 -- why two passes were not joined
@@ -159,15 +153,16 @@ WhyApart left right _ = ⊥
 abbrev pub OneCellHeld : Option SharedState → Option SharedState → Type 0
 OneCellHeld left right = IfSome left (λ l. IfSome right (OneCell l))
 
--- the cell's node, with the history that the pass of all callers knows of
+-- the cell's node, with the history that the pass of all callers knows of, which had no open batch
 abbrev pub Finished : Option SharedState → Option EngineState → Type 0
-Finished (Some s) (Some e) = HasAll s.pass × (e.node.shape ≡ s.pass.shape) × (e.node.journal ≡ s.pass.front) × (e.batch ≡ None)
+Finished (Some s) (Some e) = HasAll s.pass × IsShut s × (e.node.shape ≡ s.pass.shape) × (e.node.journal ≡ s.pass.front) × (e.batch ≡ None)
 Finished _ _ = ⊥
 
 -- why a cell was not taken apart
 abbrev pub WhyUnfinished : Option SharedState → Option EngineState → PassFault → Type 0
 WhyUnfinished pass into (Plain Empty) = pass ≡ None
 WhyUnfinished pass into (Plain InUse) = IsSome into
+WhyUnfinished pass into (Plain BatchOpen) = IfSome pass HasOpen
 WhyUnfinished pass into (Plain (RefusedWith OutOfMemory)) = ⊤
 WhyUnfinished pass into BadPass = ⊤
 WhyUnfinished pass into _ = ⊥

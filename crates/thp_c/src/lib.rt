@@ -11,6 +11,8 @@ mod engine;
 mod loose;
 mod node_calls;
 mod node_handle;
+mod open_batches;
+mod pass_batch_calls;
 mod pass_calls;
 mod pass_codes;
 mod pass_handle;

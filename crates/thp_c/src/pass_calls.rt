@@ -90,7 +90,7 @@ pub extern "C" fn thp_c_pass_split(
         *handle = ThpPass::put(room, shared);
         return pass_code(Err(PassFault::Plain(Fault::Refused(Refusal::OutOfMemory))));
     };
-    match shared.split(at) {
+    match shared.split(alloc, at) {
         Ok((left, right)) => {
             *handle = ThpPass::put(room, left);
             *other = ThpPass::put(other_room, right);
@@ -160,9 +160,9 @@ pub extern "C" fn thp_c_cell_finish(handle: &mut ThpPass, alloc: Global, node: &
             *node = ThpNode::full(engine);
             pass_code(Ok(()))
         }
-        Err(shared) => {
+        Err((shared, fault)) => {
             *handle = ThpPass::put(room, shared);
-            pass_code(Err(PassFault::BadPass))
+            pass_code(Err(fault))
         }
     }
 }

@@ -5,37 +5,43 @@ ghost use Rattle.thp_model.specs.Refusals as call;
 ghost use Rattle.thp_cell.specs.Calls.{Called, below, from, IsJoined};
 ghost use Rattle.thp_cell.specs.Says.{DidLose};
 ghost use Rattle.thp_cell.specs.Views.{HasCaller, HasAll};
-ghost use Rattle.thp_c.specs.Passes.{PassOne, PassAlloc, PassFails, PassScan, PassCount, OnlyFront, IsNewPass, IsCellSize, Divides, Adjoin};
+ghost use Rattle.thp_c.specs.Passes.{PassOne, PassAlloc, PassFails, PassScan, PassCount, IsNewPass, IsCellSize, Divides, Adjoin};
+ghost use Rattle.thp_c.specs.Sharing.{OnlyFront, IsPart, IsShut, HasOpen, OpenStay};
+
+mod batch_calls;
 
 use crate::codes::Fault;
+use crate::open_batches::{cut, joined, none_open, some_open};
 use crate::pass_codes::PassFault;
 use std::alloc::Global;
 use std::marker::Model;
 use std::sync::Arc;
 use thp_cell::{CellFault, NodeCell, Pass};
 use thp_model::{Done, MAX_BATCH, PageId, Refusal, Shape, What};
-use thp_node::{NewFault, Node, ScanReply};
+use thp_node::{Batch, NewFault, Node, ScanReply};
 
 /// A pass, its share of the cell, and the mark by which passes of other cells are told.
 #[derive(Drop)]
 pub struct SharedPass {
     cell: Arc<NodeCell, Global>,
     pass: Pass,
+    // the open batches by caller, from the pass's first on, in memory with room for those of all callers above
+    batches: Vec<Option<Batch>>,
     // how many callers the cell has
     callers: u32,
     mark: u64,
 }
 
 impl Model for SharedPass {
-    ghost use Rattle.std.specs.Prelude.{◌≡◌};
+    ghost use Rattle.std.specs.Prelude.{vec_capacity};
     ghost use Rattle.std.specs.Arc.{arc_value};
-    ghost use Rattle.thp_c.specs.Passes.{SharedState};
+    ghost use Rattle.thp_c.specs.Sharing.{SharedState, IsShared};
 
     ghost Value = { SharedState };
 
-    ghost view = { λ s. record { mark = s.mark; pass = s.pass } };
+    ghost view = { λ s. record { mark = s.mark; pass = s.pass; batches = s.batches.items } };
 
-    ghost invariant = { λ s. (s.pass.cell ≡ arc_value s.cell) × (s.pass.callers ≡ s.callers) };
+    ghost invariant = { λ s. IsShared (arc_value s.cell) s.callers (vec_capacity s.batches) s.pass s.batches.items };
 }
 
 impl SharedPass {
@@ -43,6 +49,7 @@ impl SharedPass {
     pub fn new(alloc: Global, shape: Shape, callers: u32, mark: u64) -> Result<SharedPass, NewFault>
         ensures made { IfOk result (λ s. IsNewPass shape callers s.pass) }
         ensures mark { IfOk result (λ s. s.mark ≡ mark) }
+        ensures shut { IfOk result IsShut }
         ensures size { IfOk result (λ s. IsCellSize shape callers) }
         ensures bad_size { result ≡ Err NewFault.BadSize → IsCellSize shape callers → ⊥ }
     {
@@ -54,10 +61,14 @@ impl SharedPass {
             Ok(made) => made,
             Err(fault) => return Err(fault),
         };
+        let Some(batches) = none_open(alloc, callers) else {
+            return Err(NewFault::OutOfMemory);
+        };
         match Arc::new(alloc, cell) {
             Ok(cell) => Ok(SharedPass {
                 cell,
                 pass,
+                batches,
                 callers,
                 mark,
             }),
@@ -288,11 +299,15 @@ impl SharedPass {
         self.cell.count(&mut self.pass)
     }
 
-    /// Divides the callers of the pass at this one.
-    pub fn split(self, at: u32) -> Result<(SharedPass, SharedPass), (SharedPass, Fault)>
+    /// Divides the callers of the pass at this one. Open batches go with their callers.
+    pub fn split(
+        self,
+        alloc: Global,
+        at: u32,
+    ) -> Result<(SharedPass, SharedPass), (SharedPass, Fault)>
         ensures divides { IfOk result (λ r. Divides at self.pass) }
-        ensures left { IfOk result (λ r. r.0 ≡ record self { pass = below self.pass at }) }
-        ensures right { IfOk result (λ r. r.1 ≡ record self { pass = from self.pass at }) }
+        ensures left { IfOk result (λ r. IsPart (below self.pass at) self r.0) }
+        ensures right { IfOk result (λ r. IsPart (from self.pass at) self r.1) }
         ensures same { IfErr result (λ e. e.0 ≡ self) }
         ensures why { IfErr result (λ e. ((e.1 ≡ Fault.BadCaller) × (Divides at self.pass → ⊥)) ⊎ (e.1 ≡ Fault.Refused Refusal.OutOfMemory)) }
     {
@@ -306,20 +321,34 @@ impl SharedPass {
         let SharedPass {
             cell,
             pass,
+            mut batches,
             callers,
             mark,
         } = self;
+        let places = (at - first) as usize;
+        let Some(rest) = cut(alloc, &mut batches, places, (callers - at) as usize) else {
+            let same = SharedPass {
+                cell,
+                pass,
+                batches,
+                callers,
+                mark,
+            };
+            return Err((same, Fault::Refused(Refusal::OutOfMemory)));
+        };
         let (left, right) = cell.split(pass, at);
         Ok((
             SharedPass {
                 cell,
                 pass: left,
+                batches,
                 callers,
                 mark,
             },
             SharedPass {
                 cell: other,
                 pass: right,
+                batches: rest,
                 callers,
                 mark,
             },
@@ -336,64 +365,76 @@ impl SharedPass {
         self.mark == other.mark && end == first
     }
 
-    /// One pass of the callers of both.
+    /// One pass of the callers of both, with their open batches.
     pub fn join(self, other: SharedPass) -> SharedPass
         requires cell { self.pass.cell ≡ other.pass.cell }
         requires adjacent { self.pass.end ≡ other.pass.first }
         ensures joined { IsJoined self.pass other.pass result.pass }
         ensures mark { result.mark ≡ self.mark }
+        ensures left { OpenStay self result }
+        ensures right { OpenStay other result }
     {
         let SharedPass {
             cell,
             pass: left,
+            batches,
             callers,
             mark,
         } = self;
         let SharedPass {
             cell: _,
             pass: right,
+            batches: more,
             callers: _,
             mark: _,
         } = other;
         let pass = cell.join(left, right);
+        let batches = joined(batches, more);
         SharedPass {
             cell,
             pass,
+            batches,
             callers,
             mark,
         }
     }
 
-    /// Takes the cell apart where the pass has all callers and no other handle has a share of the cell.
-    pub fn finish(self) -> Result<Node, SharedPass>
+    /// Takes the cell apart where the pass has all callers, none has a batch open, and no other handle has a share of the
+    /// cell.
+    pub fn finish(self) -> Result<Node, (SharedPass, PassFault)>
         ensures all { IfOk result (λ node. HasAll self.pass) }
+        ensures shut { IfOk result (λ node. IsShut self) }
         ensures shape { IfOk result (λ node. node.shape ≡ self.pass.shape) }
         ensures journal { IfOk result (λ node. node.journal ≡ self.pass.front) }
-        ensures same { IfErr result (λ s. s ≡ self) }
+        ensures same { IfErr result (λ e. e.0 ≡ self) }
+        ensures why { IfErr result (λ e. ((e.1 ≡ PassFault.Plain Fault.BatchOpen) × HasOpen self) ⊎ (e.1 ≡ PassFault.BadPass)) }
     {
+        let (first, end) = self.pass.callers();
+        if first != 0 || end != self.callers {
+            return Err((self, PassFault::BadPass));
+        }
+        if some_open(&self.batches) {
+            return Err((self, PassFault::Plain(Fault::BatchOpen)));
+        }
         let SharedPass {
             cell,
             pass,
+            batches,
             callers,
             mark,
         } = self;
-        let (first, end) = pass.callers();
-        if first != 0 || end != callers {
-            return Err(SharedPass {
-                cell,
-                pass,
-                callers,
-                mark,
-            });
-        }
         match Arc::try_unwrap(cell) {
             Ok(cell) => Ok(cell.finish(pass)),
-            Err(cell) => Err(SharedPass {
-                cell,
-                pass,
-                callers,
-                mark,
-            }),
+            Err(cell) => {
+                let same = SharedPass {
+                    cell,
+                    pass,
+                    batches,
+                    callers,
+                    mark,
+                };
+                Err((same, PassFault::BadPass))
+            }
         }
     }
 }

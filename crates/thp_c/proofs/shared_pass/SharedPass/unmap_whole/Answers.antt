@@ -1,4 +1,5 @@
--- What is recorded is what the cell's call recorded.
+-- The open batches stay, and what is recorded is what the cell's call recorded.
+use Rattle.thp_c.proofs.Opened.{shared_stays}
 use Rattle.thp_c.proofs.shared_pass.SharedPass.unmap_whole.Goals as goal
 use Rattle.thp_c.proofs.shared_pass.SharedPass.unmap_whole.Goals.{in-Ok, in-Err-Busy, in-Err-Refused}
 
@@ -9,3 +10,6 @@ returns-clause-recorded c =
       | in-Err-Busy w ↦ rw w.result-is tt
       | in-Err-Refused w ↦ rw w.result-is tt
     ]
+
+pub invariant_of-self : goal.invariant_of-self
+invariant_of-self c = shared_stays _ _ _ c.self.inside.pass c.unmap_whole.new.pass _ c.self.invariant c.unmap_whole.ensures.same c.unmap_whole.ensures.batches

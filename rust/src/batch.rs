@@ -1,0 +1,118 @@
+//! The open batch of one caller, as a value.
+use crate::fault::Fault;
+use crate::node::{Back, Node, Tried};
+use crate::pass::Pass;
+
+/// What has batches: a [`Node`], or a [`Pass`] to a shared one.
+pub trait HasBatches: sealed::Calls {}
+
+impl HasBatches for Node {}
+impl HasBatches for Pass {}
+
+mod sealed {
+    use super::{Back, Fault, Node, Pass, Tried};
+
+    /// The calls about open batches, by caller.
+    pub trait Calls {
+        fn split_next(&mut self, caller: u32) -> Result<Tried, Fault>;
+        fn put_back(&mut self, caller: u32) -> Result<Back, Fault>;
+        fn abandon(&mut self, caller: u32) -> Result<(), Fault>;
+    }
+
+    impl Calls for Node {
+        fn split_next(&mut self, caller: u32) -> Result<Tried, Fault> {
+            Node::split_next(self, caller)
+        }
+
+        fn put_back(&mut self, caller: u32) -> Result<Back, Fault> {
+            Node::put_back(self, caller)
+        }
+
+        fn abandon(&mut self, caller: u32) -> Result<(), Fault> {
+            Node::abandon(self, caller)
+        }
+    }
+
+    impl Calls for Pass {
+        fn split_next(&mut self, caller: u32) -> Result<Tried, Fault> {
+            Pass::split_next(self, caller)
+        }
+
+        fn put_back(&mut self, caller: u32) -> Result<Back, Fault> {
+            Pass::put_back(self, caller)
+        }
+
+        fn abandon(&mut self, caller: u32) -> Result<(), Fault> {
+            Pass::abandon(self, caller)
+        }
+    }
+}
+
+/// The open batch of a caller: pages that it took off the queue together.
+///
+/// A batch that is dropped is put back. Where that fails (another pass has the node, or memory lacks) it stays open, and the
+/// caller's `put_back` on what it was taken from returns it later.
+///
+/// ```
+/// use leversorrel::{Fault, Node, Tried};
+///
+/// let mut node = Node::new(16, 9, None)?;
+/// let page = node.alloc(0)?;
+/// node.split_pmd(0, page)?;
+/// node.unmap_sub(0, page, 0, 256)?;
+/// let mut batch = node.batch(1, 8)?;
+/// assert_eq!(batch.taken(), 1);
+/// assert_eq!(batch.split_next()?, Tried::Split(page));
+/// drop(batch);
+/// assert_eq!(node.put_back(1), Err(Fault::NoBatch));
+/// # Ok::<(), Fault>(())
+/// ```
+pub struct Batch<'a, H: HasBatches> {
+    of: &'a mut H,
+    caller: u32,
+    taken: u32,
+    is_open: bool,
+}
+
+impl<'a, H: HasBatches> Batch<'a, H> {
+    // The batch that the caller has open.
+    pub(crate) fn new(of: &'a mut H, caller: u32, taken: u32) -> Batch<'a, H> {
+        Batch { of, caller, taken, is_open: true }
+    }
+
+    /// How many pages were taken.
+    pub fn taken(&self) -> u32 {
+        self.taken
+    }
+
+    /// Tries the next page that is still in flight.
+    pub fn split_next(&mut self) -> Result<Tried, Fault> {
+        self.of.split_next(self.caller)
+    }
+
+    /// Returns the pages that are left. After an error it is as it was: the error hands it back.
+    pub fn put_back(mut self) -> Result<Back, (Self, Fault)> {
+        match self.of.put_back(self.caller) {
+            Ok(back) => {
+                self.is_open = false;
+                Ok(back)
+            }
+            Err(fault) => Err((self, fault)),
+        }
+    }
+
+    /// Leaves the pages in flight, out of the queue.
+    pub fn abandon(mut self) -> Result<(), Fault> {
+        self.is_open = false;
+        self.of.abandon(self.caller)
+    }
+}
+
+impl<H: HasBatches> Drop for Batch<'_, H> {
+    fn drop(&mut self) {
+        if self.is_open {
+            // where it fails the batch stays open, as the type's description says
+            let _ = self.of.put_back(self.caller);
+        }
+    }
+}
