@@ -2,10 +2,13 @@
 
 from __future__ import annotations
 
+import fcntl
 import os
 import pty
 import re
+import struct
 import subprocess
+import termios
 import time
 import tty
 from dataclasses import dataclass
@@ -13,6 +16,7 @@ from pathlib import Path
 from typing import Iterator, Optional
 
 from process import Call, Ended, Sink, Source, run, shown
+from tally import Missing
 
 ASKED = ("--progress",)
 REMOVAL = b"\r\x1b[K"
@@ -21,8 +25,8 @@ REMOVAL = b"\r\x1b[K"
 PART = 65_536
 """So many bytes of a file are read at a time."""
 
-PAUSE = 1.3
-"""Seconds between the halves of a slow input: a line is due a second after the one before."""
+PAUSE = 1.5
+"""Seconds from where the first half of a slow input was read to the second: a line is due a second after the one before."""
 
 SECONDS = 60
 """A slow run that takes longer counts as one that never ends."""
@@ -81,25 +85,45 @@ class Slow:
 
     def ended(self, program: Path) -> Ended:
         """How the run ends; its standard error is a pseudo-terminal, or a pipe."""
-        reader, writer = pty.openpty() if self.terminal else os.pipe()
-        if self.terminal:
-            tty.setraw(writer)
-        child = subprocess.Popen([program, *self.words], stdin=subprocess.PIPE, stdout=subprocess.PIPE, stderr=writer)
+        reader, writer = terminal() if self.terminal else os.pipe()
+        given, giver = os.pipe()
+        first, *others = self.halves
+        os.write(giver, first)
+        child = subprocess.Popen([program, *self.words], stdin=given, stdout=subprocess.PIPE, stderr=writer)
         os.close(writer)
         try:
-            for number, half in enumerate(self.halves):
-                time.sleep(PAUSE if number else 0)
-                child.stdin.write(half)
-                child.stdin.flush()
+            for half in others:
+                wait_for_none(given)
+                time.sleep(PAUSE)
+                os.write(giver, half)
+            os.close(giver)
             output, _ = child.communicate(timeout=SECONDS)
-            errors = all_of(reader)
+            return Ended(child.returncode, output, all_of(reader))
         except subprocess.TimeoutExpired:
             child.kill()
             child.communicate()
             return Ended(-9)
         finally:
+            os.close(given)
             os.close(reader)
-        return Ended(child.returncode, output, errors)
+
+
+def terminal() -> tuple[int, int]:
+    """A pseudo-terminal that hands on each byte as it is: the side that reads what is shown, and that of a program."""
+    try:
+        reader, writer = pty.openpty()
+    except OSError as error:
+        raise Missing("no pseudo-terminal can be had") from error
+    tty.setraw(writer)
+    return reader, writer
+
+
+def wait_for_none(pipe: int) -> None:
+    """Waits until all that was written to a pipe has been read."""
+    for _ in range(SECONDS * 100):
+        if struct.unpack("i", fcntl.ioctl(pipe, termios.FIONREAD, bytes(4))) == (0,):
+            return
+        time.sleep(0.01)
 
 
 def all_of(reader: int) -> bytes:
