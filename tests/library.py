@@ -318,7 +318,8 @@ def builds(tally: Tally, built: Built) -> None:
             tally.run(f"{name}: {compiler} {' '.join(words)}", lambda: built.test(name, compiler, words, []))
     for name in ("demos/threads.c", "demos/cell.c", "tests/interrupted.c", "tests/busy.c"):
         tally.run(f"{name}: gcc -fsanitize=thread", lambda: built.test(name, "gcc", RACING, []))
-    under = ["valgrind", "-q", "--error-exitcode=9", "--leak-check=full", "--errors-for-leak-kinds=all"]
+    # valgrind runs one thread at a time: without fair turns, on an idle machine, one that never blocks keeps all others waiting
+    under = ["valgrind", "-q", "--fair-sched=try", "--error-exitcode=9", "--leak-check=full", "--errors-for-leak-kinds=all"]
     for name in TESTS:
         tally.run(f"{name}: under valgrind", lambda: built.test(name, "gcc", ["-std=gnu11"], under))
     tally.run("the header's documents", built.documents)
