@@ -1,5 +1,5 @@
 -- What is drawn of a node.
-use Rattle.std.specs.Prelude.{◌≡◌, List, length}
+use Rattle.std.specs.Prelude.{◌≡◌, List, Option, None, length}
 use Rattle.thp_model.specs.declared.shape.Shape.{Shape}
 use Rattle.thp_model.specs.History.{History}
 use Rattle.thp_series.specs.declared.numbers.Numbers.{Numbers}
@@ -18,3 +18,4 @@ pub record IsDrawn (s : Shape) (h : History) (node : DrawnNode) : Type 0 where
   pub shape : node.shape ≡ s
   pub columns : AreColumnsOf (series s h) node
   pub last : node.last ≡ numbers_at s h
+  pub illegal : node.illegal ≡ None

@@ -2,6 +2,7 @@
 ghost use Rattle.std.specs.Prelude.{◌≡◌};
 ghost use Rattle.thp_drawing.specs.Drawn.{AreColumnsOf, IsDrawn};
 
+use crate::illegal_event::IllegalEvent;
 use thp_model::Shape;
 use thp_series::{Column, Columns, NodeSeries, Numbers};
 
@@ -18,6 +19,8 @@ pub struct DrawnNode {
     pub columns: Vec<Column>,
     /// The numbers behind the last event.
     pub last: Numbers,
+    /// The first event that doesn't fit those before it, where there is one.
+    pub illegal: Option<IllegalEvent>,
 }
 
 impl DrawnNode {
@@ -27,13 +30,19 @@ impl DrawnNode {
         ensures { IsDrawn shape node.history result }
     {
         let last = node.numbers();
-        DrawnNode::from_columns(shape, node.into_columns(), last)
+        DrawnNode::from_columns(shape, node.into_columns(), last, None)
     }
 
-    /// What is drawn of a node of this shape, of columns and the numbers behind the last event.
-    pub fn from_columns(shape: Shape, columns: Columns, last: Numbers) -> DrawnNode
+    /// What is drawn of a node of this shape, of columns, the numbers behind the last event, and the first event that doesn't fit.
+    pub fn from_columns(
+        shape: Shape,
+        columns: Columns,
+        last: Numbers,
+        illegal: Option<IllegalEvent>,
+    ) -> DrawnNode
         ensures shape { result.shape ≡ shape }
         ensures last { result.last ≡ last }
+        ensures illegal { result.illegal ≡ illegal }
         ensures columns { AreColumnsOf columns result }
     {
         DrawnNode {
@@ -42,6 +51,7 @@ impl DrawnNode {
             width: columns.width(),
             columns: columns.into_columns(),
             last,
+            illegal,
         }
     }
 }
