@@ -15,7 +15,7 @@ mod replay;
 mod tally;
 
 pub use checking::check;
-pub use live_page::LivePage;
+pub use live_page::{LivePage, Whereabouts};
 pub use misfit::Misfit;
 pub use replay::Replay;
 pub use thp_model::CheckFault;

@@ -31,6 +31,17 @@ pub struct LivePage {
     pub held: SubSet,
 }
 
+/// Where a page that lives is in its life, as the events so far leave it: what [`LivePage`] tells of that, and no set.
+#[derive(Clone, Copy, Debug, PartialEq, Eq)]
+pub struct Whereabouts {
+    /// Where it stands: in the queue, in a caller's batch, or nowhere.
+    pub standing: Standing,
+    /// Whether it was split into base pages.
+    pub split: bool,
+    /// Whether it is partly mapped: an unmap took a subpage out of use and left another in use.
+    pub partly_mapped: bool,
+}
+
 impl LivePage {
     // What there is to tell of a page in a block, which stands there. The shrinker splits underused pages where there is a
     // threshold.

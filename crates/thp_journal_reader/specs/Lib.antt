@@ -8,6 +8,7 @@ pub mod Reading
 pub mod Answers
 pub mod Parts
 pub mod PastLines
+pub mod Ahead
 pub mod Checking
 pub mod Summaries
 pub mod Summing

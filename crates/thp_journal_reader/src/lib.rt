@@ -3,6 +3,7 @@
 
 mod checked_nodes;
 mod checking;
+mod event_ahead;
 mod event_line;
 mod event_reader;
 mod event_word;

@@ -1,12 +1,15 @@
 //! Journals from bytes that come in parts, whatever is kept of their nodes.
-ghost use Rattle.std.specs.Prelude.{◌≡◌, ◌≤◌, ◌+◌, ◌++◌, Ok, Err, [], IfOk, IfNone, IfSome};
-ghost use Rattle.thp_journal_reader.specs.Parts.{journals_in, so_far, told_with};
+ghost use Rattle.std.specs.Prelude.{◌≡◌, ◌≤◌, ◌+◌, ◌++◌, Ok, Err, [], IfOk, IfNone, IfSome, length};
+ghost use Rattle.thp_journal_reader.specs.Parts.{journals_in, lines_tell, so_far, told_with};
 ghost use Rattle.thp_journal_reader.specs.Reading.{fault_at};
 ghost use Rattle.thp_journal_reader.specs.declared.place.Place.TheVariants.{Start};
 ghost use Rattle.thp_text.specs.Lines.{fault_behind};
+ghost use Rattle.thp_text.specs.TextInParts.{told_behind, IsCounted};
 ghost use Rattle.thp_text.specs.Words.{Text};
 
+use crate::event_ahead::event_ahead;
 use crate::keeps_nodes::KeepsNodes;
+use crate::line::Line;
 use crate::place::{Place, line_in, place_after};
 use std::alloc::{AllocError, Global};
 use thp_text::{TextInParts, TextKind, WholeLine, fault_behind};
@@ -20,6 +23,44 @@ fn fault_at(behind: &[u8], place: Place) -> Option<TextKind>
         (None, Place::Ended { .. }) => None,
         (None, _) => Some(TextKind::Cut),
     }
+}
+
+/// Adds the events at the front of what is left of a part, line by line up to the first line that isn't read ahead, and gives what
+/// is left then.
+fn add_ahead<'p, N: KeepsNodes>(
+    alloc: Global,
+    nodes: &mut N,
+    place: Place,
+    text: &mut TextInParts,
+    part: &'p [u8],
+) -> Result<&'p [u8], AllocError>
+    requires along { N.goes_along text.old.line nodes.old }
+    requires limit { text.old.most ≤ N.last_line }
+    requires counted { IsCounted part.now text.old }
+    ensures tells { IfOk result (λ rest. (more : Text) → told_behind text.new more (lines_tell (N.told nodes.new) place text.new.line (text.new.begun ++ (rest.now ++ more))) ≡ told_behind text.old more (lines_tell (N.told nodes.old) place text.old.line (text.old.begun ++ (part.now ++ more)))) }
+    ensures along { IfOk result (λ _. N.goes_along text.new.line nodes.new) }
+    ensures counted { IfOk result (λ rest. IsCounted rest.now text.new) }
+    ensures most { IfOk result (λ _. text.new.most ≡ text.old.most) }
+    ensures shorter { IfOk result (λ rest. length rest.now ≤ length part.now) }
+{
+    let Place::Inside {
+        version,
+        nodes: told,
+    } = place
+    else {
+        return Ok(part);
+    };
+    if told == 0 || !text.begins_line() {
+        return Ok(part);
+    }
+    let mut rest = part;
+    while let Some((event, after)) = event_ahead(version, rest) {
+        let (number, _) = text.last_line();
+        nodes.add(alloc, number, &Line::Happened(event))?;
+        text.pass_line();
+        rest = after;
+    }
+    Ok(rest)
 }
 
 /// What was read of a text of journals. Of the text it keeps no more than the line begun.
@@ -62,7 +103,8 @@ impl<N: KeepsNodes + Drop> TextReader<N> {
             mut place,
             mut text,
         } = self;
-        let mut rest = text.next_part(part);
+        let rest = text.next_part(part);
+        let mut rest = add_ahead(alloc, &mut nodes, place, &mut text, rest)?;
         while let Some(WholeLine { number, bytes }) = text.next_line(&mut rest)? {
             let said = line_in(place, bytes.as_slice());
             drop(bytes);
@@ -70,6 +112,7 @@ impl<N: KeepsNodes + Drop> TextReader<N> {
                 Ok(said) => {
                     nodes.add(alloc, number, &said)?;
                     place = place_after(place, &said);
+                    rest = add_ahead(alloc, &mut nodes, place, &mut text, rest)?;
                 }
                 Err(kind) => {
                     text.note_fault(kind);

@@ -23,7 +23,7 @@ use Rattle.thp_live_pages.specs.Homes.{standing_of}
 use Rattle.thp_live_pages.specs.PlacesState.{is_nowhere}
 use Rattle.thp_live_pages.proofs.Standings.{batch_has, queued_has, stands_is}
 use Rattle.thp_series.specs.declared.stage.Stage.TheVariants.{InBatch}
-use Rattle.thp_series.specs.Following.{page_of}
+use Rattle.thp_journal_writer.specs.EventLines.{page_told}
 use Rattle.thp_series.specs.Stages.{pages_in, stage_by, stage_of}
 use Rattle.thp_series.proofs.Moving.{count_moves, count_stays, one}
 
@@ -49,7 +49,7 @@ free_moves p outcome.Queued fs = refl
 free_moves p outcome.Stays fs = refl
 
 -- what an event takes out of the flights, or puts there, is of its page
-flights_move : (c : ℕ) (w : What) (p : ℕ) (fs : List (ℕ × ℕ)) → page_of w ≡ Some p → length (flights_after fs c w) + flying p fs ≡ length fs + flying p (flights_after fs c w)
+flights_move : (c : ℕ) (w : What) (p : ℕ) (fs : List (ℕ × ℕ)) → page_told w ≡ Some p → length (flights_after fs c w) + flying p fs ≡ length fs + flying p (flights_after fs c w)
 flights_move c (what.Taken q) p fs is =
     let same : nat_eq q p ≡ true = eq-eqb q p cc in
     omega (arith, length-append fs ((c, q) ∷ []), flying_push p q c fs, ap (λ b. cond {A = ℕ} b 1 0) same)
@@ -76,7 +76,7 @@ flights_move c (what.Dropped q) p fs is =
     subst P (sym cc) (leave_moves c p fs)
 flights_move c w p fs is = refl
 
-none_moves : (c : ℕ) (w : What) (fs : List (ℕ × ℕ)) → page_of w ≡ None → flights_after fs c w ≡ fs
+none_moves : (c : ℕ) (w : What) (fs : List (ℕ × ℕ)) → page_told w ≡ None → flights_after fs c w ≡ fs
 none_moves c what.Close fs e = refl
 none_moves c (what.Alloc r b) fs e = absurd (cc)
 none_moves c (what.MapWhole r) fs e = absurd (cc)
@@ -146,11 +146,11 @@ unfolding flights count_of sum_below
 none_in_batches s = record { legal = legal_none s; same = refl }
 
 more_in_batches : (s : Shape) (h : History) (e : Event) → Batches s h → Fits s h e → Batches s (h ++ e ∷ [])
-more_in_batches s h e b f = record { legal = legal; same = go (page_of e.what) refl } where
+more_in_batches s h e b f = record { legal = legal; same = go (page_told e.what) refl } where
   legal : IsLegal s (h ++ e ∷ [])
   legal = legal_push s h e b.legal f
 
-  go : (o : Option ℕ) → page_of e.what ≡ o → pages_in s (h ++ e ∷ []) InBatch ≡ length (flights (h ++ e ∷ []))
+  go : (o : Option ℕ) → page_told e.what ≡ o → pages_in s (h ++ e ∷ []) InBatch ≡ length (flights (h ++ e ∷ []))
   go (Some p) is = omega (
     arith,
     count_moves s h e.caller e.what p InBatch b.legal f is,

@@ -25,7 +25,8 @@ use Rattle.thp_series.specs.declared.numbers.Numbers.{Numbers}
 use Rattle.thp_series.specs.declared.pages.Pages.{Pages}
 use Rattle.thp_series.specs.declared.stage.Stage.{Stage}
 use Rattle.thp_series.specs.declared.stage.Stage.TheVariants.{Allocated, PartlyMapped, Queued, InBatch, Split}
-use Rattle.thp_series.specs.Following.{count_in, entered, left, page_of, GoesAlong, MayEnter, MayLeave}
+use Rattle.thp_journal_writer.specs.EventLines.{page_told}
+use Rattle.thp_series.specs.Following.{count_in, entered, left, GoesAlong, MayEnter, MayLeave}
 use Rattle.thp_series.specs.Series.{numbers_at, series}
 use Rattle.thp_series.specs.Stages.{is_stage, pages_at, pages_in, stage_by, stage_of}
 use Rattle.thp_series.proofs.Batches.{in_batches_are}
@@ -196,19 +197,19 @@ may_enter s h n m o (Some x) same few may is =
     omega (arith, ap (λ (k : Pages). count_in k x) is, count_left n x o may, ap (λ (k : Pages). count_in k x) same, count_at s h x, no_more (allocations h) (λ i. is_stage x (stage_of s h i)), few_events is_alloc h, few)
 
 -- how many pages are in each stage, with one more event
-pages_push : (s : Shape) (h : History) (e : Event) (n : Pages) (o u : Option Stage) → IsLegal s h → Fits s h e → n ≡ pages_at s h → MayLeave n o → o ≡ option_and_then (stage_of s h) (page_of e.what) → u ≡ option_and_then (stage_of s (h ++ e ∷ [])) (page_of e.what) →
+pages_push : (s : Shape) (h : History) (e : Event) (n : Pages) (o u : Option Stage) → IsLegal s h → Fits s h e → n ≡ pages_at s h → MayLeave n o → o ≡ option_and_then (stage_of s h) (page_told e.what) → u ≡ option_and_then (stage_of s (h ++ e ∷ [])) (page_told e.what) →
     entered (left n o) u ≡ pages_at s (h ++ e ∷ [])
 pages_push s h e n o u l f same may before after = same_pages (entered (left n o) u) (pages_at s k) (λ x.
-    omega (arith, count_entered (left n o) x u, count_left n x o may, ap (λ (m : Pages). count_in m x) same, count_at s h x, count_at s k x, ap (one x) before, ap (one x) after, by_page x (page_of e.what) refl)) where
+    omega (arith, count_entered (left n o) x u, count_left n x o may, ap (λ (m : Pages). count_in m x) same, count_at s h x, count_at s k x, ap (one x) before, ap (one x) after, by_page x (page_told e.what) refl)) where
       k : History
       k = h ++ e ∷ []
 
-      by_page : (x : Stage) (page : Option ℕ) → page_of e.what ≡ page → pages_in s k x + one x (option_and_then (stage_of s h) page) ≡ pages_in s h x + one x (option_and_then (stage_of s k) page)
+      by_page : (x : Stage) (page : Option ℕ) → page_told e.what ≡ page → pages_in s k x + one x (option_and_then (stage_of s h) page) ≡ pages_in s h x + one x (option_and_then (stage_of s k) page)
       by_page x (Some p) is = count_moves s h e.caller e.what p x l f is
       by_page x None is = ap (λ i. i + 0) (count_stays s h e x f is)
 
 pub goes_on : (r t : Replayed) (e : Event) (m v : Pages) (cs ds : List Numbers) (old new : Numbers) (o u : Option Stage) → GoesAlong r old cs → t ≡ with_event r e → Fits r.shape r.history e →
-    MayLeave old.pages o → o ≡ option_and_then (stage_of r.shape r.history) (page_of e.what) → u ≡ option_and_then (stage_of t.shape t.history) (page_of e.what) →
+    MayLeave old.pages o → o ≡ option_and_then (stage_of r.shape r.history) (page_told e.what) → u ≡ option_and_then (stage_of t.shape t.history) (page_told e.what) →
     m ≡ left old.pages o → v ≡ entered m u → (IsLegal t.shape t.history → v ≡ pages_at t.shape t.history → new ≡ numbers_at t.shape t.history) → ds ≡ cs ++ new ∷ [] → GoesAlong t new ds
 goes_on r t e m v cs ds old new o u along is f may before after leaves enters told more =
     let s : Shape = r.shape in
@@ -216,7 +217,7 @@ goes_on r t e m v cs ds old new o u along is f may before after leaves enters to
     let legal : IsLegal s (h ++ e ∷ []) = legal_push s h e along.legal f in
     let pages : v ≡ pages_at s (h ++ e ∷ []) =
     enters ∙ ap (λ (k : Pages). entered k u) leaves
-    ∙ pages_push s h e old.pages o u along.legal f (ap (λ (n : Numbers). n.pages) along.numbers_are) may before (after ∙ ap (λ (x : Replayed). option_and_then (stage_of x.shape x.history) (page_of e.what)) is) in
+    ∙ pages_push s h e old.pages o u along.legal f (ap (λ (n : Numbers). n.pages) along.numbers_are) may before (after ∙ ap (λ (x : Replayed). option_and_then (stage_of x.shape x.history) (page_told e.what)) is) in
     let numbers_is : new ≡ numbers_at s (h ++ e ∷ []) =
     subst (λ (x : Replayed). IsLegal x.shape x.history → v ≡ pages_at x.shape x.history → new ≡ numbers_at x.shape x.history) is told legal pages in
     subst (λ (x : Replayed). GoesAlong x new ds) (sym is) (record {

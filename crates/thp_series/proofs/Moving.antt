@@ -19,7 +19,7 @@ use Rattle.thp_model.proofs.Untouched.{Untouched, untouched}
 use Rattle.thp_live_pages.specs.Homes.{standing_of}
 use Rattle.thp_live_pages.proofs.Standings.{names, standing_other}
 use Rattle.thp_series.specs.declared.stage.Stage.{Stage}
-use Rattle.thp_series.specs.Following.{page_of}
+use Rattle.thp_journal_writer.specs.EventLines.{page_told}
 use Rattle.thp_series.specs.Stages.{is_stage, pages_in, stage_by, stage_of}
 
 -- sums of two functions that differ at p alone
@@ -60,7 +60,7 @@ apart : (p q r : ℕ) → Some r ≡ Some p → (q ≢ p) → nat_eq q r ≡ fal
 apart p q r e n = let same : r ≡ p = cc in ne_eqb q r (λ z. n (z ∙ same))
 
 -- an event names no page but that which it is about
-not_named : (w : What) (p q : ℕ) → page_of w ≡ Some p → (q ≢ p) → names q w ≡ false
+not_named : (w : What) (p q : ℕ) → page_told w ≡ Some p → (q ≢ p) → names q w ≡ false
 not_named (what.Alloc r b) p q e n = apart p q r e n
 not_named (what.MapWhole r) p q e n = apart p q r e n
 not_named (what.UnmapWhole o r set) p q e n = apart p q r e n
@@ -79,7 +79,7 @@ not_named (what.Back r) p q e n = apart p q r e n
 not_named (what.Dropped r) p q e n = apart p q r e n
 not_named what.Close p q e n = refl
 
-none_named : (w : What) (q : ℕ) → page_of w ≡ None → names q w ≡ false
+none_named : (w : What) (q : ℕ) → page_told w ≡ None → names q w ≡ false
 none_named what.Close q e = refl
 none_named (what.Alloc r b) q e = absurd (cc)
 none_named (what.MapWhole r) q e = absurd (cc)
@@ -120,10 +120,10 @@ unborn_still s h e p l none high = go (is_live (h ++ e ∷ []) p) refl where
   go true y = absurd (let was : is_live h p ≡ true = live_back h e p (no_alloc p e.what none) y in let isnt : is_live h p ≡ false = unborn s h p l high in cc)
 
 -- others keep their stage
-others_stay : (s : Shape) (h : History) (e : Event) (p : ℕ) (x : Stage) → Fits s h e → page_of e.what ≡ Some p → (i : ℕ) → (i ≢ p) → one x (stage_of s (h ++ e ∷ []) i) ≡ one x (stage_of s h i)
+others_stay : (s : Shape) (h : History) (e : Event) (p : ℕ) (x : Stage) → Fits s h e → page_told e.what ≡ Some p → (i : ℕ) → (i ≢ p) → one x (stage_of s (h ++ e ∷ []) i) ≡ one x (stage_of s h i)
 others_stay s h e p x f is i n = ap (one x) (stage_stays s h e i f (not_named e.what p i is n))
 
-moves_old : (s : Shape) (h : History) (e : Event) (p : ℕ) (x : Stage) → IsLegal s h → Fits s h e → is_alloc e.what ≡ false → page_of e.what ≡ Some p →
+moves_old : (s : Shape) (h : History) (e : Event) (p : ℕ) (x : Stage) → IsLegal s h → Fits s h e → is_alloc e.what ≡ false → page_told e.what ≡ Some p →
     pages_in s (h ++ e ∷ []) x + one x (stage_of s h p) ≡ pages_in s h x + one x (stage_of s (h ++ e ∷ []) p)
 moves_old s h e p x l f none is =
     let old : ℕ → ℕ = λ i. one x (stage_of s h i) in
@@ -137,7 +137,7 @@ moves_old s h e p x l f none is =
           omega (arith, same, none_counts s h p x (unborn s h p l high), none_counts s (h ++ e ∷ []) p x (unborn_still s h e p l none high))
     ]
 
-moves_new : (s : Shape) (h : History) (e : Event) (p : ℕ) (x : Stage) → IsLegal s h → Fits s h e → is_alloc e.what ≡ true → page_of e.what ≡ Some p → p ≡ allocations h →
+moves_new : (s : Shape) (h : History) (e : Event) (p : ℕ) (x : Stage) → IsLegal s h → Fits s h e → is_alloc e.what ≡ true → page_told e.what ≡ Some p → p ≡ allocations h →
     pages_in s (h ++ e ∷ []) x + one x (stage_of s h p) ≡ pages_in s h x + one x (stage_of s (h ++ e ∷ []) p)
 moves_new s h e p x l f one_more is number =
     let old : ℕ → ℕ = λ i. one x (stage_of s h i) in
@@ -149,7 +149,7 @@ moves_new s h e p x l f one_more is number =
     omega (arith, grown, same, last, none_counts s h p x (unborn s h p l (omega (arith, number))))
 
 -- of the page that an event is about the stage before and that after it is counted, and nothing else changes
-pub count_moves : (s : Shape) (h : History) (c : ℕ) (w : What) (p : ℕ) (x : Stage) → IsLegal s h → Fits s h (by c w) → page_of w ≡ Some p →
+pub count_moves : (s : Shape) (h : History) (c : ℕ) (w : What) (p : ℕ) (x : Stage) → IsLegal s h → Fits s h (by c w) → page_told w ≡ Some p →
     pages_in s (h ++ by c w ∷ []) x + one x (stage_of s h p) ≡ pages_in s h x + one x (stage_of s (h ++ by c w ∷ []) p)
 count_moves s h c (what.Alloc q b) p x l f is =
     let same : p ≡ q = cc in
@@ -171,12 +171,12 @@ count_moves s h c (what.Back r) p x l f is = moves_old s h (by c (what.Back r)) 
 count_moves s h c (what.Dropped r) p x l f is = moves_old s h (by c (what.Dropped r)) p x l f refl is
 count_moves s h c what.Close p x l f is = absurd (cc)
 
-no_page : (w : What) → page_of w ≡ None → is_alloc w ≡ false
+no_page : (w : What) → page_told w ≡ None → is_alloc w ≡ false
 no_page (what.Alloc p b) e = absurd (cc)
 no_page w e = refl
 
 -- an event about no page leaves all in their stages
-pub count_stays : (s : Shape) (h : History) (e : Event) (x : Stage) → Fits s h e → page_of e.what ≡ None → pages_in s (h ++ e ∷ []) x ≡ pages_in s h x
+pub count_stays : (s : Shape) (h : History) (e : Event) (x : Stage) → Fits s h e → page_told e.what ≡ None → pages_in s (h ++ e ∷ []) x ≡ pages_in s h x
 count_stays s h e x f none =
     ap (λ m. count_below m (λ i. is_stage x (stage_of s (h ++ e ∷ []) i))) (count_same is_alloc h e (no_page e.what none))
     ∙ sum_below-ext (allocations h) (λ i. one x (stage_of s (h ++ e ∷ []) i)) (λ i. one x (stage_of s h i)) (λ i low. ap (one x) (stage_stays s h e i f (none_named e.what i none)))

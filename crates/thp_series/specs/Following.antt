@@ -1,7 +1,5 @@
 -- What is kept of a node while its events come. No public clause cites this module.
 use Rattle.std.specs.Prelude.{◌≡◌, ℕ, ◌+◌, ◌-◌, ◌<◌, ◌^◌, List, Option, Some, None}
-use Rattle.thp_model.specs.declared.events.What.{What}
-use Rattle.thp_model.specs.declared.events.What.TheVariants as what
 use Rattle.thp_model.specs.Legal.{IsLegal}
 use Rattle.thp_check.specs.Replays.{Replayed}
 use Rattle.thp_series.specs.declared.numbers.Numbers.{Numbers}
@@ -9,26 +7,6 @@ use Rattle.thp_series.specs.declared.pages.Pages.{Pages}
 use Rattle.thp_series.specs.declared.stage.Stage.{Stage}
 use Rattle.thp_series.specs.declared.stage.Stage.TheVariants.{Allocated, PartlyMapped, Queued, InBatch, Split}
 use Rattle.thp_series.specs.Series.{numbers_at, series}
-
--- the page that an event is about
-abbrev pub page_of : What → Option ℕ
-page_of (what.Alloc p block) = Some p
-page_of (what.MapWhole p) = Some p
-page_of (what.UnmapWhole outcome p set) = Some p
-page_of (what.MapSub p first count) = Some p
-page_of (what.UnmapSub outcome p first count set) = Some p
-page_of (what.SplitPmd p) = Some p
-page_of (what.Pin p) = Some p
-page_of (what.Unpin outcome p set) = Some p
-page_of (what.Write p first count) = Some p
-page_of (what.Zero p first count) = Some p
-page_of (what.Taken p) = Some p
-page_of (what.Split p set) = Some p
-page_of (what.Pinned p) = Some p
-page_of (what.Used p) = Some p
-page_of (what.Back p) = Some p
-page_of (what.Dropped p) = Some p
-page_of what.Close = None
 
 abbrev pub count_in : Pages → Stage → ℕ
 count_in n Allocated = n.allocated

@@ -4,9 +4,9 @@ ghost use Rattle.std.specs.Option.{option_and_then};
 ghost use Rattle.thp_model.specs.BlockLaws.{least_free};
 ghost use Rattle.thp_model.specs.Legal.{Fits, IsLegal};
 ghost use Rattle.thp_model.specs.Limits.{max_order, min_order};
+ghost use Rattle.thp_journal_writer.specs.EventLines.{page_told};
 ghost use Rattle.thp_check.specs.Reasons.{Explains};
 ghost use Rattle.thp_check.specs.Replays.{with_event};
-ghost use Rattle.thp_series.specs.Following.{page_of};
 ghost use Rattle.thp_series.specs.Series.{numbers_at, series};
 ghost use Rattle.thp_series.specs.Stages.{pages_at, stage_of};
 
@@ -17,7 +17,8 @@ use crate::stage::{Stage, stage_of};
 use std::alloc::{AllocError, Global};
 use std::marker::Model;
 use thp_check::{Misfit, Replay};
-use thp_model::{Event, PageId, Shape, What};
+use thp_journal_writer::page_told;
+use thp_model::{Event, Shape, What};
 
 /// A node whose events come one by one, with its numbers at each prefix of them in columns.
 ///
@@ -145,32 +146,7 @@ fn numbers_of(replay: &Replay, pages: Pages) -> Numbers
 
 // The stage of the page that an event is about, if it is about one.
 fn stage_in(replay: &Replay, what: &What) -> Option<Stage>
-    ensures { result ≡ option_and_then (stage_of replay.now.shape replay.now.history) (page_of what.now) }
+    ensures { result ≡ option_and_then (stage_of replay.now.shape replay.now.history) (page_told what.now) }
 {
-    stage_of(replay, page_of(what)?)
-}
-
-// The page that an event is about.
-fn page_of(what: &What) -> Option<PageId>
-    ensures { result ≡ page_of what.now }
-{
-    match *what {
-        What::Alloc { page, .. }
-        | What::MapWhole { page }
-        | What::UnmapWhole { page, .. }
-        | What::MapSub { page, .. }
-        | What::UnmapSub { page, .. }
-        | What::SplitPmd { page }
-        | What::Pin { page }
-        | What::Unpin { page, .. }
-        | What::Write { page, .. }
-        | What::Zero { page, .. }
-        | What::Taken { page }
-        | What::Split { page, .. }
-        | What::Pinned { page }
-        | What::Used { page }
-        | What::Back { page }
-        | What::Dropped { page } => Some(page),
-        What::Close => None,
-    }
+    stage_of(replay, page_told(what)?)
 }

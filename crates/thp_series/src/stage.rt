@@ -24,7 +24,7 @@ pub enum Stage {
 pub(crate) fn stage_of(replay: &Replay, page: PageId) -> Option<Stage>
     ensures { result ≡ stage_of replay.now.shape replay.now.history page }
 {
-    match replay.page(page) {
+    match replay.whereabouts(page) {
         Some(live) => Some(stage_by(live.split, live.standing, live.partly_mapped)),
         None => None,
     }

@@ -17,7 +17,8 @@ use Rattle.thp_text.specs.declared.script.Op.{Op}
 use Rattle.thp_text.specs.declared.script.Op.TheVariants.{Alloc, MapWhole, UnmapWhole, Map, Unmap, Write, Zero, SplitPmd, Pin, Unpin, Close, Scan, Count, Take, SplitNext, PutBack}
 use Rattle.thp_text.specs.declared.settings.Settings.{Settings}
 use Rattle.thp_text.specs.declared.statement.Statement.TheVariants.{Call}
-use Rattle.thp_text.specs.Ahead.{CommandAhead, LineAhead, NumberAhead, OperandsAhead}
+use Rattle.thp_text.specs.Ahead.{CommandAhead, LineAhead, OperandsAhead}
+use Rattle.thp_text.specs.WordsAhead.{NumberAhead}
 use Rattle.thp_text.specs.Commands.{batch_command, command_of, node_command, page_command, range_command, Reading}
 use Rattle.thp_text.specs.Readings.{◌>>=◌}
 use Rattle.thp_text.specs.Statements.{by_words, says_nothing, section_or_call}
@@ -106,7 +107,7 @@ digits_whole c (b ∷ word) below digits =
     let low : 48 ≤ b = leb-true 48 b q.0 in
     rw (digits_whole c word below p.1, ne_eqb b c (λ e. absurd (omega arith))) refl
 
-number_whole : (c most n : ℕ) (word : Text) → c < 48 → number_of most word ≡ Some n → pieces_at c word ≡ word ∷ []
+pub number_whole : (c most n : ℕ) (word : Text) → c < 48 → number_of most word ≡ Some n → pieces_at c word ≡ word ∷ []
 unfolding number_of
 number_whole c most n word below e =
     let p = and_parts _ _ (cond_some _ _ _ e).0 in
@@ -114,7 +115,7 @@ number_whole c most n word below e =
 
 -- ---- lines of words
 
-whole_front : (c : ℕ) (word rest : Text) → pieces_at c word ≡ word ∷ [] → pieces_at c (word ++ c ∷ rest) ≡ word ∷ pieces_at c rest
+pub whole_front : (c : ℕ) (word rest : Text) → pieces_at c word ≡ word ∷ [] → pieces_at c (word ++ c ∷ rest) ≡ word ∷ pieces_at c rest
 whole_front c word rest whole = rw (pieces-append c word (c ∷ rest), whole, eq-eqb c c refl, append-nil word) refl
 
 -- a line of one word

@@ -1,5 +1,5 @@
 -- Commands that are read at the front of a text in one walk over its bytes. No public clause cites this module.
-use Rattle.std.specs.Prelude.{◌≡◌, ◌<◌, ◌+◌, ℕ, All, IfSome, List, ◌∷◌, [], ◌++◌, length, Option, Some, Result, Ok}
+use Rattle.std.specs.Prelude.{◌≡◌, ◌<◌, ◌+◌, ℕ, All, IfSome, List, ◌∷◌, [], ◌++◌, length, Option, Result, Ok}
 use Rattle.thp_text.specs.declared.fault.TextKind.{TextKind}
 use Rattle.thp_text.specs.declared.script.Command.{Command}
 use Rattle.thp_text.specs.declared.script.Script.{Script}
@@ -11,13 +11,7 @@ use Rattle.thp_text.specs.Parts.{lines_spell}
 use Rattle.thp_text.specs.Scripts.{Fault}
 use Rattle.thp_text.specs.Statements.{statement_of, IsSectionFor}
 use Rattle.thp_text.specs.TextInParts.{told_behind, IsCounted, TextSoFar}
-use Rattle.thp_text.specs.Words.{Text, lines_of, number_of, words_of}
-
--- the text begins with a number of at most `most` and the byte `end`, and goes on with `rest`
-pub record NumberAhead (end most : ℕ) (text : Text) (n : ℕ) (rest : Text) : Type 0 where
-  pub word : Text
-  pub reads : number_of most word ≡ Some n
-  pub stands : text ≡ word ++ end ∷ rest
+use Rattle.thp_text.specs.Words.{Text, lines_of, words_of}
 
 -- the text begins with a line of these words, and goes on with `rest`
 pub record LineAhead (words : List Text) (text rest : Text) : Type 0 where

@@ -12,4 +12,5 @@ pub mod Statements
 pub mod Scripts
 pub mod TextInParts
 pub mod Parts
+pub mod WordsAhead
 pub mod Ahead

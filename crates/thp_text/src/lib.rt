@@ -14,6 +14,7 @@ mod settings;
 mod statement;
 mod text_in_parts;
 mod words;
+mod words_ahead;
 
 pub use fault::{ReadFault, TextKind};
 pub use limits::{MAX_COUNTED, MAX_INPUT, MAX_NODES, MAX_WORKERS, run_limits_are_defined};
@@ -25,3 +26,4 @@ pub use sequence::Sequence;
 pub use settings::{Report, Settings};
 pub use text_in_parts::{TextInParts, WholeLine};
 pub use words::{Words, cut_at, number};
+pub use words_ahead::{behind_name, number_ahead};

@@ -125,7 +125,7 @@ impl TextInParts {
 
     /// Whether the next line begins with what comes next.
     #[inline(always)]
-    pub(crate) fn begins_line(&self) -> bool
+    pub fn begins_line(&self) -> bool
         ensures { IsTrue result ↔ self.now.begun ≡ [] }
     {
         self.begun.is_empty()
@@ -133,7 +133,7 @@ impl TextInParts {
 
     /// Counts a whole line that begins and ends in what is left of a part.
     #[inline(always)]
-    pub(crate) fn pass_line(&mut self)
+    pub fn pass_line(&mut self)
         requires begins { self.old.begun ≡ [] }
         requires given { self.old.line ≤ self.old.given }
         requires most { self.old.line ≤ self.old.most }

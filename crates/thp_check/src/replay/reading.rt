@@ -12,7 +12,7 @@ ghost use Rattle.thp_page.specs.Slots.{slot_at};
 ghost use Rattle.thp_live_pages.specs.Homes.{block_of, standing_of};
 ghost use Rattle.thp_check.specs.Showing.{is_taken, page_at};
 
-use crate::live_page::LivePage;
+use crate::live_page::{LivePage, Whereabouts};
 use crate::replay::Replay;
 use std::alloc::{AllocError, Global};
 use thp_live_pages::Places;
@@ -73,6 +73,29 @@ impl Replay {
                 standing,
                 self.state.shape.underused,
             )),
+            None => unreachable!(),
+        }
+    }
+
+    /// Where a page is in its life; `None` where it doesn't live. No set of subpages is made for that.
+    pub fn whereabouts(&self, page: PageId) -> Option<Whereabouts>
+        ensures live { is_some result ≡ is_live self.now.history page }
+        ensures standing { IfSome result (λ x. x.standing ≡ standing_of self.now.shape self.now.history page) }
+        ensures split { IfSome result (λ x. x.split ≡ is_split self.now.history page) }
+        ensures partly { IfSome result (λ x. x.partly_mapped ≡ is_partly_mapped self.now.shape self.now.history page) }
+    {
+        let table = self.state.places.table();
+        let block = match table.block_of(page) {
+            Some(block) => block,
+            None => return None,
+        };
+        let standing = table.standing(block);
+        match table.page(block) {
+            Some((_, state)) => Some(Whereabouts {
+                standing,
+                split: state.is_split(),
+                partly_mapped: state.is_partly(),
+            }),
             None => unreachable!(),
         }
     }

@@ -1,21 +1,21 @@
 use Rattle.thp_series.specs.declared.numbers.Numbers.{Numbers}
 use Rattle.std.proofs.Common.{◌≡◌, ap, arith, length}
 use Rattle.thp_check.specs.Replays.{Replayed}
-use Rattle.thp_series.specs.Following.{page_of}
+use Rattle.thp_journal_writer.specs.EventLines.{page_told}
 use Rattle.thp_series.proofs.Following.{goes_on, length_of_series, may_enter, may_leave}
 use Rattle.thp_series.proofs.node_series.NodeSeries.admit.Goals as goal
 
 pub leave-requires : goal.leave-requires
 leave-requires c =
     let i = c.self.inside in
-    may_leave i.replay.shape i.replay.history i.numbers.pages c.stage_in-before.result (page_of c.args.event.now.what) c.self.invariant.legal (ap (λ (n : Numbers). n.pages) c.self.invariant.numbers_are) c.stage_in-before.ensures
+    may_leave i.replay.shape i.replay.history i.numbers.pages c.stage_in-before.result (page_told c.args.event.now.what) c.self.invariant.legal (ap (λ (n : Numbers). n.pages) c.self.invariant.numbers_are) c.stage_in-before.ensures
 
 pub enter-requires : goal.enter-requires
 enter-requires c =
     let i = c.self.inside in
     let past : length i.replay.history ≡ length c.args.self.history = ap (λ (r : Replayed). length r.history) c.self.view_is in
     may_enter i.replay.shape i.replay.history i.numbers.pages c.leave.new.self c.stage_in-before.result c.stage_in.result (ap (λ (n : Numbers). n.pages) c.self.invariant.numbers_are) (omega (arith, past, c.requires.room))
-    (may_leave i.replay.shape i.replay.history i.numbers.pages c.stage_in-before.result (page_of c.args.event.now.what) c.self.invariant.legal (ap (λ (n : Numbers). n.pages) c.self.invariant.numbers_are) c.stage_in-before.ensures)
+    (may_leave i.replay.shape i.replay.history i.numbers.pages c.stage_in-before.result (page_told c.args.event.now.what) c.self.invariant.legal (ap (λ (n : Numbers). n.pages) c.self.invariant.numbers_are) c.stage_in-before.ensures)
     c.leave.ensures
 
 pub push-requires : goal.push-requires
@@ -29,5 +29,5 @@ invariant_of-result c =
     let i = c.self.inside in
     goes_on i.replay c.in-Ok.replay c.args.event.now c.leave.new.self c.enter.new.self i.columns c.push.new.self i.numbers c.numbers_of-numbers.result c.stage_in-before.result c.stage_in.result c.self.invariant
     c.in-Ok.ensures.admitted c.in-Ok.ensures.fits
-    (may_leave i.replay.shape i.replay.history i.numbers.pages c.stage_in-before.result (page_of c.args.event.now.what) c.self.invariant.legal (ap (λ (n : Numbers). n.pages) c.self.invariant.numbers_are) c.stage_in-before.ensures)
+    (may_leave i.replay.shape i.replay.history i.numbers.pages c.stage_in-before.result (page_told c.args.event.now.what) c.self.invariant.legal (ap (λ (n : Numbers). n.pages) c.self.invariant.numbers_are) c.stage_in-before.ensures)
     c.stage_in-before.ensures c.stage_in.ensures c.leave.ensures c.enter.ensures c.numbers_of-numbers.ensures c.push.ensures

@@ -1,6 +1,6 @@
 use Rattle.std.proofs.Common.{arith, refl}
 use Rattle.thp_text.proofs.AheadLaws.{behind_first, digits_end, digits_go_on, first_is, zero_alone}
-use Rattle.thp_text.proofs.ahead.number_ahead.Goals as goal
+use Rattle.thp_text.proofs.words_ahead.number_ahead.Goals as goal
 
 pub returns-in-len1-up-rest-clause-number : goal.returns-in-len1-up-rest-clause-number
 returns-in-len1-up-rest-clause-number c =

@@ -1,6 +1,6 @@
 use Rattle.std.proofs.Common.{length}
 use Rattle.thp_text.proofs.AheadLaws.{DigitsAhead}
-use Rattle.thp_text.proofs.ahead.number_ahead.Given as goal
+use Rattle.thp_text.proofs.words_ahead.number_ahead.Given as goal
 
 abbrev pub decreases-loop-rest : goal.decreases-loop-rest
 decreases-loop-rest l = length l.rest

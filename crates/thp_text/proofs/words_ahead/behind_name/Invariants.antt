@@ -1,5 +1,5 @@
 use Rattle.std.proofs.Common.{◌≡◌, ◌<◌, ℕ, get_or}
-use Rattle.thp_text.proofs.ahead.behind_name.Given as goal
+use Rattle.thp_text.proofs.words_ahead.behind_name.Given as goal
 
 -- the bytes so far are the name's
 abbrev pub invariant-loop-k : goal.invariant-loop-k

@@ -1,0 +1,260 @@
+-- Events at the front of a text: what was read of its bytes in one walk is what its first line says.
+use Rattle.std.proofs.Common.{◌≡◌, ◌∙◌, ◌==◌, ◌<◌, ◌+◌, ◌-◌, ℕ, Bool, true, false, cond, List, [], ◌∷◌, ◌++◌, length, Option, Some, None, Ok, ap, arith, codes, refl, sym}
+use Rattle.std.specs.Prelude.{IfSome}
+use Rattle.std.specs.Option.{option_copied}
+use Rattle.std.specs.Str.{bytes_eq}
+use Rattle.std.proofs.lemmas.List.{length-append}
+use Rattle.std.proofs.lemmas.Slice.Eq.{bytes_eq-Decides}
+use Rattle.thp_model.specs.declared.events.Event.{Event}
+use Rattle.thp_model.specs.declared.events.Outcome.{Outcome}
+use Rattle.thp_model.specs.declared.events.Outcome.TheVariants.{Stays, Queued, Freed}
+use Rattle.thp_model.specs.declared.events.What.TheVariants as what
+use Rattle.thp_model.specs.History.{by}
+use Rattle.thp_text.specs.Words.{Text, lines_of, number_of, pieces_at, pieces_left, words_of}
+use Rattle.thp_text.specs.WordsAhead.{NumberAhead}
+use Rattle.thp_text.proofs.AheadLaws.{number_whole, of_some, whole_front}
+use Rattle.thp_text.proofs.LineLaws.{IsPlain, word_cases}
+use Rattle.thp_text.proofs.TextLaws.{pieces-append}
+use Rattle.thp_journal_reader.specs.declared.event_word.EventWord.{EventWord}
+use Rattle.thp_journal_reader.specs.declared.event_word.EventWord.TheVariants.{OfPage, OfRange, OfLoss, UnmapSub, Split}
+use Rattle.thp_journal_reader.specs.declared.event_word.LossWord.{LossWord}
+use Rattle.thp_journal_reader.specs.declared.event_word.LossWord.TheVariants as loss
+use Rattle.thp_journal_reader.specs.declared.event_word.PageWord.{PageWord}
+use Rattle.thp_journal_reader.specs.declared.event_word.PageWord.TheVariants as page
+use Rattle.thp_journal_reader.specs.declared.event_word.RangeWord.{RangeWord}
+use Rattle.thp_journal_reader.specs.declared.event_word.RangeWord.TheVariants as range
+use Rattle.thp_journal_reader.specs.declared.line.Line.TheVariants.{Happened}
+use Rattle.thp_journal_reader.specs.declared.version.Version.{Version}
+use Rattle.thp_journal_reader.specs.declared.version.Version.TheVariants.{Plain, Orders, Underused}
+use Rattle.thp_journal_reader.specs.Ahead.{EventAhead, LineAhead, OperandsAhead, OutcomeAhead, SetAhead}
+use Rattle.thp_journal_reader.specs.EventLines.{event_by, event_of, loss_event, page_event, range_event, split_event, unmap_event, outcome_and_word}
+use Rattle.thp_journal_reader.specs.EventWords.{event_word, common_word, later_word, loss_what, outcome_of, page_what, range_what}
+use Rattle.thp_journal_reader.specs.JournalLines.{by_words, event_line, line_by}
+use Rattle.thp_journal_reader.specs.SetTexts.{set_of_text}
+use Rattle.thp_journal_reader.proofs.PlainLines.{line_of-read}
+
+-- ---- lines of words
+
+-- a word more in front
+word_more : (word : Text) (words : List Text) (text behind rest : Text) → pieces_at 32 word ≡ word ∷ [] → pieces_at 10 word ≡ word ∷ [] → text ≡ word ++ 32 ∷ behind → LineAhead words behind rest → LineAhead (word ∷ words) text rest
+word_more word words text behind rest apart lines e l = record {
+  line = word ++ 32 ∷ l.line;
+  words_are = rw (whole_front 32 word l.line apart, l.words_are) refl;
+  lines = rw (e, pieces-append 10 word (32 ∷ behind), lines, l.lines) refl;
+  shorter = rw (e, length-append word (32 ∷ behind)) (omega (arith, l.shorter));
+}
+
+number_more : (most n : ℕ) (words : List Text) (text behind rest : Text) (a : NumberAhead 32 most text n behind) → LineAhead words behind rest → LineAhead (a.word ∷ words) text rest
+number_more most n words text behind rest a l = word_more a.word words text behind rest (number_whole 32 most n a.word (omega arith) a.reads) (number_whole 10 most n a.word (omega arith) a.reads) a.stands l
+
+-- a line of one number
+last_number : (most n : ℕ) (text rest : Text) (a : NumberAhead 10 most text n rest) → LineAhead (a.word ∷ []) text rest
+last_number most n text rest a = record {
+  line = a.word;
+  words_are = number_whole 32 most n a.word (omega arith) a.reads;
+  lines = rw a.stands (whole_front 10 a.word rest (number_whole 10 most n a.word (omega arith) a.reads));
+  shorter = rw (a.stands, length-append a.word (10 ∷ rest)) (omega arith);
+}
+
+outcome_more : (outcome : Outcome) (words : List Text) (text behind rest : Text) (a : OutcomeAhead text outcome behind) → LineAhead words behind rest → LineAhead (a.word ∷ words) text rest
+outcome_more outcome words text behind rest a l = word_more a.word words text behind rest a.one_word a.one_line a.stands l
+
+-- ---- words of outcomes, sets
+
+pub stays_ahead : (text rest : Text) → text ≡ codes "stays" ++ 32 ∷ rest → OutcomeAhead text Stays rest
+unfolding outcome_of
+stays_ahead text rest e = record { word = codes "stays"; one_word = refl; one_line = refl; reads = refl; stands = e }
+
+pub queued_ahead : (text rest : Text) → text ≡ codes "queued" ++ 32 ∷ rest → OutcomeAhead text Queued rest
+unfolding outcome_of
+queued_ahead text rest e = record { word = codes "queued"; one_word = refl; one_line = refl; reads = refl; stands = e }
+
+pub freed_ahead : (text rest : Text) → text ≡ codes "freed" ++ 32 ∷ rest → OutcomeAhead text Freed rest
+unfolding outcome_of
+freed_ahead text rest e = record { word = codes "freed"; one_word = refl; one_line = refl; reads = refl; stands = e }
+
+-- a line that is one word, which reads as a set
+pub set_alone : (text line rest word : Text) (set : List Bool) → lines_of text ≡ line ∷ lines_of rest → length rest < length text → words_of line ≡ word ∷ [] → set_of_text word ≡ Ok set → SetAhead text set rest
+set_alone text line rest word set lines shorter words reads = record {
+  word = word;
+  line = record { line = line; words_are = words; lines = lines; shorter = shorter };
+  reads = reads;
+}
+
+-- ---- operands
+
+pub page_ahead : (name : PageWord) (caller p : ℕ) (text rest : Text) → NumberAhead 10 18446744073709551615 text p rest → OperandsAhead (page_event name) caller text (by caller (page_what name p)) rest
+unfolding page_event
+page_ahead name caller p text rest a = record {
+  words = a.word ∷ [];
+  line = last_number 18446744073709551615 p text rest a;
+  reads = λ w c. rw (c, a.reads) refl;
+}
+
+pub range_ahead : (name : RangeWord) (caller p first count : ℕ) (text t1 t2 rest : Text)
+    → NumberAhead 32 18446744073709551615 text p t1 → NumberAhead 32 65535 t1 first t2 → NumberAhead 10 65535 t2 count rest
+    → OperandsAhead (range_event name) caller text (by caller (range_what name p first count)) rest
+unfolding range_event
+range_ahead name caller p first count text t1 t2 rest a b d = record {
+  words = a.word ∷ b.word ∷ d.word ∷ [];
+  line = number_more 18446744073709551615 p (b.word ∷ d.word ∷ []) text t1 rest a (number_more 65535 first (d.word ∷ []) t1 t2 rest b (last_number 65535 count t2 rest d));
+  reads = λ w c. rw (c, a.reads, b.reads, d.reads) refl;
+}
+
+pub loss_ahead : (name : LossWord) (caller p : ℕ) (outcome : Outcome) (set : List Bool) (text t1 t2 rest : Text)
+    → NumberAhead 32 18446744073709551615 text p t1 → OutcomeAhead t1 outcome t2 → SetAhead t2 set rest
+    → OperandsAhead (loss_event name) caller text (by caller (loss_what name outcome p set)) rest
+unfolding loss_event outcome_and_word
+loss_ahead name caller p outcome set text t1 t2 rest a o f = record {
+  words = a.word ∷ o.word ∷ f.word ∷ [];
+  line = number_more 18446744073709551615 p (o.word ∷ f.word ∷ []) text t1 rest a (outcome_more outcome (f.word ∷ []) t1 t2 rest o f.line);
+  reads = λ w c. rw (o.reads, c, a.reads, f.reads) refl;
+}
+
+pub unmap_ahead : (caller p first count : ℕ) (outcome : Outcome) (set : List Bool) (text t1 t2 t3 t4 rest : Text)
+    → NumberAhead 32 18446744073709551615 text p t1 → NumberAhead 32 65535 t1 first t2 → NumberAhead 32 65535 t2 count t3 → OutcomeAhead t3 outcome t4 → SetAhead t4 set rest
+    → OperandsAhead unmap_event caller text (by caller (what.UnmapSub outcome p first count set)) rest
+unfolding unmap_event outcome_and_word
+unmap_ahead caller p first count outcome set text t1 t2 t3 t4 rest a b d o f = record {
+  words = a.word ∷ b.word ∷ d.word ∷ o.word ∷ f.word ∷ [];
+  line = number_more 18446744073709551615 p (b.word ∷ d.word ∷ o.word ∷ f.word ∷ []) text t1 rest a
+      (number_more 65535 first (d.word ∷ o.word ∷ f.word ∷ []) t1 t2 rest b
+      (number_more 65535 count (o.word ∷ f.word ∷ []) t2 t3 rest d (outcome_more outcome (f.word ∷ []) t3 t4 rest o f.line)));
+  reads = λ w c. rw (o.reads, c, a.reads, b.reads, d.reads, f.reads) refl;
+}
+
+pub split_ahead : (caller p : ℕ) (set : List Bool) (text t1 rest : Text) → NumberAhead 32 18446744073709551615 text p t1 → SetAhead t1 set rest
+    → OperandsAhead split_event caller text (by caller (what.Split p set)) rest
+unfolding split_event
+split_ahead caller p set text t1 rest a f = record {
+  words = a.word ∷ f.word ∷ [];
+  line = number_more 18446744073709551615 p (f.word ∷ []) text t1 rest a f.line;
+  reads = λ w c. rw (c, a.reads, f.reads) refl;
+}
+
+-- ---- names
+
+-- a name of an event in a version: no byte of it ends a word or a line
+pub record IsName (v : Version) (name : Text) (word : EventWord) : Type 0 where
+  pub one_word : pieces_at 32 name ≡ name ∷ []
+  pub one_line : pieces_at 10 name ≡ name ∷ []
+  pub says : event_word v name ≡ Ok word
+
+-- an event's name and its operands
+of_name : (v : Version) (name : Text) (word : EventWord) (caller : ℕ) (text operands rest : Text) (event : Event) → IsName v name word → text ≡ name ++ 32 ∷ operands → OperandsAhead (event_by word) caller operands event rest
+    → OperandsAhead (event_of v) caller text event rest
+of_name v name word caller text operands rest event n e o = record {
+  words = name ∷ o.words;
+  line = word_more name o.words text operands rest n.one_word n.one_line e o.line;
+  reads = λ w c. rw n.says (o.reads w c);
+}
+
+-- and so they are where operands were read
+pub named : {A : Type 0} (v : Version) (name : Text) (word : EventWord) (caller : ℕ) (text operands : Text) (read : Option A) (event : A → Event) (rest : A → Text) → IsName v name word → text ≡ name ++ 32 ∷ operands
+    → IfSome read (λ r. OperandsAhead (event_by word) caller operands (event r) (rest r)) → IfSome read (λ r. OperandsAhead (event_of v) caller text (event r) (rest r))
+named v name word caller text operands read event rest n e h =
+    of_some read (λ r. OperandsAhead (event_by word) caller operands (event r) (rest r)) (λ r. OperandsAhead (event_of v) caller text (event r) (rest r)) (λ r o. of_name v name word caller text operands (rest r) (event r) n e o) h
+
+-- a word that each version has
+each_version : (name : Text) (word : EventWord) → pieces_at 32 name ≡ name ∷ [] → pieces_at 10 name ≡ name ∷ [] → common_word name ≡ Ok word → later_word name ≡ Ok word → (v : Version) → IsName v name word
+each_version name word words lines common later Plain = record { one_word = words; one_line = lines; says = common }
+each_version name word words lines common later Orders = record { one_word = words; one_line = lines; says = common }
+each_version name word words lines common later Underused = record { one_word = words; one_line = lines; says = later }
+
+pub alloc_is : (v : Version) → IsName v (codes "alloc") (OfPage page.Alloc)
+unfolding common_word later_word
+alloc_is = each_version (codes "alloc") (OfPage page.Alloc) refl refl refl refl
+
+pub mapwhole_is : (v : Version) → IsName v (codes "mapwhole") (OfPage page.MapWhole)
+unfolding common_word later_word
+mapwhole_is = each_version (codes "mapwhole") (OfPage page.MapWhole) refl refl refl refl
+
+pub unmapwhole_is : (v : Version) → IsName v (codes "unmapwhole") (OfLoss loss.UnmapWhole)
+unfolding common_word later_word
+unmapwhole_is = each_version (codes "unmapwhole") (OfLoss loss.UnmapWhole) refl refl refl refl
+
+pub mapsub_is : (v : Version) → IsName v (codes "mapsub") (OfRange range.MapSub)
+unfolding common_word later_word
+mapsub_is = each_version (codes "mapsub") (OfRange range.MapSub) refl refl refl refl
+
+pub unmapsub_is : (v : Version) → IsName v (codes "unmapsub") UnmapSub
+unfolding common_word later_word
+unmapsub_is = each_version (codes "unmapsub") UnmapSub refl refl refl refl
+
+pub splitpmd_is : (v : Version) → IsName v (codes "splitpmd") (OfPage page.SplitPmd)
+unfolding common_word later_word
+splitpmd_is = each_version (codes "splitpmd") (OfPage page.SplitPmd) refl refl refl refl
+
+pub pin_is : (v : Version) → IsName v (codes "pin") (OfPage page.Pin)
+unfolding common_word later_word
+pin_is = each_version (codes "pin") (OfPage page.Pin) refl refl refl refl
+
+pub unpin_is : (v : Version) → IsName v (codes "unpin") (OfLoss loss.Unpin)
+unfolding common_word later_word
+unpin_is = each_version (codes "unpin") (OfLoss loss.Unpin) refl refl refl refl
+
+pub taken_is : (v : Version) → IsName v (codes "taken") (OfPage page.Taken)
+unfolding common_word later_word
+taken_is = each_version (codes "taken") (OfPage page.Taken) refl refl refl refl
+
+pub split_is : (v : Version) → IsName v (codes "split") Split
+unfolding common_word later_word
+split_is = each_version (codes "split") Split refl refl refl refl
+
+pub pinned_is : (v : Version) → IsName v (codes "pinned") (OfPage page.Pinned)
+unfolding common_word later_word
+pinned_is = each_version (codes "pinned") (OfPage page.Pinned) refl refl refl refl
+
+pub back_is : (v : Version) → IsName v (codes "back") (OfPage page.Back)
+unfolding common_word later_word
+back_is = each_version (codes "back") (OfPage page.Back) refl refl refl refl
+
+pub dropped_is : (v : Version) → IsName v (codes "dropped") (OfPage page.Dropped)
+unfolding common_word later_word
+dropped_is = each_version (codes "dropped") (OfPage page.Dropped) refl refl refl refl
+
+pub write_is : IsName Underused (codes "write") (OfRange range.Write)
+unfolding later_word
+write_is = record { one_word = refl; one_line = refl; says = refl }
+
+pub zero_is : IsName Underused (codes "zero") (OfRange range.Zero)
+unfolding later_word
+zero_is = record { one_word = refl; one_line = refl; says = refl }
+
+pub used_is : IsName Underused (codes "used") (OfPage page.Used)
+unfolding later_word
+used_is = record { one_word = refl; one_line = refl; says = refl }
+
+-- ---- events
+
+-- no number is this word
+other_word : (word name : Text) (most n : ℕ) → number_of most word ≡ Some n → number_of most name ≡ None → bytes_eq word name ≡ false
+other_word word name most n is none = go (bytes_eq word name) refl where
+  go : (b : Bool) → bytes_eq word name ≡ b → bytes_eq word name ≡ false
+  go false e = e
+  go true e =
+      let same : word ≡ name = (bytes_eq-Decides word name).0 e in
+      let wrong : Some n ≡ None = sym is ∙ ap (number_of most) same ∙ none in
+      absurd (cc)
+
+behind_caller : (v : Version) (word : Text) (words : List Text) (caller : ℕ) (event : Event) → number_of 63 word ≡ Some caller → event_of v word words ≡ Ok event → Ok (Happened event) ≡ by_words v (word ∷ words)
+unfolding line_by number_of
+behind_caller v word words caller event is says =
+    rw (other_word word (codes "thp-journal") 63 caller is refl, other_word word (codes "node") 63 caller is refl, other_word word (codes "end") 63 caller is refl, says) refl
+
+-- a caller and an event's words behind it
+pub event_is : (v : Version) (text behind rest : Text) (caller : ℕ) (event : Event) → NumberAhead 32 63 text caller behind → OperandsAhead (event_of v) caller behind event rest → EventAhead v text event rest
+event_is v text behind rest caller event a o =
+    let l = number_more 63 caller o.words text behind rest a o.line in
+    let says = behind_caller v a.word o.words caller event a.reads (o.reads a.word (rw a.reads refl)) in
+    record {
+      line = l.line;
+      lines = l.lines;
+      shorter = l.shorter;
+      says = line_of-read v l.line (Happened event) (rw l.words_are says);
+    }
+
+pub event_read : {A : Type 0} (v : Version) (text behind : Text) (caller : ℕ) (read : Option A) (event : A → Event) (rest : A → Text) → NumberAhead 32 63 text caller behind
+    → IfSome read (λ r. OperandsAhead (event_of v) caller behind (event r) (rest r)) → IfSome read (λ r. EventAhead v text (event r) (rest r))
+event_read v text behind caller read event rest a h =
+    of_some read (λ r. OperandsAhead (event_of v) caller behind (event r) (rest r)) (λ r. EventAhead v text (event r) (rest r)) (λ r o. event_is v text behind (rest r) caller (event r) a o) h

@@ -1,0 +1,46 @@
+-- Events that are read at the front of a text in one walk over its bytes. No public clause cites this module.
+use Rattle.std.specs.Prelude.{◌≡◌, ◌<◌, ℕ, Bool, List, [], ◌∷◌, ◌++◌, length, Result, Ok}
+use Rattle.thp_model.specs.declared.events.Event.{Event}
+use Rattle.thp_model.specs.declared.events.Outcome.{Outcome}
+use Rattle.thp_text.specs.declared.fault.TextKind.{TextKind}
+use Rattle.thp_text.specs.Words.{Text, lines_of, words_of}
+use Rattle.thp_journal_reader.specs.declared.line.Line.TheVariants.{Happened}
+use Rattle.thp_journal_reader.specs.declared.version.Version.{Version}
+use Rattle.thp_journal_reader.specs.EventLines.{caller_number}
+use Rattle.thp_journal_reader.specs.EventWords.{outcome_of}
+use Rattle.thp_journal_reader.specs.JournalLines.{line_of}
+use Rattle.thp_journal_reader.specs.SetTexts.{set_of_text}
+
+-- the text's first line has these words, and `rest` follows it
+pub record LineAhead (words : List Text) (text rest : Text) : Type 0 where
+  pub line : Text
+  pub words_are : words_of line ≡ words
+  pub lines : lines_of text ≡ line ∷ lines_of rest
+  pub shorter : length rest < length text
+
+-- the text begins with the word of this outcome and a space, and goes on with `rest`
+pub record OutcomeAhead (text : Text) (outcome : Outcome) (rest : Text) : Type 0 where
+  pub word : Text
+  pub one_word : words_of word ≡ word ∷ []
+  pub one_line : lines_of word ≡ word ∷ []
+  pub reads : outcome_of word ≡ Ok outcome
+  pub stands : text ≡ word ++ 32 ∷ rest
+
+-- the text's first line is one word that reads as this set
+pub record SetAhead (text : Text) (set : List Bool) (rest : Text) : Type 0 where
+  pub word : Text
+  pub line : LineAhead (word ∷ []) text rest
+  pub reads : set_of_text word ≡ Ok set
+
+-- the text's first line has words that read as this event behind each word of its caller
+pub record OperandsAhead (reading : Text → List Text → Result Event TextKind) (caller : ℕ) (text : Text) (event : Event) (rest : Text) : Type 0 where
+  pub words : List Text
+  pub line : LineAhead words text rest
+  pub reads : (w : Text) → caller_number w ≡ Ok caller → reading w words ≡ Ok event
+
+-- the text's first line says this event, and `rest` follows it
+pub record EventAhead (v : Version) (text : Text) (event : Event) (rest : Text) : Type 0 where
+  pub line : Text
+  pub lines : lines_of text ≡ line ∷ lines_of rest
+  pub shorter : length rest < length text
+  pub says : Ok (Happened event) ≡ line_of v line
