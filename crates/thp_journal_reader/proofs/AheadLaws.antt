@@ -1,7 +1,7 @@
 -- Events at the front of a text: what was read of its bytes in one walk is what its first line says.
-use Rattle.std.proofs.Common.{◌≡◌, ◌∙◌, ◌==◌, ◌<◌, ◌+◌, ◌-◌, ℕ, Bool, true, false, cond, List, [], ◌∷◌, ◌++◌, length, Option, Some, None, Ok, ap, arith, codes, refl, sym}
+use Rattle.std.proofs.Common.{◌≡◌, ◌∙◌, ◌==◌, ◌<◌, ◌+◌, ◌-◌, ℕ, Bool, true, false, cond, List, [], ◌∷◌, ◌++◌, length, Option, Some, None, Result, Ok, Err, ap, arith, codes, refl, sym}
 use Rattle.std.specs.Prelude.{IfSome}
-use Rattle.std.specs.Option.{option_copied}
+use Rattle.std.specs.Result.{result_ok}
 use Rattle.std.specs.Str.{bytes_eq}
 use Rattle.std.proofs.lemmas.List.{length-append}
 use Rattle.std.proofs.lemmas.Slice.Eq.{bytes_eq-Decides}
@@ -10,6 +10,7 @@ use Rattle.thp_model.specs.declared.events.Outcome.{Outcome}
 use Rattle.thp_model.specs.declared.events.Outcome.TheVariants.{Stays, Queued, Freed}
 use Rattle.thp_model.specs.declared.events.What.TheVariants as what
 use Rattle.thp_model.specs.History.{by}
+use Rattle.thp_text.specs.declared.fault.TextKind.{TextKind}
 use Rattle.thp_text.specs.Words.{Text, lines_of, number_of, pieces_at, pieces_left, words_of}
 use Rattle.thp_text.specs.WordsAhead.{NumberAhead}
 use Rattle.thp_text.proofs.AheadLaws.{number_whole, of_some, whole_front}
@@ -26,7 +27,7 @@ use Rattle.thp_journal_reader.specs.declared.event_word.RangeWord.TheVariants as
 use Rattle.thp_journal_reader.specs.declared.line.Line.TheVariants.{Happened}
 use Rattle.thp_journal_reader.specs.declared.version.Version.{Version}
 use Rattle.thp_journal_reader.specs.declared.version.Version.TheVariants.{Plain, Orders, Underused}
-use Rattle.thp_journal_reader.specs.Ahead.{EventAhead, LineAhead, OperandsAhead, OutcomeAhead, SetAhead}
+use Rattle.thp_journal_reader.specs.Ahead.{EventAhead, LineAhead, OperandsAhead, OutcomeAhead}
 use Rattle.thp_journal_reader.specs.EventLines.{event_by, event_of, loss_event, page_event, range_event, split_event, unmap_event, outcome_and_word}
 use Rattle.thp_journal_reader.specs.EventWords.{event_word, common_word, later_word, loss_what, outcome_of, page_what, range_what}
 use Rattle.thp_journal_reader.specs.JournalLines.{by_words, event_line, line_by}
@@ -59,7 +60,7 @@ last_number most n text rest a = record {
 outcome_more : (outcome : Outcome) (words : List Text) (text behind rest : Text) (a : OutcomeAhead text outcome behind) → LineAhead words behind rest → LineAhead (a.word ∷ words) text rest
 outcome_more outcome words text behind rest a l = word_more a.word words text behind rest a.one_word a.one_line a.stands l
 
--- ---- words of outcomes, sets
+-- ---- words of outcomes
 
 pub stays_ahead : (text rest : Text) → text ≡ codes "stays" ++ 32 ∷ rest → OutcomeAhead text Stays rest
 unfolding outcome_of
@@ -73,13 +74,13 @@ pub freed_ahead : (text rest : Text) → text ≡ codes "freed" ++ 32 ∷ rest �
 unfolding outcome_of
 freed_ahead text rest e = record { word = codes "freed"; one_word = refl; one_line = refl; reads = refl; stands = e }
 
--- a line that is one word, which reads as a set
-pub set_alone : (text line rest word : Text) (set : List Bool) → lines_of text ≡ line ∷ lines_of rest → length rest < length text → words_of line ≡ word ∷ [] → set_of_text word ≡ Ok set → SetAhead text set rest
-set_alone text line rest word set lines shorter words reads = record {
-  word = word;
-  line = record { line = line; words_are = words; lines = lines; shorter = shorter };
-  reads = reads;
-}
+-- a word that is read as a set says that set
+pub set_read : (word : Text) (read : Result (List Bool) TextKind) (some : Option (List Bool)) (set : List Bool) → read ≡ set_of_text word → some ≡ result_ok read → some ≡ Some set → set_of_text word ≡ Ok set
+set_read word (Ok x) some set e f g =
+    let same : Some x ≡ Some set = sym f ∙ g in
+    let is : x ≡ set = cc in
+    sym e ∙ ap (λ (y : List Bool). Ok y) is
+set_read word (Err kind) some set e f g = let wrong : None ≡ Some set = sym f ∙ g in absurd (cc)
 
 -- ---- operands
 
@@ -101,35 +102,35 @@ range_ahead name caller p first count text t1 t2 rest a b d = record {
   reads = λ w c. rw (c, a.reads, b.reads, d.reads) refl;
 }
 
-pub loss_ahead : (name : LossWord) (caller p : ℕ) (outcome : Outcome) (set : List Bool) (text t1 t2 rest : Text)
-    → NumberAhead 32 18446744073709551615 text p t1 → OutcomeAhead t1 outcome t2 → SetAhead t2 set rest
+pub loss_ahead : (name : LossWord) (caller p : ℕ) (outcome : Outcome) (set : List Bool) (text t1 t2 word rest : Text)
+    → NumberAhead 32 18446744073709551615 text p t1 → OutcomeAhead t1 outcome t2 → LineAhead (word ∷ []) t2 rest → set_of_text word ≡ Ok set
     → OperandsAhead (loss_event name) caller text (by caller (loss_what name outcome p set)) rest
 unfolding loss_event outcome_and_word
-loss_ahead name caller p outcome set text t1 t2 rest a o f = record {
-  words = a.word ∷ o.word ∷ f.word ∷ [];
-  line = number_more 18446744073709551615 p (o.word ∷ f.word ∷ []) text t1 rest a (outcome_more outcome (f.word ∷ []) t1 t2 rest o f.line);
-  reads = λ w c. rw (o.reads, c, a.reads, f.reads) refl;
+loss_ahead name caller p outcome set text t1 t2 word rest a o l f = record {
+  words = a.word ∷ o.word ∷ word ∷ [];
+  line = number_more 18446744073709551615 p (o.word ∷ word ∷ []) text t1 rest a (outcome_more outcome (word ∷ []) t1 t2 rest o l);
+  reads = λ w c. rw (o.reads, c, a.reads, f) refl;
 }
 
-pub unmap_ahead : (caller p first count : ℕ) (outcome : Outcome) (set : List Bool) (text t1 t2 t3 t4 rest : Text)
-    → NumberAhead 32 18446744073709551615 text p t1 → NumberAhead 32 65535 t1 first t2 → NumberAhead 32 65535 t2 count t3 → OutcomeAhead t3 outcome t4 → SetAhead t4 set rest
+pub unmap_ahead : (caller p first count : ℕ) (outcome : Outcome) (set : List Bool) (text t1 t2 t3 t4 word rest : Text)
+    → NumberAhead 32 18446744073709551615 text p t1 → NumberAhead 32 65535 t1 first t2 → NumberAhead 32 65535 t2 count t3 → OutcomeAhead t3 outcome t4 → LineAhead (word ∷ []) t4 rest → set_of_text word ≡ Ok set
     → OperandsAhead unmap_event caller text (by caller (what.UnmapSub outcome p first count set)) rest
 unfolding unmap_event outcome_and_word
-unmap_ahead caller p first count outcome set text t1 t2 t3 t4 rest a b d o f = record {
-  words = a.word ∷ b.word ∷ d.word ∷ o.word ∷ f.word ∷ [];
-  line = number_more 18446744073709551615 p (b.word ∷ d.word ∷ o.word ∷ f.word ∷ []) text t1 rest a
-      (number_more 65535 first (d.word ∷ o.word ∷ f.word ∷ []) t1 t2 rest b
-      (number_more 65535 count (o.word ∷ f.word ∷ []) t2 t3 rest d (outcome_more outcome (f.word ∷ []) t3 t4 rest o f.line)));
-  reads = λ w c. rw (o.reads, c, a.reads, b.reads, d.reads, f.reads) refl;
+unmap_ahead caller p first count outcome set text t1 t2 t3 t4 word rest a b d o l f = record {
+  words = a.word ∷ b.word ∷ d.word ∷ o.word ∷ word ∷ [];
+  line = number_more 18446744073709551615 p (b.word ∷ d.word ∷ o.word ∷ word ∷ []) text t1 rest a
+      (number_more 65535 first (d.word ∷ o.word ∷ word ∷ []) t1 t2 rest b
+      (number_more 65535 count (o.word ∷ word ∷ []) t2 t3 rest d (outcome_more outcome (word ∷ []) t3 t4 rest o l)));
+  reads = λ w c. rw (o.reads, c, a.reads, b.reads, d.reads, f) refl;
 }
 
-pub split_ahead : (caller p : ℕ) (set : List Bool) (text t1 rest : Text) → NumberAhead 32 18446744073709551615 text p t1 → SetAhead t1 set rest
+pub split_ahead : (caller p : ℕ) (set : List Bool) (text t1 word rest : Text) → NumberAhead 32 18446744073709551615 text p t1 → LineAhead (word ∷ []) t1 rest → set_of_text word ≡ Ok set
     → OperandsAhead split_event caller text (by caller (what.Split p set)) rest
 unfolding split_event
-split_ahead caller p set text t1 rest a f = record {
-  words = a.word ∷ f.word ∷ [];
-  line = number_more 18446744073709551615 p (f.word ∷ []) text t1 rest a f.line;
-  reads = λ w c. rw (c, a.reads, f.reads) refl;
+split_ahead caller p set text t1 word rest a l f = record {
+  words = a.word ∷ word ∷ [];
+  line = number_more 18446744073709551615 p (word ∷ []) text t1 rest a l;
+  reads = λ w c. rw (c, a.reads, f) refl;
 }
 
 -- ---- names

@@ -1,17 +1,22 @@
 -- Journals whose text comes in parts: what was read, with what the text to come says, is what the whole text says.
-use Rattle.std.proofs.Common.{◌≡◌, ◌∙◌, ◌+◌, ℕ, List, [], ◌∷◌, ◌++◌, length, Some, None, Result, Ok, Err, refl, ap, append_assoc, length-append, arith}
+use Rattle.std.proofs.Common.{◌≡◌, ◌∙◌, ◌+◌, ◌<◌, ℕ, List, [], ◌∷◌, ◌++◌, length, Some, None, Result, Ok, Err, refl, ap, append_assoc, length-append, arith}
+use Rattle.std.proofs.lemmas.Bool.{lt-ltb}
 use Rattle.std.proofs.lemmas.List.{append-nil}
+use Rattle.thp_model.specs.declared.events.Event.{Event}
 use Rattle.thp_text.specs.declared.fault.TextKind.{TextKind}
 use Rattle.thp_text.specs.Lines.{fault_behind}
 use Rattle.thp_text.specs.Readings.{◌>>=◌}
 use Rattle.thp_text.specs.Scripts.{Fault}
 use Rattle.thp_text.specs.TextInParts.{nothing_of}
 use Rattle.thp_text.specs.Words.{Text, lines_of}
-use Rattle.thp_text.proofs.TextLaws.{whole_comes}
+use Rattle.thp_text.proofs.TextLaws.{first_line, whole_comes}
 use Rattle.thp_journal_reader.specs.declared.journals.NodeJournal.{NodeJournal}
 use Rattle.thp_journal_reader.specs.declared.line.Line.{Line}
+use Rattle.thp_journal_reader.specs.declared.line.Line.TheVariants.{Happened}
 use Rattle.thp_journal_reader.specs.declared.place.Place.{Place}
-use Rattle.thp_journal_reader.specs.declared.place.Place.TheVariants.{Start}
+use Rattle.thp_journal_reader.specs.declared.place.Place.TheVariants.{Start, Inside}
+use Rattle.thp_journal_reader.specs.declared.version.Version.{Version}
+use Rattle.thp_journal_reader.specs.Ahead.{EventAhead}
 use Rattle.thp_journal_reader.specs.JournalLines.{line_in, place_after}
 use Rattle.thp_journal_reader.specs.Journals.{journals_with, journals_within, lines_from, nodes_of}
 use Rattle.thp_journal_reader.specs.Parts.{journals_in, lines_tell, told_with, with_lines}
@@ -54,6 +59,16 @@ pub line_tells : (nodes : List NodeJournal) (place : Place) (n : ℕ) (text byte
 unfolding lines_tell
 line_tells nodes place n text bytes after line texts says =
     rw (line_says n place (lines_of text) bytes after line texts says) (behind_tells n nodes line (lines_from (n + 1) (place_after place line) (lines_of after)))
+
+-- an event read ahead, behind the line of a node
+event_says : (v : Version) (told : ℕ) (text after : Text) (event : Event) (a : EventAhead v text event after) → 0 < told → Ok (Happened event) ≡ line_in (Inside v told) a.line
+unfolding line_in
+event_says v told text after event a some = rw (← a.says, lt-ltb 0 told some) refl
+
+pub event_tells : (nodes : List NodeJournal) (v : Version) (told n : ℕ) (begun rest more after : Text) (event : Event) → EventAhead v rest event after → 0 < told → begun ≡ []
+    → lines_tell nodes (Inside v told) n (begun ++ (rest ++ more)) ≡ lines_tell (with_line n nodes (Happened event)) (Inside v told) (n + 1) (after ++ more)
+event_tells nodes v told n begun rest more after event a some begins =
+    line_tells nodes (Inside v told) n (begun ++ (rest ++ more)) a.line (after ++ more) (Happened event) (rw begins (first_line rest more a.line after a.lines)) (event_says v told rest after event a some)
 
 -- a line that is at fault
 pub line_is_wrong : (nodes : List NodeJournal) (place : Place) (n : ℕ) (text bytes after : Text) (kind : TextKind) → lines_of text ≡ bytes ∷ lines_of after → Err kind ≡ line_in place bytes

@@ -1,13 +1,13 @@
 //! Events read at the front of a text, in one walk over the bytes of their lines. What isn't read so, as a node's line, a close and
 //! each fault, is for `line` to tell.
-ghost use Rattle.std.specs.Prelude.{◌≡◌, IfSome};
-ghost use Rattle.thp_journal_reader.specs.Ahead.{EventAhead, OperandsAhead, OutcomeAhead, SetAhead};
+ghost use Rattle.std.specs.Prelude.{◌≡◌, [], ◌∷◌, IfSome};
+ghost use Rattle.thp_journal_reader.specs.Ahead.{EventAhead, LineAhead, OperandsAhead, OutcomeAhead};
 ghost use Rattle.thp_journal_reader.specs.EventLines.{event_of, loss_event, page_event, range_event, split_event, unmap_event};
 
 use crate::event_word::{LossWord, PageWord, RangeWord};
 use crate::set_text::set_of_text;
 use crate::version::Version;
-use thp_model::{Event, MAX_CALLERS, Outcome, PageId, SubSet, What};
+use thp_model::{Event, MAX_CALLERS, Outcome, PageId, What};
 use thp_text::{behind_name, cut_at, number_ahead};
 
 /// The outcome whose word a text begins with, and what follows the space behind it.
@@ -25,18 +25,17 @@ fn outcome_ahead(text: &[u8]) -> Option<(Outcome, &[u8])>
     Some((Outcome::Freed, rest))
 }
 
-/// The set that stands alone on the first line of a text, and what follows the line.
+/// The word that stands alone on the first line of a text, and what follows the line.
 #[inline(always)]
-fn set_ahead(text: &[u8]) -> Option<(SubSet, &[u8])>
-    ensures { IfSome result (λ read. SetAhead text.now read.0 read.1.now) }
+fn last_word_ahead(text: &[u8]) -> Option<(&[u8], &[u8])>
+    ensures { IfSome result (λ read. LineAhead (read.0.now ∷ []) text.now read.1.now) }
 {
     let (line, rest) = cut_at(b'\n', text);
     let rest = rest?;
     let (word, None) = cut_at(b' ', line) else {
         return None;
     };
-    let set = set_of_text(word).ok()?;
-    Some((set, rest))
+    Some((word, rest))
 }
 
 /// `PAGE`
@@ -68,7 +67,8 @@ fn loss_event_ahead(name: LossWord, caller: u32, text: &[u8]) -> Option<(Event, 
 {
     let (page, rest) = number_ahead(b' ', u64::MAX, text)?;
     let (outcome, rest) = outcome_ahead(rest)?;
-    let (released, rest) = set_ahead(rest)?;
+    let (word, rest) = last_word_ahead(rest)?;
+    let released = set_of_text(word).ok()?;
     let what = name.what(outcome, PageId(page), released);
     Some((Event { caller, what }, rest))
 }
@@ -82,7 +82,8 @@ fn unmap_event_ahead(caller: u32, text: &[u8]) -> Option<(Event, &[u8])>
     let (first, rest) = number_ahead(b' ', u64::from(u16::MAX), rest)?;
     let (count, rest) = number_ahead(b' ', u64::from(u16::MAX), rest)?;
     let (outcome, rest) = outcome_ahead(rest)?;
-    let (released, rest) = set_ahead(rest)?;
+    let (word, rest) = last_word_ahead(rest)?;
+    let released = set_of_text(word).ok()?;
     let what = What::UnmapSub {
         outcome,
         page: PageId(page),
@@ -99,7 +100,8 @@ fn split_event_ahead(caller: u32, text: &[u8]) -> Option<(Event, &[u8])>
     ensures { IfSome result (λ read. OperandsAhead split_event caller text.now read.0 read.1.now) }
 {
     let (page, rest) = number_ahead(b' ', u64::MAX, text)?;
-    let (released, rest) = set_ahead(rest)?;
+    let (word, rest) = last_word_ahead(rest)?;
+    let released = set_of_text(word).ok()?;
     let what = What::Split {
         page: PageId(page),
         released,

@@ -13,5 +13,5 @@ pub returns-in-Some-behind_name : goal.returns-in-Some-behind_name
 returns-in-Some-behind_name c = named c.args.version (codes "unpin") (OfLoss loss.Unpin) c.args.caller c.args.text.now c.in-Some-behind_name.operands.now c.loss_event_ahead.result _ _ (unpin_is c.args.version) c.in-Some-behind_name.ensures c.loss_event_ahead.ensures
 
 pub returns-in-Some-behind_name-2 : goal.returns-in-Some-behind_name-2
-returns-in-Some-behind_name-2 c = named c.args.version (codes "unmapwhole") (OfLoss loss.UnmapWhole) c.args.caller c.args.text.now c.in-Some-behind_name-2.operands.now c.loss_event_ahead-2.result _ _ (unmapwhole_is c.args.version) c.in-Some-behind_name-2.ensures c.loss_event_ahead-2.ensures
+returns-in-Some-behind_name-2 c = named c.args.version (codes "unmapwhole") (OfLoss loss.UnmapWhole) c.args.caller c.args.text.now c.in-Some-behind_name-2.operands.now c.loss_event_ahead-in-Some-behind_name-2.result _ _ (unmapwhole_is c.args.version) c.in-Some-behind_name-2.ensures c.loss_event_ahead-in-Some-behind_name-2.ensures
 

@@ -12,7 +12,7 @@ abbrev pub invariant-loop-event : goal.invariant-loop-event
 invariant-loop-event g l =
     let told = g.N.KeepsNodes.told in
     record {
-      tells : (more : Text) → told_behind l.text more (lines_tell (told l.nodes) l.place l.text.line (l.text.begun ++ (l.rest ++ more))) ≡ told_behind l.fn.text more (lines_tell (told l.fn.nodes) l.place l.fn.text.line (l.fn.text.begun ++ (l.part ++ more)));
+      tells : (more : Text) → told_behind l.text more (lines_tell (told l.nodes) l.fn.place l.text.line (l.text.begun ++ (l.rest ++ more))) ≡ told_behind l.fn.text more (lines_tell (told l.fn.nodes) l.fn.place l.fn.text.line (l.fn.text.begun ++ (l.part ++ more)));
       counted : IsCounted l.rest l.text;
       along : g.N.KeepsNodes.goes_along l.text.line l.nodes;
       begins : l.text.begun ≡ [];

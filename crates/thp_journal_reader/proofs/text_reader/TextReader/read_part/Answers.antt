@@ -1,6 +1,7 @@
-use Rattle.std.proofs.Common.{◌≡◌, ◌∙◌, ◌++◌, ◌∷◌, ◌+◌, ℕ, ap, refl, rules, subst, sym, Ok}
+use Rattle.std.proofs.Common.{◌≡◌, ◌∙◌, ◌++◌, ◌∷◌, ◌+◌, ℕ, ap, arith, refl, rules, subst, sym, Ok}
 use Rattle.thp_text.specs.TextInParts.{after_line, told_behind, with_begun, with_fault, TextSoFar}
 use Rattle.thp_text.specs.Words.{Text, lines_of}
+use Rattle.thp_text.proofs.PartReadLaws.{part_begins}
 use Rattle.thp_text.proofs.TextLaws.{fault_comes, line_begins, noted}
 use Rattle.thp_journal_reader.specs.JournalLines.{line_in}
 use Rattle.thp_journal_reader.specs.Parts.{lines_tell}
@@ -8,6 +9,21 @@ use Rattle.thp_journal_reader.specs.Reading.{with_line}
 use Rattle.thp_journal_reader.proofs.PartLaws.{line_is_wrong, line_tells}
 use Rattle.thp_journal_reader.proofs.text_reader.TextReader.read_part.Goals as goal
 use Rattle.thp_journal_reader.proofs.text_reader.TextReader.read_part.Goals.{in-Some+in-Err, in_default}
+
+abbrev most_of : TextSoFar → ℕ
+most_of t = t.most
+
+pub loop-text-init : goal.loop-text-init
+loop-text-init g c =
+    let told = g.N.KeepsNodes.told in
+    let part = c.next_part-rest in
+    record {
+      tells = λ more. c.in_ok-rest.ensures.tells more
+          ∙ part_begins c.args.self.text part.new.self c.args.part.now part.result.now more (lines_tell (told c.args.self.nodes) c.args.self.place) (omega (arith, c.text.invariant.counted, ap most_of c.text.view_is, c.in_ok-rest.ensures.most, ap most_of part.ensures.part)) part.ensures.part part.ensures.to_read;
+      counted = c.in_ok-rest.ensures.counted;
+      along = c.in_ok-rest.ensures.along;
+      limit = c.in_ok-rest.ensures.most ∙ ap most_of part.ensures.part;
+    }
 
 pub loop-text-preserved : goal.loop-text-preserved
 loop-text-preserved g c =
@@ -20,21 +36,24 @@ loop-text-preserved g c =
     let says : Ok said ≡ line_in l.place bytes = c.in-Ok.ensures.value in
     let number : c.in-Some.field-0.number ≡ l.text.line = rw c.in-Some.is at c.in_ok-number.ensures.number in
     let added : told c.add.new.self ≡ with_line l.text.line (told l.nodes) said = rw number at c.in_ok-add-in-Ok.ensures.nodes in
+    let step : (more : Text) → told_behind c.next_line.new.self more (lines_tell (told c.add.new.self) c.place_after-place.result c.next_line.new.self.line (c.next_line.new.self.begun ++ (c.next_line.new.rest.now ++ more)))
+        ≡ told_behind l.text more (lines_tell (told l.nodes) l.place l.text.line (l.text.begun ++ (l.rest.now ++ more)))
+        = λ more. rw (after, added, c.place_after-place.ensures) (ap (told_behind l.text more) (sym (line_tells (told l.nodes) l.place l.text.line (l.text.begun ++ (l.rest.now ++ more)) bytes (c.next_line.new.rest.now ++ more) said (lines more) says)))
+    in
     record {
-      tells = λ more. rw (after, added, c.place_after-place.ensures)
-          (ap (told_behind l.text more) (sym (line_tells (told l.nodes) l.place l.text.line (l.text.begun ++ (l.rest.now ++ more)) bytes (c.next_line.new.rest.now ++ more) said (lines more) says)) ∙ l.invariant.tells more);
-      counted = search rules;
-      along = let P : ℕ → Type 0 = λ k. g.N.KeepsNodes.goes_along (k + 1) c.add.new.self in rw after (subst P number c.in_ok-add-in-Ok.ensures.along);
-      limit = rw after l.invariant.limit;
+      tells = λ more. c.in_ok-rest-in-Ok.ensures.tells more ∙ step more ∙ l.invariant.tells more;
+      counted = c.in_ok-rest-in-Ok.ensures.counted;
+      along = c.in_ok-rest-in-Ok.ensures.along;
+      limit = c.in_ok-rest-in-Ok.ensures.most ∙ rw after l.invariant.limit;
     }
 
 pub returns-clause-text : goal.returns-clause-text
 returns-clause-text g c = λ more.
     let told = g.N.KeepsNodes.told in
     let l = c.loop-text in
-    let new = c.match-branch-2.text in
+    let new = c.match-branch-3.text in
     let reads = lines_tell (told l.nodes) l.place in
-    elim c.match-branch-2.branch [
+    elim c.match-branch-3.branch [
       | in-Some+in-Err w ↦ (
           let kind = w.in-Err.kind in
           let after : c.next_line.new.self ≡ after_line l.text = search rules in
@@ -53,10 +72,10 @@ pub returns-clause-along : goal.returns-clause-along
 returns-clause-along g c =
     let l = c.loop-text in
     let P : TextSoFar → Type 0 = λ t. g.N.KeepsNodes.goes_along t.line l.nodes in
-    elim c.match-branch-2.branch [
+    elim c.match-branch-3.branch [
       | in-Some+in-Err w ↦ (
           let after : c.next_line.new.self ≡ after_line l.text = search rules in
-          let is : c.match-branch-2.text ≡ with_fault (after_line l.text) (l.text.line, w.in-Err.kind) = w.text-is ∙ w.note_fault.ensures ∙ noted c.next_line.new.self l.text w.in-Err.kind after in
+          let is : c.match-branch-3.text ≡ with_fault (after_line l.text) (l.text.line, w.in-Err.kind) = w.text-is ∙ w.note_fault.ensures ∙ noted c.next_line.new.self l.text w.in-Err.kind after in
           subst P (sym is) (g.met.N.KeepsNodes.later l.text.line l.nodes l.invariant.along)
           )
       | in_default w ↦ (
@@ -69,7 +88,7 @@ pub returns-clause-limit : goal.returns-clause-limit
 returns-clause-limit g c =
     let l = c.loop-text in
     let P : TextSoFar → Type 0 = λ t. t.most ≡ c.args.self.text.most in
-    elim c.match-branch-2.branch [
+    elim c.match-branch-3.branch [
       | in-Some+in-Err w ↦ (
           let after : c.next_line.new.self ≡ after_line l.text = search rules in
           subst P (sym (w.text-is ∙ w.note_fault.ensures ∙ noted c.next_line.new.self l.text w.in-Err.kind after)) l.invariant.limit
