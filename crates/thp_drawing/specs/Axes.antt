@@ -63,5 +63,5 @@ event_numbers step room (suc k) = event_numbers step room k ++ event_number room
 unfoldable pub event_axis : ℕ → DrawnNode → List ℕ
 event_axis y d =
     group_start 900 y
-    ++ codes "<text class=\"soft e\" x=\"-60\" y=\"0\">event</text>\n<text class=\"soft c\" x=\"0\" y=\"0\">0</text>\n"
+    ++ codes "<text class=\"soft e\" x=\"-130\" y=\"0\">event</text>\n<text class=\"soft c\" x=\"0\" y=\"0\">0</text>\n"
     ++ event_numbers (event_step d) (room_of d) (steps_in (event_step d) (events_of d)) ++ group_end

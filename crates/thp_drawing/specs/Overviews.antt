@@ -39,14 +39,14 @@ overview_lines y n (d ∷ more) = overview_line (plus y (times 165 n)) n d ++ ov
 
 unfoldable pub overview_heads : List ℕ
 overview_heads =
-    text_at (codes "soft") 150 720 (codes "node") ++ text_at (codes "soft e") 2400 720 (codes "live pages")
-    ++ text_at (codes "soft e") 3900 720 (codes "most queued") ++ text_at (codes "soft e") 5400 720 (codes "frames held")
-    ++ text_at (codes "soft e") 6900 720 (codes "given back")
+    text_at (codes "soft") 150 895 (codes "node") ++ text_at (codes "soft e") 2400 895 (codes "live pages")
+    ++ text_at (codes "soft e") 3900 895 (codes "most queued") ++ text_at (codes "soft e") 5400 895 (codes "frames held")
+    ++ text_at (codes "soft e") 6900 895 (codes "given back")
 
 -- the overview of several nodes
 unfoldable pub overview : List DrawnNode → List ℕ
-overview nodes = if nat_le (length nodes) 1 then [] else overview_heads ++ overview_lines 885 0 nodes
+overview nodes = if nat_le (length nodes) 1 then [] else overview_heads ++ overview_lines 1060 0 nodes
 
 -- how far down the overview reaches
 abbrev pub overview_foot : List DrawnNode → ℕ
-overview_foot nodes = if nat_le (length nodes) 1 then 500 else plus 780 (times 165 (length nodes))
+overview_foot nodes = if nat_le (length nodes) 1 then 660 else plus 950 (times 165 (length nodes))

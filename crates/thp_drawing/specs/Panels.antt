@@ -43,14 +43,22 @@ unfoldable pub quantity_words : Quantity → DrawnNode → List ℕ
 quantity_words q d =
     quantity_name q ++ codes ": most " ++ decimal (most_of q d.columns.items) ++ codes ", last " ++ decimal (last_of q d.last)
 
--- its colour and its words in a panel's title
-unfoldable pub quantity_item : Quantity → ℕ → DrawnNode → List ℕ
-quantity_item q x d = square_at (quantity_class q) x 72 ++ text_at (codes "ink") (x + 130) 150 (quantity_words q d)
+-- its colour and its words
+unfoldable pub quantity_label : Quantity → ℕ → DrawnNode → List ℕ
+quantity_label q x d = square_at (quantity_class q) x 72 ++ text_at (codes "ink") (x + 130) 150 (quantity_words q d)
+
+-- these, in a panel's title, or nothing where all its numbers are 0
+abbrev pub quantity_item : Quantity → ℕ → DrawnNode → List ℕ
+quantity_item q x d = if nat_eq (most_of q d.columns.items) 0 then [] else quantity_label q x d
 
 -- the lines and areas of a quantity
-unfoldable pub quantity_half : List ℕ → Quantity → ℕ → ℕ → DrawnNode → List ℕ
-quantity_half sign q step most d =
+unfoldable pub quantity_graph : List ℕ → Quantity → ℕ → ℕ → DrawnNode → List ℕ
+quantity_graph sign q step most d =
     ticks sign step most (steps_in step (most_of q d.columns.items)) ++ quantity_areas sign q most d
+
+-- these, or nothing where all its numbers are 0
+abbrev pub quantity_half : List ℕ → Quantity → ℕ → ℕ → DrawnNode → List ℕ
+quantity_half sign q step most d = if nat_eq (most_of q d.columns.items) 0 then [] else quantity_graph sign q step most d
 
 unfoldable pub panel_title : Panel → DrawnNode → List ℕ
 panel_title p d = unit_text p ++ quantity_item (up_of p) 0 d ++ quantity_item (down_of p) 3000 d

@@ -67,8 +67,12 @@ title_words = codes "Deferred split queues"
 unfoldable pub order_words : List ℕ
 order_words = codes "The events of a node follow each other from left to right; those of two nodes have no common time."
 
+unfoldable pub column_words : List ℕ
+column_words = codes "Full colour reaches the least number of a column's events, pale the greatest; stages have their mean."
+
 unfoldable pub title : List ℕ
-title = text_at (codes "ink hh") 150 300 title_words ++ text_at (codes "soft") 150 480 order_words
+title =
+    text_at (codes "ink hh") 150 300 title_words ++ text_at (codes "soft") 150 480 order_words ++ text_at (codes "soft") 150 640 column_words
 
 -- the picture of nodes
 unfoldable pub picture_text : List DrawnNode → List ℕ

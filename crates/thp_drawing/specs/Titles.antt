@@ -20,11 +20,15 @@ unfoldable pub shape_words : ℕ → ℕ → Option ℕ → List ℕ
 shape_words blocks order threshold =
     many blocks (codes "block") ++ codes " of 2^" ++ decimal order ++ codes " frames, underused " ++ threshold_words threshold
 
+-- how many events are drawn
+unfoldable pub events_words : DrawnNode → List ℕ
+events_words d = many (d.prefixes - 1) (codes "legal event")
+
 -- the title of node n
 unfoldable pub node_words : ℕ → DrawnNode → List ℕ
 node_words n d =
     codes "node " ++ decimal n ++ codes ": "
-    ++ shape_words d.shape.blocks d.shape.order d.shape.underused ++ codes ", " ++ many (d.prefixes - 1) (codes "event")
+    ++ shape_words d.shape.blocks d.shape.order d.shape.underused ++ codes ", " ++ events_words d
 
 -- a line of at most 80 letters, or the front of a longer one
 unfoldable pub shortened : List ℕ → List ℕ

@@ -139,7 +139,7 @@ pub(crate) fn put_event_axis(
     put_group(text, 900, y)?;
     put(
         text,
-        b"<text class=\"soft e\" x=\"-60\" y=\"0\">event</text>\n<text class=\"soft c\" x=\"0\" y=\"0\">0</text>\n",
+        b"<text class=\"soft e\" x=\"-130\" y=\"0\">event</text>\n<text class=\"soft c\" x=\"0\" y=\"0\">0</text>\n",
     )?;
     put_event_numbers(text, step, room_of(node), steps_in(step, events_of(node)))?;
     put_group_end(text)

@@ -28,9 +28,9 @@ pub(crate) fn overview_foot(nodes: &[DrawnNode]) -> u128
     ensures { result ≡ overview_foot nodes.now }
 {
     if nodes.len() <= 1 {
-        500
+        660
     } else {
-        plus(780, times(165, nodes.len() as u128))
+        plus(950, times(165, nodes.len() as u128))
     }
 }
 
@@ -50,18 +50,18 @@ pub(crate) fn put_overview(text: &mut Vec<u8>, nodes: &[DrawnNode]) -> Result<()
 fn put_overview_heads(text: &mut Vec<u8>) -> Result<(), AllocError>
     ensures { OnOk result (text.new.items ≡ text.old.items ++ overview_heads) }
 {
-    put_text(text, b"soft", 150, 720, b"node")?;
-    put_text(text, b"soft e", 2400, 720, b"live pages")?;
-    put_text(text, b"soft e", 3900, 720, b"most queued")?;
-    put_text(text, b"soft e", 5400, 720, b"frames held")?;
-    put_text(text, b"soft e", 6900, 720, b"given back")
+    put_text(text, b"soft", 150, 895, b"node")?;
+    put_text(text, b"soft e", 2400, 895, b"live pages")?;
+    put_text(text, b"soft e", 3900, 895, b"most queued")?;
+    put_text(text, b"soft e", 5400, 895, b"frames held")?;
+    put_text(text, b"soft e", 6900, 895, b"given back")
 }
 
 fn put_overview_lines(text: &mut Vec<u8>, nodes: &[DrawnNode]) -> Result<(), AllocError>
-    ensures { OnOk result (text.new.items ≡ text.old.items ++ overview_lines 885 0 nodes.now) }
+    ensures { OnOk result (text.new.items ≡ text.old.items ++ overview_lines 1060 0 nodes.now) }
 {
     for (number, node) in nodes.iter().enumerate() {
-        let y = plus(885, times(165, number as u128));
+        let y = plus(1060, times(165, number as u128));
         put_overview_line(text, y, number, node)?;
     }
     Ok(())

@@ -9,8 +9,10 @@ ghost use Rattle.thp_drawing.specs.Panels.{
   panel_most,
   panel_step,
   panel_title,
+  quantity_graph,
   quantity_half,
   quantity_item,
+  quantity_label,
   quantity_words,
   unit_text,
   up_of,
@@ -131,8 +133,7 @@ fn put_unit(text: &mut Vec<u8>, panel: Panel) -> Result<(), AllocError>
     }
 }
 
-// A quantity's colour and words.
-#[tactic(auto, using(crate::proofs::Pieces::two), unfolding(crate::specs::Panels::quantity_item))]
+// A quantity's colour and words, if it has any number but 0.
 fn put_quantity_item(
     text: &mut Vec<u8>,
     quantity: Quantity,
@@ -140,6 +141,21 @@ fn put_quantity_item(
     node: &DrawnNode,
 ) -> Result<(), AllocError>
     ensures { OnOk result (text.new.items ≡ text.old.items ++ quantity_item quantity x node.now) }
+{
+    if quantity.most(node.columns.as_slice()) == 0 {
+        return Ok(());
+    }
+    put_quantity_label(text, quantity, x, node)
+}
+
+#[tactic(auto, using(crate::proofs::Pieces::two), unfolding(crate::specs::Panels::quantity_label))]
+fn put_quantity_label(
+    text: &mut Vec<u8>,
+    quantity: Quantity,
+    x: u32,
+    node: &DrawnNode,
+) -> Result<(), AllocError>
+    ensures { OnOk result (text.new.items ≡ text.old.items ++ quantity_label quantity x node.now) }
 {
     let mut words = Vec::new(*text.allocator());
     put_quantity_words(&mut words, quantity, node)?;
@@ -181,7 +197,7 @@ fn put_panel_halves(
     put_group_end(text)
 }
 
-#[tactic(auto, using(crate::proofs::Pieces::two), unfolding(crate::specs::Panels::quantity_half))]
+// The lines and areas of a quantity, if it has any number but 0.
 fn put_quantity_half(
     text: &mut Vec<u8>,
     sign: &[u8],
@@ -191,6 +207,23 @@ fn put_quantity_half(
     node: &DrawnNode,
 ) -> Result<(), AllocError>
     ensures { OnOk result (text.new.items ≡ text.old.items ++ quantity_half sign.now quantity step most node.now) }
+{
+    if quantity.most(node.columns.as_slice()) == 0 {
+        return Ok(());
+    }
+    put_quantity_graph(text, sign, quantity, step, most, node)
+}
+
+#[tactic(auto, using(crate::proofs::Pieces::two), unfolding(crate::specs::Panels::quantity_graph))]
+fn put_quantity_graph(
+    text: &mut Vec<u8>,
+    sign: &[u8],
+    quantity: Quantity,
+    step: u128,
+    most: u128,
+    node: &DrawnNode,
+) -> Result<(), AllocError>
+    ensures { OnOk result (text.new.items ≡ text.old.items ++ quantity_graph sign.now quantity step most node.now) }
 {
     let count = steps_in(step, quantity.most(node.columns.as_slice()));
     put_ticks(text, sign, step, most, count)?;

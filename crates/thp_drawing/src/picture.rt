@@ -3,6 +3,7 @@ ghost use Rattle.std.specs.Prelude.{◌≡◌, ◌++◌, codes, OnOk};
 ghost use Rattle.std.specs.Fmt.{decimal};
 ghost use Rattle.thp_drawing.specs.Pictures.{
   axis_top,
+  column_words,
   foot_of,
   frames_top,
   ground,
@@ -95,12 +96,21 @@ fn order_words() -> &'static [u8]
     b"The events of a node follow each other from left to right; those of two nodes have no common time."
 }
 
-#[tactic(auto, using(crate::proofs::Pieces::two), unfolding(crate::specs::Pictures::title))]
+// What is said of columns.
+#[tactic(auto, unfolding(crate::specs::Pictures::column_words))]
+fn column_words() -> &'static [u8]
+    ensures { result.now ≡ column_words }
+{
+    b"Full colour reaches the least number of a column's events, pale the greatest; stages have their mean."
+}
+
+#[tactic(auto, using(crate::proofs::Pieces::three), unfolding(crate::specs::Pictures::title))]
 fn put_title(text: &mut Vec<u8>) -> Result<(), AllocError>
     ensures { OnOk result (text.new.items ≡ text.old.items ++ title) }
 {
     put_text(text, b"ink hh", 150, 300, title_words())?;
-    put_text(text, b"soft", 150, 480, order_words())
+    put_text(text, b"soft", 150, 480, order_words())?;
+    put_text(text, b"soft", 150, 640, column_words())
 }
 
 // How far down nodes reach, from this height on.

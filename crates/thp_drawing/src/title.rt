@@ -1,7 +1,7 @@
 //! What is said of a node above its panels.
 ghost use Rattle.std.specs.Prelude.{◌≡◌, ◌++◌, OnOk};
 ghost use Rattle.thp_journal_writer.specs.EventLines.{event_line};
-ghost use Rattle.thp_drawing.specs.Titles.{illegal_text, illegal_words, many, node_words, shape_words, shortened, threshold_words};
+ghost use Rattle.thp_drawing.specs.Titles.{events_words, illegal_text, illegal_words, many, node_words, shape_words, shortened, threshold_words};
 
 use crate::element::{put_decimal, put_text};
 use crate::illegal_event::IllegalEvent;
@@ -34,7 +34,15 @@ pub(crate) fn put_node_words(
         shape.underused,
     )?;
     put(text, b", ")?;
-    put_many(text, node.prefixes.saturating_sub(1), b"event")
+    put_events_words(text, node)
+}
+
+// How many events are drawn.
+#[tactic(auto, unfolding(crate::specs::Titles::events_words))]
+fn put_events_words(text: &mut Vec<u8>, node: &DrawnNode) -> Result<(), AllocError>
+    ensures { OnOk result (text.new.items ≡ text.old.items ++ events_words node.now) }
+{
+    put_many(text, node.prefixes.saturating_sub(1), b"legal event")
 }
 
 // The size of a node, and what it takes for underused.
