@@ -9,4 +9,6 @@ mod columns;
 #[cfg(test)]
 mod nodes;
 #[cfg(test)]
+mod pictures;
+#[cfg(test)]
 mod tables;

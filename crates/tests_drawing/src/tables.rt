@@ -5,10 +5,10 @@ use thp_drawing::{DrawnNode, put_table};
 // What a plain program outside tells of the same events.
 const TABLE: &[u8] =
     b"#node\tnode\tblocks\torder\tunderused\tlegal\twidth\tqueue-last\tin-batches-last\theld-last\t\
-given-last\tallocated-last\tpartly-mapped-last\tqueued-last\tin-batch-last\tsplit-last\n\
+given-last\tallocated-last\tpartly-mapped-last\tqueued-last\tin-batch-last\tsplit-last\tillegal-line\tillegal-event\n\
 #column\tnode\tfirst\tlast\tqueue-least\tqueue-greatest\tin-batches-least\tin-batches-greatest\theld-least\t\
 held-greatest\tgiven-least\tgiven-greatest\tallocated-sum\tpartly-mapped-sum\tqueued-sum\tin-batch-sum\tsplit-sum\n\
-node\t0\t16\t9\toff\t5\t1\t0\t0\t256\t256\t0\t0\t0\t0\t1\n\
+node\t0\t16\t9\toff\t5\t1\t0\t0\t256\t256\t0\t0\t0\t0\t1\t-\t-\n\
 column\t0\t0\t0\t0\t0\t0\t0\t0\t0\t0\t0\t0\t0\t0\t0\t0\n\
 column\t0\t1\t1\t0\t0\t0\t0\t512\t512\t0\t0\t1\t0\t0\t0\t0\n\
 column\t0\t2\t2\t0\t0\t0\t0\t512\t512\t0\t0\t1\t0\t0\t0\t0\n\

@@ -1,11 +1,40 @@
 -- Texts made piece by piece.
-use Rattle.std.proofs.Common.{◌≡◌, ℕ, List, ◌++◌, append_assoc}
+use Rattle.std.proofs.Common.{◌≡◌, ◌∙◌, ℕ, List, ◌++◌, ap, append_assoc}
 
 pub two : (t a b : List ℕ) → t ++ a ++ b ≡ t ++ (a ++ b)
 two t a b = append_assoc t a b
+
+pub three : (t a b c : List ℕ) → t ++ a ++ b ++ c ≡ t ++ (a ++ b ++ c)
+three t a b c = simp append_assoc
 
 pub four : (t a b c d : List ℕ) → t ++ a ++ b ++ c ++ d ≡ t ++ (a ++ b ++ c ++ d)
 four t a b c d = simp append_assoc
 
 pub five : (t a b c d e : List ℕ) → t ++ a ++ b ++ c ++ d ++ e ≡ t ++ (a ++ b ++ c ++ d ++ e)
 five t a b c d e = simp append_assoc
+
+pub six : (t a b c d e f : List ℕ) → t ++ a ++ b ++ c ++ d ++ e ++ f ≡ t ++ (a ++ b ++ c ++ d ++ e ++ f)
+six t a b c d e f = simp append_assoc
+
+pub seven : (t a b c d e f g : List ℕ) → t ++ a ++ b ++ c ++ d ++ e ++ f ++ g ≡ t ++ (a ++ b ++ c ++ d ++ e ++ f ++ g)
+seven t a b c d e f g = simp append_assoc
+
+pub eight : (t a b c d e f g h : List ℕ) → t ++ a ++ b ++ c ++ d ++ e ++ f ++ g ++ h ≡ t ++ (a ++ b ++ c ++ d ++ e ++ f ++ g ++ h)
+eight t a b c d e f g h = simp append_assoc
+
+pub nine : (t a b c d e f g h i : List ℕ) → t ++ a ++ b ++ c ++ d ++ e ++ f ++ g ++ h ++ i ≡ t ++ (a ++ b ++ c ++ d ++ e ++ f ++ g ++ h ++ i)
+nine t a b c d e f g h i = simp append_assoc
+
+-- ---- texts each of which is the one before and a piece behind it
+pub two_behind : (t a b : List ℕ) {u : List ℕ} → u ≡ t ++ a → u ++ b ≡ t ++ (a ++ b)
+two_behind t a b p = ap (λ x. x ++ b) p ∙ two t a b
+
+pub three_behind : (t a b c : List ℕ) {u v : List ℕ} → u ≡ t ++ a → v ≡ u ++ b → v ++ c ≡ t ++ (a ++ b ++ c)
+three_behind t a b c p q = ap (λ x. x ++ c) (q ∙ ap (λ x. x ++ b) p) ∙ three t a b c
+
+pub four_behind : (t a b c d : List ℕ) {u v w : List ℕ} → u ≡ t ++ a → v ≡ u ++ b → w ≡ v ++ c → w ++ d ≡ t ++ (a ++ b ++ c ++ d)
+four_behind t a b c d p q r = ap (λ x. x ++ d) (r ∙ ap (λ x. x ++ c) (q ∙ ap (λ x. x ++ b) p)) ∙ four t a b c d
+
+pub five_behind : (t a b c d e : List ℕ) {u v w x : List ℕ} → u ≡ t ++ a → v ≡ u ++ b → w ≡ v ++ c → x ≡ w ++ d → x ++ e ≡ t ++ (a ++ b ++ c ++ d ++ e)
+five_behind t a b c d e p q r s =
+    ap (λ y. y ++ e) (s ∙ ap (λ y. y ++ d) (r ∙ ap (λ y. y ++ c) (q ∙ ap (λ y. y ++ b) p))) ∙ five t a b c d e

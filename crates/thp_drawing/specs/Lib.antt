@@ -1,2 +1,13 @@
+pub mod Areas
+pub mod Axes
 pub mod Drawn
+pub mod Elements
+pub mod Escapes
+pub mod Overviews
+pub mod Panels
+pub mod Pictures
+pub mod Quantities
+pub mod Scales
+pub mod Styles
 pub mod Tables
+pub mod Titles

@@ -2,6 +2,9 @@
 -- project's format).
 use Rattle.std.specs.Prelude.{ℕ, ◌+◌, ◌*◌, ◌-◌, min, List, [], ◌∷◌, ◌++◌, Option, Some, None, codes}
 use Rattle.std.specs.Fmt.{decimal}
+use Rattle.thp_journal_writer.specs.EventLines.{event_line}
+use Rattle.thp_journal_writer.specs.Journals.{ended}
+use Rattle.thp_drawing.specs.declared.illegal_event.IllegalEvent.{IllegalEvent}
 use Rattle.thp_series.specs.declared.column.Column.{Column}
 use Rattle.thp_drawing.specs.declared.node.DrawnNode.{DrawnNode}
 
@@ -38,10 +41,16 @@ node_numbers d =
     (d.prefixes - 1) ∷ d.width ∷ d.last.queue ∷ d.last.in_batches ∷ d.last.held ∷ d.last.given
     ∷ d.last.pages.allocated ∷ d.last.pages.partly_mapped ∷ d.last.pages.queued ∷ d.last.pages.in_batch ∷ d.last.pages.split ∷ []
 
+-- the number of the line of the journal's text that tells the first illegal event, and that line, whose end ends the node's own
+abbrev pub illegal_fields : Option IllegalEvent → List ℕ
+illegal_fields None = codes "\t-\t-\n"
+illegal_fields (Some illegal) = codes "\t" ++ decimal illegal.line ++ codes "\t" ++ ended (event_line illegal.event)
+
 -- the line of node n
 unfoldable pub node_line : ℕ → DrawnNode → List ℕ
 node_line n d =
-    codes "node" ++ fields (n ∷ d.shape.blocks ∷ d.shape.order ∷ []) ++ threshold_field d.shape.underused ++ fields (node_numbers d) ++ codes "\n"
+    codes "node" ++ fields (n ∷ d.shape.blocks ∷ d.shape.order ∷ []) ++ threshold_field d.shape.underused
+    ++ fields (node_numbers d) ++ illegal_fields d.illegal
 
 -- the lines of node n: its own, and those of its columns
 unfoldable pub node_lines : ℕ → DrawnNode → List ℕ
@@ -55,7 +64,7 @@ lines_from n (d ∷ more) = node_lines n d ++ lines_from (n + 1) more
 -- the names of the fields
 unfoldable pub heads : List ℕ
 heads =
-    codes "#node\tnode\tblocks\torder\tunderused\tlegal\twidth\tqueue-last\tin-batches-last\theld-last\tgiven-last\tallocated-last\tpartly-mapped-last\tqueued-last\tin-batch-last\tsplit-last\n"
+    codes "#node\tnode\tblocks\torder\tunderused\tlegal\twidth\tqueue-last\tin-batches-last\theld-last\tgiven-last\tallocated-last\tpartly-mapped-last\tqueued-last\tin-batch-last\tsplit-last\tillegal-line\tillegal-event\n"
     ++ codes "#column\tnode\tfirst\tlast\tqueue-least\tqueue-greatest\tin-batches-least\tin-batches-greatest\theld-least\theld-greatest\tgiven-least\tgiven-greatest\tallocated-sum\tpartly-mapped-sum\tqueued-sum\tin-batch-sum\tsplit-sum\n"
 
 -- the table of nodes

@@ -1,10 +1,25 @@
-//! The numbers of nodes as text. The texts are those of `specs/Tables`.
+//! The numbers of nodes as text: a table of them, and a picture. The texts are those of `specs/Tables` and `specs/Pictures`.
 #![tactic(auto)]
 
+mod area;
+mod axis;
+mod element;
+mod escaping;
 mod illegal_event;
 mod node;
+mod overview;
+mod panel;
+mod picture;
+mod quantity;
+mod scale;
+mod stages;
+mod stages_panel;
+mod style;
 mod table;
+mod title;
 
+pub use escaping::put_escaped;
 pub use illegal_event::IllegalEvent;
 pub use node::DrawnNode;
+pub use picture::put_picture;
 pub use table::put_table;

@@ -1,17 +1,21 @@
 //! The numbers of nodes as a table.
 ghost use Rattle.std.specs.Prelude.{◌≡◌, ◌≤◌, ◌++◌, ◌+◌, ◌*◌, ◌-◌, List, [], ◌∷◌, length, min, OnOk, codes};
 ghost use Rattle.std.specs.Fmt.{decimal};
-ghost use Rattle.thp_drawing.specs.Tables.{column_line, column_lines, column_numbers, fields, heads, lines_from, node_line, node_lines, node_numbers, table_text, threshold_field};
+ghost use Rattle.thp_journal_writer.specs.EventLines.{event_line};
+ghost use Rattle.thp_journal_writer.specs.Journals.{ended};
+ghost use Rattle.thp_drawing.specs.Tables.{column_line, column_lines, column_numbers, fields, heads, illegal_fields, lines_from, node_line, node_lines, node_numbers, table_text, threshold_field};
 
+use crate::illegal_event::IllegalEvent;
 use crate::node::DrawnNode;
 use itoa::Buffer;
 use std::alloc::AllocError;
-use thp_journal_writer::put;
+use thp_journal_writer::{Version, put, put_event};
+use thp_model::Event;
 use thp_series::{Column, Numbers};
 
 // The names of a node's fields.
 const NODE_HEADS: &[u8] =
-    b"#node\tnode\tblocks\torder\tunderused\tlegal\twidth\tqueue-last\tin-batches-last\theld-last\tgiven-last\tallocated-last\tpartly-mapped-last\tqueued-last\tin-batch-last\tsplit-last\n";
+    b"#node\tnode\tblocks\torder\tunderused\tlegal\twidth\tqueue-last\tin-batches-last\theld-last\tgiven-last\tallocated-last\tpartly-mapped-last\tqueued-last\tin-batch-last\tsplit-last\tillegal-line\tillegal-event\n";
 
 // The names of a column's fields.
 const COLUMN_HEADS: &[u8] =
@@ -72,7 +76,32 @@ fn put_node_line(text: &mut Vec<u8>, number: usize, node: &DrawnNode) -> Result<
     )?;
     put_threshold(text, shape.underused)?;
     put_node_numbers(text, node)?;
-    put(text, b"\n")
+    put_illegal(text, &node.illegal)
+}
+
+// The last fields of a node's line, and its end.
+#[tactic(auto, using(crate::proofs::Pieces::three))]
+fn put_illegal(text: &mut Vec<u8>, illegal: &Option<IllegalEvent>) -> Result<(), AllocError>
+    ensures { OnOk result (text.new.items ≡ text.old.items ++ illegal_fields illegal.now) }
+{
+    match illegal {
+        None => put(text, b"\t-\t-\n"),
+        Some(illegal) => {
+            put_field(text, u128::from(illegal.line))?;
+            put(text, b"\t")?;
+            put_event_line(text, &illegal.event)
+        }
+    }
+}
+
+// The line of an event, with its line feed. The last version of journals tells each event, so that memory alone is refused.
+pub(crate) fn put_event_line(text: &mut Vec<u8>, event: &Event) -> Result<(), AllocError>
+    ensures { OnOk result (text.new.items ≡ text.old.items ++ ended (event_line event.now)) }
+{
+    match put_event(text, Version::Underused, event) {
+        Ok(()) => Ok(()),
+        Err(_) => Err(AllocError),
+    }
 }
 
 #[tactic(auto, unfolding(crate::specs::Tables::node_numbers))]

@@ -13,7 +13,7 @@ use Rattle.thp_streams.specs.declared.ending.ProgramFault.TheVariants.{Run, Usag
 use Rattle.thp_streams.specs.declared.ending.WordsFault.{WordsFault}
 use Rattle.thp_streams.specs.declared.ending.WordsFault.TheVariants as words
 use Rattle.thp_streams.specs.declared.ending.Program.{Program}
-use Rattle.thp_streams.specs.declared.ending.Program.TheVariants.{Thpsplit, Thpcheck}
+use Rattle.thp_streams.specs.declared.ending.Program.TheVariants.{Thpsplit, Thpcheck, Thpdraw}
 use Rattle.thp_streams.specs.declared.fault.RunFault.{RunFault}
 use Rattle.thp_streams.specs.declared.fault.RunFault.TheVariants.{Text, OutOfMemory, Read, Write}
 use Rattle.thp_streams.specs.declared.calls.Call.{Call}
@@ -32,6 +32,7 @@ line_of text = text ++ (10 ∷ [])
 abbrev pub name_front : Program → List ℕ
 name_front Thpsplit = codes "thpsplit: "
 name_front Thpcheck = codes "thpcheck: "
+name_front Thpdraw = codes "thpdraw: "
 
 -- the line that tells a fault of a run: what the fault displays, behind the program's name
 unfoldable pub fault_line : Program → RunFault → List ℕ

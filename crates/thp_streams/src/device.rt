@@ -15,7 +15,7 @@ use crate::fault::RunFault;
 use crate::watched::Watched;
 use std::alloc::Global;
 use std::io::{Read, Write};
-use thp_journal_reader::{JournalCheck, LongCheck, SummedCheck};
+use thp_journal_reader::{JournalCheck, LongCheck, SeriesCheck, SummedCheck};
 use thp_text::{MAX_INPUT, ReadFault, ScriptReader, Settings};
 
 /// How many bytes one read may give.
@@ -79,6 +79,18 @@ impl ReadsParts for SummedCheck {
 
     fn read_part(self, part: &[u8]) -> Result<Self, ReadFault> {
         Ok(SummedCheck::read_part(self, part)?)
+    }
+
+    ghost nothing_read = { λ r more. refl };
+
+    ghost more_read = { λ a b c first more old new rest. new rest ∙ old (more ++ rest) ∙ ap (told_with a) (sym (append_assoc first more rest)) };
+}
+
+impl ReadsParts for SeriesCheck {
+    ghost has_read = { λ old bytes new. (more : List ℕ) → told_with new more ≡ told_with old (bytes ++ more) };
+
+    fn read_part(self, part: &[u8]) -> Result<Self, ReadFault> {
+        Ok(SeriesCheck::read_part(self, part)?)
     }
 
     ghost nothing_read = { λ r more. refl };

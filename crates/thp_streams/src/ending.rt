@@ -14,6 +14,8 @@ pub enum Program {
     Thpsplit,
     /// The one that checks journals of any length.
     Thpcheck,
+    /// The one that draws journals of any length.
+    Thpdraw,
 }
 
 /// Why the words of a command line can't be had.

@@ -19,6 +19,6 @@ pub use device::{ReadsParts, read_parts, read_script_parts, write_text};
 pub use ending::{Ending, Program, ProgramFault, WordsFault};
 pub use fault::RunFault;
 pub use long_fault::LongRunFault;
-pub use telling::{status_of_ending, tell, tell_run, tell_text};
+pub use telling::{name_front, status_of_ending, tell, tell_run, tell_text};
 pub use watched::Watched;
 pub use words::{texts_of, words_of};

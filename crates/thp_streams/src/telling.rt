@@ -3,7 +3,7 @@ ghost use Rattle.std.specs.Prelude.{◌≡◌, IfOk, Err, false, string_bytes};
 ghost use Rattle.thp_streams.specs.declared.ending.ProgramFault.{ProgramFault as Ended};
 ghost use Rattle.thp_streams.specs.declared.fault.RunFault.{RunFault as ToldFault};
 ghost use Rattle.thp_streams.specs.declared.fault.RunFault.TheVariants as run;
-ghost use Rattle.thp_streams.specs.Outcomes.{device_of, end_status, fault_line, status_of, IsEndedAs, IsToldAs, Takes, Tells};
+ghost use Rattle.thp_streams.specs.Outcomes.{device_of, end_status, fault_line, name_front, status_of, IsEndedAs, IsToldAs, Takes, Tells};
 ghost use Rattle.thp_streams.specs.RunFaults.{seen_fault};
 
 use crate::device::write_text;
@@ -32,6 +32,17 @@ pub fn status_of_ending(ending: Ending) -> u8
     }
 }
 
+/// What a program's lines on standard error begin with: its name.
+pub fn name_front(program: Program) -> &'static [u8]
+    ensures { result.now ≡ name_front program }
+{
+    match program {
+        Program::Thpsplit => b"thpsplit: ",
+        Program::Thpcheck => b"thpcheck: ",
+        Program::Thpdraw => b"thpdraw: ",
+    }
+}
+
 /// The line that tells a fault, behind the program's name.
 #[tactic(auto, unfolding(crate::specs::Outcomes::fault_line))]
 fn line_of(alloc: Global, program: Program, fault: &LongRunFault) -> Result<String, AllocError>
@@ -40,6 +51,7 @@ fn line_of(alloc: Global, program: Program, fault: &LongRunFault) -> Result<Stri
     match program {
         Program::Thpsplit => Ok(format!(in alloc; "thpsplit: {fault}\n")?),
         Program::Thpcheck => Ok(format!(in alloc; "thpcheck: {fault}\n")?),
+        Program::Thpdraw => Ok(format!(in alloc; "thpdraw: {fault}\n")?),
     }
 }
 
@@ -51,6 +63,7 @@ fn memory_line(program: Program) -> &'static [u8]
     match program {
         Program::Thpsplit => b"thpsplit: out of memory\n",
         Program::Thpcheck => b"thpcheck: out of memory\n",
+        Program::Thpdraw => b"thpdraw: out of memory\n",
     }
 }
 
@@ -62,6 +75,7 @@ fn read_line(program: Program) -> &'static [u8]
     match program {
         Program::Thpsplit => b"thpsplit: read failed\n",
         Program::Thpcheck => b"thpcheck: read failed\n",
+        Program::Thpdraw => b"thpdraw: read failed\n",
     }
 }
 
@@ -73,6 +87,7 @@ fn write_line(program: Program) -> &'static [u8]
     match program {
         Program::Thpsplit => b"thpsplit: write failed\n",
         Program::Thpcheck => b"thpcheck: write failed\n",
+        Program::Thpdraw => b"thpdraw: write failed\n",
     }
 }
 

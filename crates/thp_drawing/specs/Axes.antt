@@ -1,0 +1,67 @@
+-- Axes: numbers beside lines.
+use Rattle.std.specs.Prelude.{ℕ, zero, suc, ◌-◌, List, [], ◌++◌, length, codes}
+use Rattle.std.specs.Fmt.{decimal}
+use Rattle.thp_drawing.specs.Elements.{group_end, group_start, text_at}
+use Rattle.thp_drawing.specs.Escapes.{escaped}
+use Rattle.thp_drawing.specs.Scales.{round_steps, scaled, step_among, steps_in, times}
+use Rattle.thp_drawing.specs.declared.node.DrawnNode.{DrawnNode}
+
+-- a number, and a line at its height
+unfoldable pub tick : List ℕ → ℕ → ℕ → List ℕ
+tick sign n high =
+    codes "<path class=\"rule\" d=\"M0 " ++ sign ++ decimal high ++ codes "h6000\"/>\n<text class=\"soft e\" x=\"-60\" y=\""
+    ++ sign ++ decimal high ++ codes "\" dy=\"40\">" ++ escaped (decimal n) ++ codes "</text>\n"
+
+-- the first k of them, one for each step
+abbrev pub ticks : List ℕ → ℕ → ℕ → ℕ → List ℕ
+ticks sign step most zero = []
+ticks sign step most (suc k) = ticks sign step most k ++ tick sign (times step (suc k)) (scaled 1000 (times step (suc k)) most)
+
+-- the line from which areas go up and down
+abbrev pub base_line : List ℕ
+base_line = codes "<path class=\"zero\" d=\"M0 0h6000\"/>\n<text class=\"soft e\" x=\"-60\" y=\"0\" dy=\"40\">0</text>\n"
+
+-- the events of a node that are drawn, and how many there is room for
+abbrev pub events_of : DrawnNode → ℕ
+events_of d = d.prefixes - 1
+
+abbrev pub room_of : DrawnNode → ℕ
+room_of d = times d.width (length d.columns.items)
+
+-- the step of their numbers
+abbrev pub event_step : DrawnNode → ℕ
+event_step d = step_among round_steps (events_of d)
+
+-- where an event stands: the first column begins before any
+abbrev pub event_at : ℕ → ℕ → ℕ
+event_at room event = scaled 6000 event room
+
+-- an upright line at a place
+unfoldable pub upright : ℕ → List ℕ
+upright x = codes "M" ++ decimal x ++ codes " 0v1000"
+
+-- the first k upright lines behind the axis, one for each step of events
+abbrev pub uprights : ℕ → ℕ → ℕ → List ℕ
+uprights step room zero = []
+uprights step room (suc k) = uprights step room k ++ upright (event_at room (times step (suc k)))
+
+unfoldable pub event_rules : DrawnNode → List ℕ
+event_rules d =
+    codes "<path class=\"rule\" d=\"M0 0v1000" ++ uprights (event_step d) (room_of d) (steps_in (event_step d) (events_of d))
+    ++ codes "\"/>\n"
+
+-- the number of an event, below its line
+abbrev pub event_number : ℕ → ℕ → List ℕ
+event_number room event = text_at (codes "soft c") (event_at room event) 0 (decimal event)
+
+-- the first k of them
+abbrev pub event_numbers : ℕ → ℕ → ℕ → List ℕ
+event_numbers step room zero = []
+event_numbers step room (suc k) = event_numbers step room k ++ event_number room (times step (suc k))
+
+-- the numbers of events, at this height
+unfoldable pub event_axis : ℕ → DrawnNode → List ℕ
+event_axis y d =
+    group_start 900 y
+    ++ codes "<text class=\"soft e\" x=\"-130\" y=\"0\">event</text>\n<text class=\"soft c\" x=\"0\" y=\"0\">0</text>\n"
+    ++ event_numbers (event_step d) (room_of d) (steps_in (event_step d) (events_of d)) ++ group_end

@@ -1,0 +1,52 @@
+-- The nodes side by side: a line of numbers for each.
+use Rattle.std.specs.Prelude.{ℕ, ◌+◌, List, [], ◌∷◌, ◌++◌, length, codes, if◌then◌else◌, nat_le, Option, Some, None}
+use Rattle.std.specs.Fmt.{decimal}
+use Rattle.thp_series.specs.declared.pages.Pages.{Pages}
+use Rattle.thp_drawing.specs.Elements.{group_end, group_start, text_at}
+use Rattle.thp_drawing.specs.Quantities.{most_of}
+use Rattle.thp_drawing.specs.Scales.{plus, times}
+use Rattle.thp_drawing.specs.declared.illegal_event.IllegalEvent.{IllegalEvent}
+use Rattle.thp_drawing.specs.declared.node.DrawnNode.{DrawnNode}
+use Rattle.thp_drawing.specs.declared.quantity.Quantity.TheVariants.{Queue}
+
+-- the pages that live, in whatever stage
+abbrev pub live_pages : Pages → ℕ
+live_pages p = plus (plus (plus (plus p.allocated p.partly_mapped) p.queued) p.in_batch) p.split
+
+-- the number of a node, and whether an event of it is illegal
+abbrev pub number_words : ℕ → Option IllegalEvent → List ℕ
+number_words n None = decimal n
+number_words n (Some illegal) = decimal n ++ codes " (illegal)"
+
+-- a number that ends at this place
+abbrev pub number_cell : ℕ → ℕ → List ℕ
+number_cell x n = text_at (codes "ink e") x 0 (decimal n)
+
+unfoldable pub overview_numbers : DrawnNode → List ℕ
+overview_numbers d =
+    number_cell 2400 (live_pages d.last.pages) ++ number_cell 3900 (most_of Queue d.columns.items)
+    ++ number_cell 5400 d.last.held ++ number_cell 6900 d.last.given
+
+-- the line of node n
+unfoldable pub overview_line : ℕ → ℕ → DrawnNode → List ℕ
+overview_line y n d =
+    group_start 0 y ++ text_at (codes "ink") 150 0 (number_words n d.illegal) ++ overview_numbers d ++ group_end
+
+-- the lines of nodes from node n on, from this height on
+abbrev pub overview_lines : ℕ → ℕ → List DrawnNode → List ℕ
+overview_lines y n [] = []
+overview_lines y n (d ∷ more) = overview_line (plus y (times 165 n)) n d ++ overview_lines y (n + 1) more
+
+unfoldable pub overview_heads : List ℕ
+overview_heads =
+    text_at (codes "soft") 150 895 (codes "node") ++ text_at (codes "soft e") 2400 895 (codes "live pages")
+    ++ text_at (codes "soft e") 3900 895 (codes "most queued") ++ text_at (codes "soft e") 5400 895 (codes "frames held")
+    ++ text_at (codes "soft e") 6900 895 (codes "given back")
+
+-- the overview of several nodes
+unfoldable pub overview : List DrawnNode → List ℕ
+overview nodes = if nat_le (length nodes) 1 then [] else overview_heads ++ overview_lines 1060 0 nodes
+
+-- how far down the overview reaches
+abbrev pub overview_foot : List DrawnNode → ℕ
+overview_foot nodes = if nat_le (length nodes) 1 then 660 else plus 950 (times 165 (length nodes))

@@ -1,0 +1,111 @@
+-- Panels: one for each unit of what is drawn. A panel whose numbers are all 0 is left out.
+use Rattle.std.specs.Prelude.{ℕ, ◌+◌, List, [], ◌++◌, codes, if◌then◌else◌, nat_eq}
+use Rattle.std.specs.Fmt.{decimal}
+use Rattle.thp_series.specs.declared.stage.Stage.{Stage}
+use Rattle.thp_series.specs.declared.stage.Stage.TheVariants.{Allocated, PartlyMapped, Queued, InBatch, Split}
+use Rattle.thp_drawing.specs.Areas.{quantity_areas, stage_area}
+use Rattle.thp_drawing.specs.Axes.{base_line, event_rules, ticks}
+use Rattle.thp_drawing.specs.Elements.{group_end, group_start, square_at, text_at}
+use Rattle.thp_drawing.specs.Quantities.{last_of, most_in, most_of, pages_most, quantity_class, quantity_name}
+use Rattle.thp_drawing.specs.Quantities.{stage_class, stage_name}
+use Rattle.thp_drawing.specs.Scales.{doubled_steps, plus, round_steps, scaled, step_among, steps_in}
+use Rattle.thp_drawing.specs.declared.node.DrawnNode.{DrawnNode}
+use Rattle.thp_drawing.specs.declared.quantity.Quantity.{Quantity}
+use Rattle.thp_drawing.specs.declared.quantity.Quantity.TheVariants.{Queue, InBatches, Held, Given}
+use Rattle.thp_drawing.specs.declared.panel.Panel.{Panel}
+use Rattle.thp_drawing.specs.declared.panel.Panel.TheVariants.{Pages, Frames}
+
+-- what a panel draws upwards, and what downwards
+abbrev pub up_of : Panel → Quantity
+up_of Pages = Queue
+up_of Frames = Held
+
+abbrev pub down_of : Panel → Quantity
+down_of Pages = InBatches
+down_of Frames = Given
+
+-- its unit, beside its title
+abbrev pub unit_text : Panel → List ℕ
+unit_text Pages = codes "<text class=\"soft e\" x=\"-60\" y=\"150\">pages</text>\n"
+unit_text Frames = codes "<text class=\"soft e\" x=\"-60\" y=\"150\">frames</text>\n"
+
+-- the step of its numbers up to n
+abbrev pub panel_step : Panel → ℕ → ℕ
+panel_step Pages n = step_among round_steps n
+panel_step Frames n = step_among doubled_steps n
+
+-- the greatest number of both, which together are 1,000 high
+abbrev pub panel_most : Panel → DrawnNode → ℕ
+panel_most p d = plus (most_of (up_of p) d.columns.items) (most_of (down_of p) d.columns.items)
+
+-- a quantity's name, the greatest number, and that behind the last event
+unfoldable pub quantity_words : Quantity → DrawnNode → List ℕ
+quantity_words q d =
+    quantity_name q ++ codes ": most " ++ decimal (most_of q d.columns.items) ++ codes ", last " ++ decimal (last_of q d.last)
+
+-- its colour and its words
+unfoldable pub quantity_label : Quantity → ℕ → DrawnNode → List ℕ
+quantity_label q x d = square_at (quantity_class q) x 72 ++ text_at (codes "ink") (x + 130) 150 (quantity_words q d)
+
+-- these, in a panel's title, or nothing where all its numbers are 0
+abbrev pub quantity_item : Quantity → ℕ → DrawnNode → List ℕ
+quantity_item q x d = if nat_eq (most_of q d.columns.items) 0 then [] else quantity_label q x d
+
+-- the lines and areas of a quantity
+unfoldable pub quantity_graph : List ℕ → Quantity → ℕ → ℕ → DrawnNode → List ℕ
+quantity_graph sign q step most d =
+    ticks sign step most (steps_in step (most_of q d.columns.items)) ++ quantity_areas sign q most d
+
+-- these, or nothing where all its numbers are 0
+abbrev pub quantity_half : List ℕ → Quantity → ℕ → ℕ → DrawnNode → List ℕ
+quantity_half sign q step most d = if nat_eq (most_of q d.columns.items) 0 then [] else quantity_graph sign q step most d
+
+unfoldable pub panel_title : Panel → DrawnNode → List ℕ
+panel_title p d = unit_text p ++ quantity_item (up_of p) 0 d ++ quantity_item (down_of p) 3000 d
+
+-- what stands round the base line, of numbers up to `most`
+unfoldable pub panel_halves : Panel → ℕ → DrawnNode → List ℕ
+panel_halves p most d =
+    group_start 0 (scaled 1000 (most_of (up_of p) d.columns.items) most)
+    ++ quantity_half (codes "-") (up_of p) (panel_step p most) most d ++ quantity_half [] (down_of p) (panel_step p most) most d
+    ++ base_line ++ group_end
+
+unfoldable pub panel_drawn : Panel → ℕ → DrawnNode → List ℕ
+panel_drawn p y d =
+    group_start 900 y ++ panel_title p d ++ group_start 0 260 ++ event_rules d ++ panel_halves p (panel_most p d) d
+    ++ group_end ++ group_end
+
+-- a panel, from this height on
+abbrev pub panel_at : Panel → ℕ → DrawnNode → List ℕ
+panel_at p y d = if nat_eq (panel_most p d) 0 then [] else panel_drawn p y d
+
+-- the colour and the name of a stage that occurs
+unfoldable pub stage_item : Stage → ℕ → DrawnNode → List ℕ
+stage_item x at d =
+    if nat_eq (most_in x d.columns.items) 0 then []
+    else square_at (stage_class x) at 72 ++ text_at (codes "ink") (at + 130) 150 (stage_name x)
+
+unfoldable pub stages_title : DrawnNode → List ℕ
+stages_title d =
+    codes "<text class=\"soft e\" x=\"-60\" y=\"150\">pages</text>\n"
+    ++ stage_item Allocated 0 d ++ stage_item PartlyMapped 1200 d ++ stage_item Queued 2400 d ++ stage_item InBatch 3600 d ++ stage_item Split 4800 d
+
+-- the stages, the last on top
+unfoldable pub stage_areas : DrawnNode → List ℕ
+stage_areas d =
+    stage_area Split d ++ stage_area InBatch d ++ stage_area Queued d ++ stage_area PartlyMapped d ++ stage_area Allocated d
+
+-- what stands on the base line, of means up to `most`
+unfoldable pub stages_stacked : ℕ → DrawnNode → List ℕ
+stages_stacked most d =
+    group_start 0 1000 ++ ticks (codes "-") (step_among round_steps most) most (steps_in (step_among round_steps most) most)
+    ++ stage_areas d ++ base_line ++ group_end
+
+unfoldable pub stages_drawn : ℕ → DrawnNode → List ℕ
+stages_drawn y d =
+    group_start 900 y ++ stages_title d ++ group_start 0 260 ++ event_rules d ++ stages_stacked (pages_most d) d
+    ++ group_end ++ group_end
+
+-- the panel of stages
+abbrev pub stages_panel : ℕ → DrawnNode → List ℕ
+stages_panel y d = if nat_eq (pages_most d) 0 then [] else stages_drawn y d

@@ -1,0 +1,81 @@
+-- The picture of a journal's nodes, as a text of SVG: 7,200 units wide, and as high as its nodes are.
+use Rattle.std.specs.Prelude.{ℕ, ◌+◌, List, [], ◌∷◌, ◌++◌, Option, Some, None, codes, if◌then◌else◌, nat_eq}
+use Rattle.std.specs.Fmt.{decimal}
+use Rattle.thp_drawing.specs.Axes.{event_axis}
+use Rattle.thp_drawing.specs.Elements.{group_end, group_start, text_at}
+use Rattle.thp_drawing.specs.Overviews.{overview, overview_foot}
+use Rattle.thp_drawing.specs.Panels.{panel_at, panel_most, stages_panel}
+use Rattle.thp_drawing.specs.Quantities.{pages_most}
+use Rattle.thp_drawing.specs.Scales.{plus}
+use Rattle.thp_drawing.specs.Styles.{style}
+use Rattle.thp_drawing.specs.Titles.{illegal_text, node_words}
+use Rattle.thp_drawing.specs.declared.illegal_event.IllegalEvent.{IllegalEvent}
+use Rattle.thp_drawing.specs.declared.node.DrawnNode.{DrawnNode}
+use Rattle.thp_drawing.specs.declared.panel.Panel.TheVariants.{Pages, Frames}
+
+-- the height of a panel whose greatest number is this
+abbrev pub height_of : ℕ → ℕ
+height_of most = if nat_eq most 0 then 0 else 1360
+
+-- where the panels of a node begin, below its first illegal event
+abbrev pub pages_top : Option IllegalEvent → ℕ
+pages_top None = 280
+pages_top (Some illegal) = 460
+
+abbrev pub frames_top : DrawnNode → ℕ
+frames_top d = plus (pages_top d.illegal) (height_of (panel_most Pages d))
+
+abbrev pub stages_top : DrawnNode → ℕ
+stages_top d = plus (frames_top d) (height_of (panel_most Frames d))
+
+abbrev pub axis_top : DrawnNode → ℕ
+axis_top d = plus (stages_top d) (height_of (pages_most d))
+
+abbrev pub node_height : DrawnNode → ℕ
+node_height d = plus (axis_top d) 300
+
+-- node n, from this height on
+unfoldable pub node_drawn : ℕ → ℕ → DrawnNode → List ℕ
+node_drawn y n d =
+    group_start 0 y ++ text_at (codes "ink h") 150 240 (node_words n d) ++ illegal_text d.illegal
+    ++ panel_at Pages (pages_top d.illegal) d ++ panel_at Frames (frames_top d) d ++ stages_panel (stages_top d) d
+    ++ event_axis (plus (axis_top d) 110) d ++ group_end
+
+-- nodes from node n on, one below the other
+abbrev pub nodes_drawn : ℕ → ℕ → List DrawnNode → List ℕ
+nodes_drawn y n [] = []
+nodes_drawn y n (d ∷ more) = node_drawn y n d ++ nodes_drawn (plus y (node_height d)) (n + 1) more
+
+-- how far down they reach
+abbrev pub foot_of : ℕ → List DrawnNode → ℕ
+foot_of y [] = y
+foot_of y (d ∷ more) = foot_of (plus y (node_height d)) more
+
+unfoldable pub svg_start : ℕ → List ℕ
+svg_start high = codes "<svg xmlns=\"http://www.w3.org/2000/svg\" viewBox=\"0 0 7200 " ++ decimal high ++ codes "\">\n"
+
+unfoldable pub ground : ℕ → List ℕ
+ground high = codes "<rect class=\"bg\" x=\"0\" y=\"0\" width=\"7200\" height=\"" ++ decimal high ++ codes "\"/>\n"
+
+-- how the picture begins, of this height
+unfoldable pub head : ℕ → List ℕ
+head high = svg_start high ++ style ++ ground high
+
+unfoldable pub title_words : List ℕ
+title_words = codes "Deferred split queues"
+
+unfoldable pub order_words : List ℕ
+order_words = codes "The events of a node follow each other from left to right; those of two nodes have no common time."
+
+unfoldable pub column_words : List ℕ
+column_words = codes "Full colour reaches the least number of a column's events, pale the greatest; stages have their mean."
+
+unfoldable pub title : List ℕ
+title =
+    text_at (codes "ink hh") 150 300 title_words ++ text_at (codes "soft") 150 480 order_words ++ text_at (codes "soft") 150 640 column_words
+
+-- the picture of nodes
+unfoldable pub picture_text : List DrawnNode → List ℕ
+picture_text nodes =
+    head (foot_of (overview_foot nodes) nodes) ++ title ++ overview nodes
+    ++ nodes_drawn (overview_foot nodes) 0 nodes ++ codes "</svg>\n"

@@ -1,0 +1,99 @@
+-- What is drawn over a node's events: what it is called, how it looks, and its numbers.
+use Rattle.std.specs.Prelude.{ℕ, ◌+◌, ◌-◌, ◌/◌, min, max, List, [], ◌∷◌, codes}
+use Rattle.thp_series.specs.declared.column.Column.{Column}
+use Rattle.thp_series.specs.declared.numbers.Numbers.{Numbers}
+use Rattle.thp_series.specs.declared.pages.PageSums.{PageSums}
+use Rattle.thp_series.specs.declared.span.Span.{Span}
+use Rattle.thp_series.specs.declared.stage.Stage.{Stage}
+use Rattle.thp_series.specs.declared.stage.Stage.TheVariants.{Allocated, PartlyMapped, Queued, InBatch, Split}
+use Rattle.thp_drawing.specs.Scales.{plus, times}
+use Rattle.thp_drawing.specs.declared.node.DrawnNode.{DrawnNode}
+use Rattle.thp_drawing.specs.declared.quantity.Quantity.{Quantity}
+use Rattle.thp_drawing.specs.declared.quantity.Quantity.TheVariants.{Queue, InBatches, Held, Given}
+
+-- the name of a quantity
+abbrev pub quantity_name : Quantity → List ℕ
+quantity_name Queue = codes "queue"
+quantity_name InBatches = codes "in batches"
+quantity_name Held = codes "held"
+quantity_name Given = codes "given back"
+
+-- its class; queue and batches have the colours of these stages
+abbrev pub quantity_class : Quantity → List ℕ
+quantity_class Queue = codes "s2"
+quantity_class InBatches = codes "s3"
+quantity_class Held = codes "held"
+quantity_class Given = codes "given"
+
+-- its least and its greatest number in a column
+abbrev pub span_in : Quantity → Column → Span
+span_in Queue c = c.queue
+span_in InBatches c = c.in_batches
+span_in Held c = c.held
+span_in Given c = c.given
+
+-- its number behind the last event
+abbrev pub last_of : Quantity → Numbers → ℕ
+last_of Queue n = n.queue
+last_of InBatches n = n.in_batches
+last_of Held n = n.held
+last_of Given n = n.given
+
+-- its greatest number in any column
+abbrev pub most_of : Quantity → List Column → ℕ
+most_of q [] = 0
+most_of q (c ∷ more) = max (span_in q c).greatest (most_of q more)
+
+-- the name of a stage
+abbrev pub stage_name : Stage → List ℕ
+stage_name Allocated = codes "allocated"
+stage_name PartlyMapped = codes "partly mapped"
+stage_name Queued = codes "queued"
+stage_name InBatch = codes "in a batch"
+stage_name Split = codes "split"
+
+-- its class
+abbrev pub stage_class : Stage → List ℕ
+stage_class Allocated = codes "s0"
+stage_class PartlyMapped = codes "s1"
+stage_class Queued = codes "s2"
+stage_class InBatch = codes "s3"
+stage_class Split = codes "s4"
+
+-- how many pages were in a stage, summed over a column's prefixes
+abbrev pub sum_in : Stage → PageSums → ℕ
+sum_in Allocated s = s.allocated
+sum_in PartlyMapped s = s.partly_mapped
+sum_in Queued s = s.queued
+sum_in InBatch s = s.in_batch
+sum_in Split s = s.split
+
+-- how many were in it or in an earlier one
+abbrev pub sum_up_to : Stage → PageSums → ℕ
+sum_up_to Allocated s = s.allocated
+sum_up_to PartlyMapped s = plus s.allocated s.partly_mapped
+sum_up_to Queued s = plus (plus s.allocated s.partly_mapped) s.queued
+sum_up_to InBatch s = plus (plus (plus s.allocated s.partly_mapped) s.queued) s.in_batch
+sum_up_to Split s = plus (plus (plus (plus s.allocated s.partly_mapped) s.queued) s.in_batch) s.split
+
+-- the greatest such sum of any column: 0 where the stage doesn't occur
+abbrev pub most_in : Stage → List Column → ℕ
+most_in x [] = 0
+most_in x (c ∷ more) = max (sum_in x c.pages) (most_in x more)
+
+-- how many of so many prefixes column j has, if it has room for w
+abbrev pub prefixes_of : ℕ → ℕ → ℕ → ℕ
+prefixes_of w prefixes j = min w (prefixes - times w j)
+
+-- the mean number of pages of column j, rounded up
+abbrev pub mean_pages : ℕ → ℕ → ℕ → Column → ℕ
+mean_pages w prefixes j c =
+    plus (sum_up_to Split c.pages) (prefixes_of w prefixes j - 1) / max (prefixes_of w prefixes j) 1
+
+-- the greatest mean of columns from column j on
+abbrev pub most_pages : ℕ → ℕ → ℕ → List Column → ℕ
+most_pages w prefixes j [] = 0
+most_pages w prefixes j (c ∷ more) = max (mean_pages w prefixes j c) (most_pages w prefixes (j + 1) more)
+
+abbrev pub pages_most : DrawnNode → ℕ
+pages_most d = most_pages d.width d.prefixes 0 d.columns.items

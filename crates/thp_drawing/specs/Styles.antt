@@ -1,0 +1,45 @@
+-- How a picture looks: classes of letters and lines, and their colours on a light and on a dark ground.
+use Rattle.std.specs.Prelude.{ℕ, List, ◌++◌, codes}
+
+-- how large the picture is shown, and in which letters
+unfoldable pub letter_rules : List ℕ
+letter_rules =
+    codes "svg{display:block;width:100%;max-width:1080px;height:auto;margin:0 auto;color-scheme:light dark}\n"
+    ++ codes "text{font:120px system-ui,sans-serif;font-variant-numeric:tabular-nums}\n"
+
+-- sizes of letters, and lines
+unfoldable pub size_rules : List ℕ
+size_rules =
+    codes ".h{font-size:150px;font-weight:600}.hh{font-size:190px;font-weight:600}.e{text-anchor:end}.c{text-anchor:middle}\n"
+    ++ codes ".pale{fill-opacity:.35}.rule,.zero{fill:none}.rule{stroke-width:6}.zero{stroke-width:8}\n"
+
+-- on a light ground: letters, lines, and frames
+unfoldable pub light_inks : List ℕ
+light_inks =
+    codes "svg{background:#ffffff}.bg{fill:#ffffff}.ink{fill:#1c2128}.soft{fill:#5d6673}.bad{fill:#c8102e}\n"
+    ++ codes ".rule{stroke:#e4e7ec}.zero{stroke:#1c2128}.held{fill:#64748b}.given{fill:#a4582a}\n"
+
+-- the stages of pages; queue and batches have the colours of theirs
+unfoldable pub light_stages : List ℕ
+light_stages =
+    codes ".s0{fill:#b6bfc9}.s1{fill:#e79700}.s2{fill:#3652b8}.s3{fill:#bd61ab}.s4{fill:#428452}\n"
+
+-- on a dark ground
+unfoldable pub dark_inks : List ℕ
+dark_inks =
+    codes "svg{background:#14171c}.bg{fill:#14171c}.ink{fill:#e8ebf0}.soft{fill:#a3acb9}.bad{fill:#ff6b78}\n"
+    ++ codes ".rule{stroke:#2a3038}.zero{stroke:#e8ebf0}.held{fill:#8b9ab0}.given{fill:#d28a55}\n"
+
+-- the stages
+unfoldable pub dark_stages : List ℕ
+dark_stages =
+    codes ".s0{fill:#4d5663}.s1{fill:#f9a726}.s2{fill:#4280ff}.s3{fill:#d764a1}.s4{fill:#45a670}\n"
+
+unfoldable pub light_rules : List ℕ
+light_rules = light_inks ++ light_stages
+
+unfoldable pub dark_rules : List ℕ
+dark_rules = codes "@media(prefers-color-scheme:dark){\n" ++ dark_inks ++ dark_stages ++ codes "}"
+
+unfoldable pub style : List ℕ
+style = codes "<style>\n" ++ letter_rules ++ size_rules ++ light_rules ++ dark_rules ++ codes "</style>\n"

@@ -1,0 +1,43 @@
+-- What is said of a node above its panels.
+use Rattle.std.specs.Prelude.{ℕ, ◌-◌, List, [], ◌++◌, length, take, Option, Some, None, codes, if◌then◌else◌, nat_eq, nat_le}
+use Rattle.std.specs.Fmt.{decimal}
+use Rattle.thp_model.specs.declared.events.Event.{Event}
+use Rattle.thp_journal_writer.specs.EventLines.{event_line}
+use Rattle.thp_drawing.specs.Elements.{text_at}
+use Rattle.thp_drawing.specs.declared.illegal_event.IllegalEvent.{IllegalEvent}
+use Rattle.thp_drawing.specs.declared.node.DrawnNode.{DrawnNode}
+
+-- a number and a word, which has an `s` where the number isn't 1
+unfoldable pub many : ℕ → List ℕ → List ℕ
+many n word = decimal n ++ codes " " ++ word ++ (if nat_eq n 1 then [] else codes "s")
+
+abbrev pub threshold_words : Option ℕ → List ℕ
+threshold_words None = codes "off"
+threshold_words (Some threshold) = codes "above " ++ decimal threshold
+
+-- the size of a node, and from how many zero-filled subpages on a page is underused
+unfoldable pub shape_words : ℕ → ℕ → Option ℕ → List ℕ
+shape_words blocks order threshold =
+    many blocks (codes "block") ++ codes " of 2^" ++ decimal order ++ codes " frames, underused " ++ threshold_words threshold
+
+-- how many events are drawn
+unfoldable pub events_words : DrawnNode → List ℕ
+events_words d = many (d.prefixes - 1) (codes "legal event")
+
+-- the title of node n
+unfoldable pub node_words : ℕ → DrawnNode → List ℕ
+node_words n d =
+    codes "node " ++ decimal n ++ codes ": "
+    ++ shape_words d.shape.blocks d.shape.order d.shape.underused ++ codes ", " ++ events_words d
+
+-- a line of at most 80 letters, or the front of a longer one
+unfoldable pub shortened : List ℕ → List ℕ
+shortened line = if nat_le (length line) 80 then line else take 77 line ++ codes " .."
+
+-- an illegal event, and the number of its line in the journal's text
+unfoldable pub illegal_words : ℕ → Event → List ℕ
+illegal_words line event = codes "illegal line " ++ decimal line ++ codes ": " ++ shortened (event_line event)
+
+abbrev pub illegal_text : Option IllegalEvent → List ℕ
+illegal_text None = []
+illegal_text (Some illegal) = text_at (codes "bad") 900 420 (illegal_words illegal.line illegal.event)

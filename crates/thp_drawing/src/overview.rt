@@ -1,0 +1,139 @@
+//! The nodes side by side.
+ghost use Rattle.std.specs.Prelude.{◌≡◌, ◌++◌, OnOk};
+ghost use Rattle.thp_drawing.specs.Overviews.{
+  live_pages,
+  number_cell,
+  number_words,
+  overview,
+  overview_foot,
+  overview_heads,
+  overview_line,
+  overview_lines,
+  overview_numbers,
+};
+
+use crate::axis::put_group_end;
+use crate::element::{put_decimal, put_group, put_text};
+use crate::illegal_event::IllegalEvent;
+use crate::node::DrawnNode;
+use crate::quantity::Quantity;
+use crate::scale::{plus, times};
+use itoa::Buffer;
+use std::alloc::AllocError;
+use thp_journal_writer::put;
+use thp_series::Pages;
+
+/// How far down the overview reaches.
+pub(crate) fn overview_foot(nodes: &[DrawnNode]) -> u128
+    ensures { result ≡ overview_foot nodes.now }
+{
+    if nodes.len() <= 1 {
+        660
+    } else {
+        plus(950, times(165, nodes.len() as u128))
+    }
+}
+
+/// Puts the overview of several nodes.
+#[tactic(auto, using(crate::proofs::Pieces::two), unfolding(crate::specs::Overviews::overview))]
+pub(crate) fn put_overview(text: &mut Vec<u8>, nodes: &[DrawnNode]) -> Result<(), AllocError>
+    ensures { OnOk result (text.new.items ≡ text.old.items ++ overview nodes.now) }
+{
+    if nodes.len() <= 1 {
+        return Ok(());
+    }
+    put_overview_heads(text)?;
+    put_overview_lines(text, nodes)
+}
+
+#[tactic(auto, using(crate::proofs::Pieces::five), unfolding(crate::specs::Overviews::overview_heads))]
+fn put_overview_heads(text: &mut Vec<u8>) -> Result<(), AllocError>
+    ensures { OnOk result (text.new.items ≡ text.old.items ++ overview_heads) }
+{
+    put_text(text, b"soft", 150, 895, b"node")?;
+    put_text(text, b"soft e", 2400, 895, b"live pages")?;
+    put_text(text, b"soft e", 3900, 895, b"most queued")?;
+    put_text(text, b"soft e", 5400, 895, b"frames held")?;
+    put_text(text, b"soft e", 6900, 895, b"given back")
+}
+
+fn put_overview_lines(text: &mut Vec<u8>, nodes: &[DrawnNode]) -> Result<(), AllocError>
+    ensures { OnOk result (text.new.items ≡ text.old.items ++ overview_lines 1060 0 nodes.now) }
+{
+    for (number, node) in nodes.iter().enumerate() {
+        let y = plus(1060, times(165, number as u128));
+        put_overview_line(text, y, number, node)?;
+    }
+    Ok(())
+}
+
+#[tactic(auto, using(crate::proofs::Pieces::four), unfolding(crate::specs::Overviews::overview_line))]
+fn put_overview_line(
+    text: &mut Vec<u8>,
+    y: u128,
+    number: usize,
+    node: &DrawnNode,
+) -> Result<(), AllocError>
+    ensures { OnOk result (text.new.items ≡ text.old.items ++ overview_line y number node.now) }
+{
+    let mut words = Vec::new(*text.allocator());
+    put_number_words(&mut words, number, &node.illegal)?;
+    put_group(text, 0, y)?;
+    put_text(text, b"ink", 150, 0, words.as_slice())?;
+    put_overview_numbers(text, node)?;
+    put_group_end(text)
+}
+
+// The number of a node, and whether an event of it is illegal.
+#[tactic(auto, using(crate::proofs::Pieces::two))]
+fn put_number_words(
+    text: &mut Vec<u8>,
+    number: usize,
+    illegal: &Option<IllegalEvent>,
+) -> Result<(), AllocError>
+    ensures { OnOk result (text.new.items ≡ text.old.items ++ number_words number illegal.now) }
+{
+    match illegal {
+        None => put_decimal(text, number as u128),
+        Some(_) => {
+            put_decimal(text, number as u128)?;
+            put(text, b" (illegal)")
+        }
+    }
+}
+
+#[tactic(auto, using(crate::proofs::Pieces::four), unfolding(crate::specs::Overviews::overview_numbers))]
+fn put_overview_numbers(text: &mut Vec<u8>, node: &DrawnNode) -> Result<(), AllocError>
+    ensures { OnOk result (text.new.items ≡ text.old.items ++ overview_numbers node.now) }
+{
+    let most = Quantity::Queue.most(node.columns.as_slice());
+    put_number(text, 2400, live_pages(&node.last.pages))?;
+    put_number(text, 3900, most)?;
+    put_number(text, 5400, node.last.held)?;
+    put_number(text, 6900, node.last.given)
+}
+
+// A number that ends at this place.
+fn put_number(text: &mut Vec<u8>, x: u128, number: u128) -> Result<(), AllocError>
+    ensures { OnOk result (text.new.items ≡ text.old.items ++ number_cell x number) }
+{
+    put_text(
+        text,
+        b"ink e",
+        x,
+        0,
+        Buffer::new().format(number).as_bytes(),
+    )
+}
+
+// The pages that live, in whatever stage.
+fn live_pages(pages: &Pages) -> u128
+    ensures { result ≡ live_pages pages.now }
+{
+    let two = plus(u128::from(pages.allocated), u128::from(pages.partly_mapped));
+    let four = plus(
+        plus(two, u128::from(pages.queued)),
+        u128::from(pages.in_batch),
+    );
+    plus(four, u128::from(pages.split))
+}

@@ -1,0 +1,231 @@
+//! Panels: one for each unit of what is drawn.
+ghost use Rattle.std.specs.Prelude.{◌≡◌, ◌++◌, [], codes, OnOk};
+ghost use Rattle.std.specs.Fmt.{decimal};
+ghost use Rattle.thp_drawing.specs.Panels.{
+  down_of,
+  panel_at,
+  panel_drawn,
+  panel_halves,
+  panel_most,
+  panel_step,
+  panel_title,
+  quantity_graph,
+  quantity_half,
+  quantity_item,
+  quantity_label,
+  quantity_words,
+  unit_text,
+  up_of,
+};
+
+use crate::area::put_quantity_areas;
+use crate::axis::{put_base_line, put_event_rules, put_group_end, put_ticks};
+use crate::element::{put_decimal, put_group, put_square, put_text};
+use crate::node::DrawnNode;
+use crate::quantity::Quantity;
+use crate::scale::{doubled_step, plus, round_step, scaled, steps_in};
+use std::alloc::AllocError;
+use thp_journal_writer::put;
+
+/// A panel of two quantities, one of which is drawn upwards and the other downwards.
+#[derive(Clone, Copy, Debug, PartialEq, Eq)]
+pub(crate) enum Panel {
+    /// Pages in the queue, and in batches.
+    Pages,
+    /// Frames held, and given back.
+    Frames,
+}
+
+impl Panel {
+    fn up(self) -> Quantity
+        ensures { result ≡ up_of self }
+    {
+        match self {
+            Panel::Pages => Quantity::Queue,
+            Panel::Frames => Quantity::Held,
+        }
+    }
+
+    fn down(self) -> Quantity
+        ensures { result ≡ down_of self }
+    {
+        match self {
+            Panel::Pages => Quantity::InBatches,
+            Panel::Frames => Quantity::Given,
+        }
+    }
+
+    // The step of its numbers up to this one.
+    fn step(self, number: u128) -> u128
+        ensures { result ≡ panel_step self number }
+    {
+        match self {
+            Panel::Pages => round_step(number),
+            Panel::Frames => doubled_step(number),
+        }
+    }
+
+    /// The greatest number of both, which together are 1,000 high.
+    pub(crate) fn most(self, node: &DrawnNode) -> u128
+        ensures { result ≡ panel_most self node.now }
+    {
+        let up = self.up().most(node.columns.as_slice());
+        let down = self.down().most(node.columns.as_slice());
+        plus(up, down)
+    }
+}
+
+/// Puts a panel from this height on, unless its numbers are all 0.
+pub(crate) fn put_panel(
+    text: &mut Vec<u8>,
+    panel: Panel,
+    y: u128,
+    node: &DrawnNode,
+) -> Result<(), AllocError>
+    ensures { OnOk result (text.new.items ≡ text.old.items ++ panel_at panel y node.now) }
+{
+    if panel.most(node) == 0 {
+        return Ok(());
+    }
+    put_panel_drawn(text, panel, y, node)
+}
+
+#[tactic(auto, using(crate::proofs::Pieces::seven), unfolding(crate::specs::Panels::panel_drawn))]
+fn put_panel_drawn(
+    text: &mut Vec<u8>,
+    panel: Panel,
+    y: u128,
+    node: &DrawnNode,
+) -> Result<(), AllocError>
+    ensures { OnOk result (text.new.items ≡ text.old.items ++ panel_drawn panel y node.now) }
+{
+    let most = panel.most(node);
+    put_group(text, 900, y)?;
+    put_panel_title(text, panel, node)?;
+    put_group(text, 0, 260)?;
+    put_event_rules(text, node)?;
+    put_panel_halves(text, panel, most, node)?;
+    put_group_end(text)?;
+    put_group_end(text)
+}
+
+#[tactic(auto, using(crate::proofs::Pieces::three), unfolding(crate::specs::Panels::panel_title))]
+fn put_panel_title(text: &mut Vec<u8>, panel: Panel, node: &DrawnNode) -> Result<(), AllocError>
+    ensures { OnOk result (text.new.items ≡ text.old.items ++ panel_title panel node.now) }
+{
+    put_unit(text, panel)?;
+    put_quantity_item(text, panel.up(), 0, node)?;
+    put_quantity_item(text, panel.down(), 3000, node)
+}
+
+fn put_unit(text: &mut Vec<u8>, panel: Panel) -> Result<(), AllocError>
+    ensures { OnOk result (text.new.items ≡ text.old.items ++ unit_text panel) }
+{
+    match panel {
+        Panel::Pages => put(
+            text,
+            b"<text class=\"soft e\" x=\"-60\" y=\"150\">pages</text>\n",
+        ),
+        Panel::Frames => put(
+            text,
+            b"<text class=\"soft e\" x=\"-60\" y=\"150\">frames</text>\n",
+        ),
+    }
+}
+
+// A quantity's colour and words, if it has any number but 0.
+fn put_quantity_item(
+    text: &mut Vec<u8>,
+    quantity: Quantity,
+    x: u32,
+    node: &DrawnNode,
+) -> Result<(), AllocError>
+    ensures { OnOk result (text.new.items ≡ text.old.items ++ quantity_item quantity x node.now) }
+{
+    if quantity.most(node.columns.as_slice()) == 0 {
+        return Ok(());
+    }
+    put_quantity_label(text, quantity, x, node)
+}
+
+#[tactic(auto, using(crate::proofs::Pieces::two), unfolding(crate::specs::Panels::quantity_label))]
+fn put_quantity_label(
+    text: &mut Vec<u8>,
+    quantity: Quantity,
+    x: u32,
+    node: &DrawnNode,
+) -> Result<(), AllocError>
+    ensures { OnOk result (text.new.items ≡ text.old.items ++ quantity_label quantity x node.now) }
+{
+    let mut words = Vec::new(*text.allocator());
+    put_quantity_words(&mut words, quantity, node)?;
+    put_square(text, quantity.class(), u128::from(x), 72)?;
+    put_text(text, b"ink", u128::from(x) + 130, 150, words.as_slice())
+}
+
+#[tactic(auto, using(crate::proofs::Pieces::five), unfolding(crate::specs::Panels::quantity_words))]
+fn put_quantity_words(
+    text: &mut Vec<u8>,
+    quantity: Quantity,
+    node: &DrawnNode,
+) -> Result<(), AllocError>
+    ensures { OnOk result (text.new.items ≡ text.old.items ++ quantity_words quantity node.now) }
+{
+    put(text, quantity.name())?;
+    put(text, b": most ")?;
+    put_decimal(text, quantity.most(node.columns.as_slice()))?;
+    put(text, b", last ")?;
+    put_decimal(text, quantity.last(&node.last))
+}
+
+// What stands round the base line.
+#[tactic(auto, using(crate::proofs::Pieces::five), unfolding(crate::specs::Panels::panel_halves))]
+fn put_panel_halves(
+    text: &mut Vec<u8>,
+    panel: Panel,
+    most: u128,
+    node: &DrawnNode,
+) -> Result<(), AllocError>
+    ensures { OnOk result (text.new.items ≡ text.old.items ++ panel_halves panel most node.now) }
+{
+    let base = scaled(1000, panel.up().most(node.columns.as_slice()), most);
+    let step = panel.step(most);
+    put_group(text, 0, base)?;
+    put_quantity_half(text, b"-", panel.up(), step, most, node)?;
+    put_quantity_half(text, b"", panel.down(), step, most, node)?;
+    put_base_line(text)?;
+    put_group_end(text)
+}
+
+// The lines and areas of a quantity, if it has any number but 0.
+fn put_quantity_half(
+    text: &mut Vec<u8>,
+    sign: &[u8],
+    quantity: Quantity,
+    step: u128,
+    most: u128,
+    node: &DrawnNode,
+) -> Result<(), AllocError>
+    ensures { OnOk result (text.new.items ≡ text.old.items ++ quantity_half sign.now quantity step most node.now) }
+{
+    if quantity.most(node.columns.as_slice()) == 0 {
+        return Ok(());
+    }
+    put_quantity_graph(text, sign, quantity, step, most, node)
+}
+
+#[tactic(auto, using(crate::proofs::Pieces::two), unfolding(crate::specs::Panels::quantity_graph))]
+fn put_quantity_graph(
+    text: &mut Vec<u8>,
+    sign: &[u8],
+    quantity: Quantity,
+    step: u128,
+    most: u128,
+    node: &DrawnNode,
+) -> Result<(), AllocError>
+    ensures { OnOk result (text.new.items ≡ text.old.items ++ quantity_graph sign.now quantity step most node.now) }
+{
+    let count = steps_in(step, quantity.most(node.columns.as_slice()));
+    put_ticks(text, sign, step, most, count)?;
+    put_quantity_areas(text, sign, quantity, most, node)
+}

@@ -1,0 +1,192 @@
+//! The picture of nodes, as a text of SVG.
+ghost use Rattle.std.specs.Prelude.{◌≡◌, ◌++◌, codes, OnOk};
+ghost use Rattle.std.specs.Fmt.{decimal};
+ghost use Rattle.thp_drawing.specs.Pictures.{
+  axis_top,
+  column_words,
+  foot_of,
+  frames_top,
+  ground,
+  head,
+  height_of,
+  node_drawn,
+  node_height,
+  nodes_drawn,
+  order_words,
+  pages_top,
+  picture_text,
+  stages_top,
+  svg_start,
+  title,
+  title_words,
+};
+
+use crate::axis::{put_event_axis, put_group_end};
+use crate::element::{put_decimal, put_group, put_text};
+use crate::illegal_event::IllegalEvent;
+use crate::node::DrawnNode;
+use crate::overview::{overview_foot, put_overview};
+use crate::panel::{Panel, put_panel};
+use crate::scale::plus;
+use crate::stages::pages_most;
+use crate::stages_panel::put_stages_panel;
+use crate::style::put_style;
+use crate::title::{put_illegal_text, put_node_words};
+use std::alloc::AllocError;
+use thp_journal_writer::put;
+
+/// Puts the picture of nodes, which are numbered from 0 on, behind a text. Where memory is refused a front of it may
+/// stand there.
+#[tactic(auto, using(crate::proofs::Pieces::five), unfolding(crate::specs::Pictures::picture_text))]
+pub fn put_picture(text: &mut Vec<u8>, nodes: &[DrawnNode]) -> Result<(), AllocError>
+    ensures { OnOk result (text.new.items ≡ text.old.items ++ picture_text nodes.now) }
+{
+    let top = overview_foot(nodes);
+    put_head(text, foot_of(top, nodes))?;
+    put_title(text)?;
+    put_overview(text, nodes)?;
+    put_nodes(text, top, nodes)?;
+    put(text, b"</svg>\n")
+}
+
+#[tactic(auto, using(crate::proofs::Pieces::three), unfolding(crate::specs::Pictures::head))]
+fn put_head(text: &mut Vec<u8>, high: u128) -> Result<(), AllocError>
+    ensures { OnOk result (text.new.items ≡ text.old.items ++ head high) }
+{
+    put_svg_start(text, high)?;
+    put_style(text)?;
+    put_ground(text, high)
+}
+
+fn put_svg_start(text: &mut Vec<u8>, high: u128) -> Result<(), AllocError>
+    ensures { OnOk result (text.new.items ≡ text.old.items ++ svg_start high) }
+{
+    put(
+        text,
+        b"<svg xmlns=\"http://www.w3.org/2000/svg\" viewBox=\"0 0 7200 ",
+    )?;
+    put_decimal(text, high)?;
+    put(text, b"\">\n")
+}
+
+#[tactic(auto, using(crate::proofs::Pieces::three), unfolding(crate::specs::Pictures::ground))]
+fn put_ground(text: &mut Vec<u8>, high: u128) -> Result<(), AllocError>
+    ensures { OnOk result (text.new.items ≡ text.old.items ++ ground high) }
+{
+    put(
+        text,
+        b"<rect class=\"bg\" x=\"0\" y=\"0\" width=\"7200\" height=\"",
+    )?;
+    put_decimal(text, high)?;
+    put(text, b"\"/>\n")
+}
+
+#[tactic(auto, unfolding(crate::specs::Pictures::title_words))]
+fn title_words() -> &'static [u8]
+    ensures { result.now ≡ title_words }
+{
+    b"Deferred split queues"
+}
+
+// What is said of the order of events.
+#[tactic(auto, unfolding(crate::specs::Pictures::order_words))]
+fn order_words() -> &'static [u8]
+    ensures { result.now ≡ order_words }
+{
+    b"The events of a node follow each other from left to right; those of two nodes have no common time."
+}
+
+// What is said of columns.
+#[tactic(auto, unfolding(crate::specs::Pictures::column_words))]
+fn column_words() -> &'static [u8]
+    ensures { result.now ≡ column_words }
+{
+    b"Full colour reaches the least number of a column's events, pale the greatest; stages have their mean."
+}
+
+#[tactic(auto, using(crate::proofs::Pieces::three), unfolding(crate::specs::Pictures::title))]
+fn put_title(text: &mut Vec<u8>) -> Result<(), AllocError>
+    ensures { OnOk result (text.new.items ≡ text.old.items ++ title) }
+{
+    put_text(text, b"ink hh", 150, 300, title_words())?;
+    put_text(text, b"soft", 150, 480, order_words())?;
+    put_text(text, b"soft", 150, 640, column_words())
+}
+
+// How far down nodes reach, from this height on.
+fn foot_of(top: u128, nodes: &[DrawnNode]) -> u128
+    ensures { result ≡ foot_of top nodes.now }
+{
+    let mut y = top;
+    for node in nodes {
+        y = plus(y, node_height(node));
+    }
+    y
+}
+
+fn put_nodes(text: &mut Vec<u8>, top: u128, nodes: &[DrawnNode]) -> Result<(), AllocError>
+    ensures { OnOk result (text.new.items ≡ text.old.items ++ nodes_drawn top 0 nodes.now) }
+{
+    let mut y = top;
+    for (number, node) in nodes.iter().enumerate() {
+        put_node(text, y, number, node)?;
+        y = plus(y, node_height(node));
+    }
+    Ok(())
+}
+
+#[tactic(auto, using(crate::proofs::Pieces::eight), unfolding(crate::specs::Pictures::node_drawn))]
+fn put_node(text: &mut Vec<u8>, y: u128, number: usize, node: &DrawnNode) -> Result<(), AllocError>
+    ensures { OnOk result (text.new.items ≡ text.old.items ++ node_drawn y number node.now) }
+{
+    let mut words = Vec::new(*text.allocator());
+    put_node_words(&mut words, number, node)?;
+    put_group(text, 0, y)?;
+    put_text(text, b"ink h", 150, 240, words.as_slice())?;
+    put_illegal_text(text, &node.illegal)?;
+    put_panel(text, Panel::Pages, pages_top(&node.illegal), node)?;
+    put_panel(text, Panel::Frames, frames_top(node), node)?;
+    put_stages_panel(text, stages_top(node), node)?;
+    put_event_axis(text, plus(axis_top(node), 110), node)?;
+    put_group_end(text)
+}
+
+// The height of a panel whose greatest number is this.
+fn height_of(most: u128) -> u128
+    ensures { result ≡ height_of most }
+{
+    if most == 0 { 0 } else { 1360 }
+}
+
+fn pages_top(illegal: &Option<IllegalEvent>) -> u128
+    ensures { result ≡ pages_top illegal.now }
+{
+    match illegal {
+        None => 280,
+        Some(_) => 460,
+    }
+}
+
+fn frames_top(node: &DrawnNode) -> u128
+    ensures { result ≡ frames_top node.now }
+{
+    plus(pages_top(&node.illegal), height_of(Panel::Pages.most(node)))
+}
+
+fn stages_top(node: &DrawnNode) -> u128
+    ensures { result ≡ stages_top node.now }
+{
+    plus(frames_top(node), height_of(Panel::Frames.most(node)))
+}
+
+fn axis_top(node: &DrawnNode) -> u128
+    ensures { result ≡ axis_top node.now }
+{
+    plus(stages_top(node), height_of(pages_most(node)))
+}
+
+fn node_height(node: &DrawnNode) -> u128
+    ensures { result ≡ node_height node.now }
+{
+    plus(axis_top(node), 300)
+}

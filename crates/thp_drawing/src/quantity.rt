@@ -1,0 +1,109 @@
+//! What is drawn over a node's events.
+ghost use Rattle.std.specs.Prelude.{◌≡◌};
+ghost use Rattle.thp_drawing.specs.Areas.{edge_class, edge_of};
+ghost use Rattle.thp_drawing.specs.Quantities.{last_of, most_of, quantity_class, quantity_name, span_in};
+
+use thp_series::{Column, Numbers, Span};
+
+/// A number of a node that is drawn over its events.
+#[derive(Clone, Copy, Debug, PartialEq, Eq)]
+pub(crate) enum Quantity {
+    /// Pages in the deferred split queue.
+    Queue,
+    /// Pages in batches.
+    InBatches,
+    /// Frames held.
+    Held,
+    /// Frames given back so far.
+    Given,
+}
+
+/// Which number of a column is drawn.
+#[derive(Clone, Copy, Debug, PartialEq, Eq)]
+pub(crate) enum Edge {
+    Least,
+    Greatest,
+}
+
+impl Quantity {
+    /// What it is called.
+    pub(crate) fn name(self) -> &'static [u8]
+        ensures { result.now ≡ quantity_name self }
+    {
+        match self {
+            Quantity::Queue => b"queue",
+            Quantity::InBatches => b"in batches",
+            Quantity::Held => b"held",
+            Quantity::Given => b"given back",
+        }
+    }
+
+    /// The class that has its colour.
+    pub(crate) fn class(self) -> &'static [u8]
+        ensures { result.now ≡ quantity_class self }
+    {
+        match self {
+            Quantity::Queue => b"s2",
+            Quantity::InBatches => b"s3",
+            Quantity::Held => b"held",
+            Quantity::Given => b"given",
+        }
+    }
+
+    /// Its numbers in a column.
+    pub(crate) fn span(self, column: &Column) -> Span
+        ensures { result ≡ span_in self column.now }
+    {
+        match self {
+            Quantity::Queue => column.queue,
+            Quantity::InBatches => column.in_batches,
+            Quantity::Held => column.held,
+            Quantity::Given => column.given,
+        }
+    }
+
+    /// Its number behind the last event.
+    pub(crate) fn last(self, numbers: &Numbers) -> u128
+        ensures { result ≡ last_of self numbers.now }
+    {
+        match self {
+            Quantity::Queue => u128::from(numbers.queue),
+            Quantity::InBatches => u128::from(numbers.in_batches),
+            Quantity::Held => numbers.held,
+            Quantity::Given => numbers.given,
+        }
+    }
+
+    /// Its greatest number in any column.
+    pub(crate) fn most(self, columns: &[Column]) -> u128
+        ensures { result ≡ most_of self columns.now }
+    {
+        let mut most = 0;
+        for column in columns {
+            most = self.span(column).greatest.max(most);
+        }
+        most
+    }
+}
+
+impl Edge {
+    /// This number of a span.
+    pub(crate) fn of(self, span: Span) -> u128
+        ensures { result ≡ edge_of self span }
+    {
+        match self {
+            Edge::Least => span.least,
+            Edge::Greatest => span.greatest,
+        }
+    }
+
+    /// What its area has behind its class.
+    pub(crate) fn class(self) -> &'static [u8]
+        ensures { result.now ≡ edge_class self }
+    {
+        match self {
+            Edge::Least => b"",
+            Edge::Greatest => b" pale",
+        }
+    }
+}

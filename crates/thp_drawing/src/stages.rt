@@ -1,0 +1,101 @@
+//! How many pages are in each stage, as it is drawn.
+ghost use Rattle.std.specs.Prelude.{◌≡◌};
+ghost use Rattle.thp_drawing.specs.Quantities.{most_in, most_pages, pages_most, prefixes_of};
+ghost use Rattle.thp_drawing.specs.Quantities.{stage_class, stage_name, sum_in, sum_up_to};
+
+use crate::node::DrawnNode;
+use crate::scale::{plus, times};
+use thp_series::{Column, PageSums, Stage};
+
+/// What a stage is called.
+pub(crate) fn stage_name(stage: Stage) -> &'static [u8]
+    ensures { result.now ≡ stage_name stage }
+{
+    match stage {
+        Stage::Allocated => b"allocated",
+        Stage::PartlyMapped => b"partly mapped",
+        Stage::Queued => b"queued",
+        Stage::InBatch => b"in a batch",
+        Stage::Split => b"split",
+    }
+}
+
+/// The class that has its colour.
+pub(crate) fn stage_class(stage: Stage) -> &'static [u8]
+    ensures { result.now ≡ stage_class stage }
+{
+    match stage {
+        Stage::Allocated => b"s0",
+        Stage::PartlyMapped => b"s1",
+        Stage::Queued => b"s2",
+        Stage::InBatch => b"s3",
+        Stage::Split => b"s4",
+    }
+}
+
+fn sum_in(stage: Stage, sums: &PageSums) -> u128
+    ensures { result ≡ sum_in stage sums.now }
+{
+    match stage {
+        Stage::Allocated => sums.allocated,
+        Stage::PartlyMapped => sums.partly_mapped,
+        Stage::Queued => sums.queued,
+        Stage::InBatch => sums.in_batch,
+        Stage::Split => sums.split,
+    }
+}
+
+/// How many pages were in a stage or an earlier one, summed over a column's prefixes.
+pub(crate) fn sum_up_to(stage: Stage, sums: &PageSums) -> u128
+    ensures { result ≡ sum_up_to stage sums.now }
+{
+    let two = plus(sums.allocated, sums.partly_mapped);
+    let three = plus(two, sums.queued);
+    let four = plus(three, sums.in_batch);
+    match stage {
+        Stage::Allocated => sums.allocated,
+        Stage::PartlyMapped => two,
+        Stage::Queued => three,
+        Stage::InBatch => four,
+        Stage::Split => plus(four, sums.split),
+    }
+}
+
+/// The greatest sum of a stage in any column: 0 where it doesn't occur.
+pub(crate) fn most_in(stage: Stage, columns: &[Column]) -> u128
+    ensures { result ≡ most_in stage columns.now }
+{
+    let mut most = 0;
+    for column in columns {
+        most = sum_in(stage, &column.pages).max(most);
+    }
+    most
+}
+
+/// How many of so many prefixes the column at this place has, if it has room for so many.
+pub(crate) fn prefixes_of(width: u64, prefixes: u128, place: usize) -> u128
+    ensures { result ≡ prefixes_of width prefixes place }
+{
+    let before = times(u128::from(width), place as u128);
+    u128::from(width).min(prefixes.saturating_sub(before))
+}
+
+/// The greatest mean number of pages of a column.
+pub(crate) fn pages_most(node: &DrawnNode) -> u128
+    ensures { result ≡ pages_most node.now }
+{
+    most_pages(node.width, node.prefixes, node.columns.as_slice())
+}
+
+fn most_pages(width: u64, prefixes: u128, columns: &[Column]) -> u128
+    ensures { result ≡ most_pages width prefixes 0 columns.now }
+{
+    let mut most = 0;
+    for (place, column) in columns.iter().enumerate() {
+        let count = prefixes_of(width, prefixes, place);
+        let sum = sum_up_to(Stage::Split, &column.pages);
+        let mean = plus(sum, count.saturating_sub(1)) / count.max(1);
+        most = mean.max(most);
+    }
+    most
+}

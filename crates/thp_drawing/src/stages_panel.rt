@@ -1,0 +1,97 @@
+//! The panel of the stages of pages.
+ghost use Rattle.std.specs.Prelude.{◌≡◌, ◌++◌, OnOk};
+ghost use Rattle.thp_drawing.specs.Panels.{stage_areas, stage_item, stages_drawn, stages_panel, stages_stacked, stages_title};
+
+use crate::area::put_stage_area;
+use crate::axis::{put_base_line, put_event_rules, put_group_end, put_ticks};
+use crate::element::{put_group, put_square, put_text};
+use crate::node::DrawnNode;
+use crate::scale::{round_step, steps_in};
+use crate::stages::{most_in, pages_most, stage_class, stage_name};
+use std::alloc::AllocError;
+use thp_journal_writer::put;
+use thp_series::Stage;
+
+/// Puts the panel of stages from this height on, unless no page ever lived.
+pub(crate) fn put_stages_panel(
+    text: &mut Vec<u8>,
+    y: u128,
+    node: &DrawnNode,
+) -> Result<(), AllocError>
+    ensures { OnOk result (text.new.items ≡ text.old.items ++ stages_panel y node.now) }
+{
+    if pages_most(node) == 0 {
+        return Ok(());
+    }
+    put_stages_drawn(text, y, node)
+}
+
+#[tactic(auto, using(crate::proofs::Pieces::seven), unfolding(crate::specs::Panels::stages_drawn))]
+fn put_stages_drawn(text: &mut Vec<u8>, y: u128, node: &DrawnNode) -> Result<(), AllocError>
+    ensures { OnOk result (text.new.items ≡ text.old.items ++ stages_drawn y node.now) }
+{
+    let most = pages_most(node);
+    put_group(text, 900, y)?;
+    put_stages_title(text, node)?;
+    put_group(text, 0, 260)?;
+    put_event_rules(text, node)?;
+    put_stages_stacked(text, most, node)?;
+    put_group_end(text)?;
+    put_group_end(text)
+}
+
+#[tactic(auto, using(crate::proofs::Pieces::six), unfolding(crate::specs::Panels::stages_title))]
+fn put_stages_title(text: &mut Vec<u8>, node: &DrawnNode) -> Result<(), AllocError>
+    ensures { OnOk result (text.new.items ≡ text.old.items ++ stages_title node.now) }
+{
+    put(
+        text,
+        b"<text class=\"soft e\" x=\"-60\" y=\"150\">pages</text>\n",
+    )?;
+    put_stage_item(text, Stage::Allocated, 0, node)?;
+    put_stage_item(text, Stage::PartlyMapped, 1200, node)?;
+    put_stage_item(text, Stage::Queued, 2400, node)?;
+    put_stage_item(text, Stage::InBatch, 3600, node)?;
+    put_stage_item(text, Stage::Split, 4800, node)
+}
+
+// A stage's colour and name, if it occurs.
+#[tactic(auto, using(crate::proofs::Pieces::two), unfolding(crate::specs::Panels::stage_item))]
+fn put_stage_item(
+    text: &mut Vec<u8>,
+    stage: Stage,
+    x: u32,
+    node: &DrawnNode,
+) -> Result<(), AllocError>
+    ensures { OnOk result (text.new.items ≡ text.old.items ++ stage_item stage x node.now) }
+{
+    if most_in(stage, node.columns.as_slice()) == 0 {
+        return Ok(());
+    }
+    put_square(text, stage_class(stage), u128::from(x), 72)?;
+    put_text(text, b"ink", u128::from(x) + 130, 150, stage_name(stage))
+}
+
+#[tactic(auto, using(crate::proofs::Pieces::five), unfolding(crate::specs::Panels::stages_stacked))]
+fn put_stages_stacked(text: &mut Vec<u8>, most: u128, node: &DrawnNode) -> Result<(), AllocError>
+    ensures { OnOk result (text.new.items ≡ text.old.items ++ stages_stacked most node.now) }
+{
+    let step = round_step(most);
+    put_group(text, 0, 1000)?;
+    put_ticks(text, b"-", step, most, steps_in(step, most))?;
+    put_stage_areas(text, node)?;
+    put_base_line(text)?;
+    put_group_end(text)
+}
+
+// The last stage is drawn first, and earlier ones on top of it.
+#[tactic(auto, using(crate::proofs::Pieces::five), unfolding(crate::specs::Panels::stage_areas))]
+fn put_stage_areas(text: &mut Vec<u8>, node: &DrawnNode) -> Result<(), AllocError>
+    ensures { OnOk result (text.new.items ≡ text.old.items ++ stage_areas node.now) }
+{
+    put_stage_area(text, Stage::Split, node)?;
+    put_stage_area(text, Stage::InBatch, node)?;
+    put_stage_area(text, Stage::Queued, node)?;
+    put_stage_area(text, Stage::PartlyMapped, node)?;
+    put_stage_area(text, Stage::Allocated, node)
+}

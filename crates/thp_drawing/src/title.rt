@@ -1,0 +1,134 @@
+//! What is said of a node above its panels.
+ghost use Rattle.std.specs.Prelude.{◌≡◌, ◌++◌, OnOk};
+ghost use Rattle.thp_journal_writer.specs.EventLines.{event_line};
+ghost use Rattle.thp_drawing.specs.Titles.{events_words, illegal_text, illegal_words, many, node_words, shape_words, shortened, threshold_words};
+
+use crate::element::{put_decimal, put_text};
+use crate::illegal_event::IllegalEvent;
+use crate::node::DrawnNode;
+use crate::table::put_event_line;
+use std::alloc::AllocError;
+use thp_journal_writer::put;
+use thp_model::Event;
+
+// A line of an event that is shown has at most so many letters.
+const MAX_LETTERS: usize = 80;
+
+/// Puts the words of a node's title.
+#[tactic(auto, using(crate::proofs::Pieces::six), unfolding(crate::specs::Titles::node_words))]
+pub(crate) fn put_node_words(
+    text: &mut Vec<u8>,
+    number: usize,
+    node: &DrawnNode,
+) -> Result<(), AllocError>
+    ensures { OnOk result (text.new.items ≡ text.old.items ++ node_words number node.now) }
+{
+    let shape = &node.shape;
+    put(text, b"node ")?;
+    put_decimal(text, number as u128)?;
+    put(text, b": ")?;
+    put_shape_words(
+        text,
+        u128::from(shape.blocks),
+        u128::from(shape.order),
+        shape.underused,
+    )?;
+    put(text, b", ")?;
+    put_events_words(text, node)
+}
+
+// How many events are drawn.
+#[tactic(auto, unfolding(crate::specs::Titles::events_words))]
+fn put_events_words(text: &mut Vec<u8>, node: &DrawnNode) -> Result<(), AllocError>
+    ensures { OnOk result (text.new.items ≡ text.old.items ++ events_words node.now) }
+{
+    put_many(text, node.prefixes.saturating_sub(1), b"legal event")
+}
+
+// The size of a node, and what it takes for underused.
+fn put_shape_words(
+    text: &mut Vec<u8>,
+    blocks: u128,
+    order: u128,
+    threshold: Option<u32>,
+) -> Result<(), AllocError>
+    ensures { OnOk result (text.new.items ≡ text.old.items ++ shape_words blocks order threshold) }
+{
+    put_many(text, blocks, b"block")?;
+    put(text, b" of 2^")?;
+    put_decimal(text, order)?;
+    put(text, b" frames, underused ")?;
+    put_threshold_words(text, threshold)
+}
+
+// A number and a word, which has an `s` where the number isn't 1.
+#[tactic(auto, using(crate::proofs::Pieces::four), unfolding(crate::specs::Titles::many))]
+fn put_many(text: &mut Vec<u8>, number: u128, word: &[u8]) -> Result<(), AllocError>
+    ensures { OnOk result (text.new.items ≡ text.old.items ++ many number word.now) }
+{
+    put_decimal(text, number)?;
+    put(text, b" ")?;
+    put(text, word)?;
+    if number == 1 { Ok(()) } else { put(text, b"s") }
+}
+
+#[tactic(auto, using(crate::proofs::Pieces::two))]
+fn put_threshold_words(text: &mut Vec<u8>, threshold: Option<u32>) -> Result<(), AllocError>
+    ensures { OnOk result (text.new.items ≡ text.old.items ++ threshold_words threshold) }
+{
+    match threshold {
+        None => put(text, b"off"),
+        Some(threshold) => {
+            put(text, b"above ")?;
+            put_decimal(text, u128::from(threshold))
+        }
+    }
+}
+
+/// Puts what is said of a node's first illegal event.
+pub(crate) fn put_illegal_text(
+    text: &mut Vec<u8>,
+    illegal: &Option<IllegalEvent>,
+) -> Result<(), AllocError>
+    ensures { OnOk result (text.new.items ≡ text.old.items ++ illegal_text illegal.now) }
+{
+    match illegal {
+        None => Ok(()),
+        Some(illegal) => {
+            let mut words = Vec::new(*text.allocator());
+            put_illegal_words(&mut words, u128::from(illegal.line), &illegal.event)?;
+            put_text(text, b"bad", 900, 420, words.as_slice())
+        }
+    }
+}
+
+fn put_illegal_words(text: &mut Vec<u8>, line: u128, event: &Event) -> Result<(), AllocError>
+    ensures { OnOk result (text.new.items ≡ text.old.items ++ illegal_words line event.now) }
+{
+    put(text, b"illegal line ")?;
+    put_decimal(text, line)?;
+    put(text, b": ")?;
+    put_event_words(text, event)
+}
+
+// The line of an event, or the front of a long one.
+fn put_event_words(text: &mut Vec<u8>, event: &Event) -> Result<(), AllocError>
+    ensures { OnOk result (text.new.items ≡ text.old.items ++ shortened (event_line event.now)) }
+{
+    let mut line = Vec::new(*text.allocator());
+    put_event_line(&mut line, event)?;
+    line.pop();
+    put_shortened(text, line.as_slice())
+}
+
+#[tactic(auto, using(crate::proofs::Pieces::two), unfolding(crate::specs::Titles::shortened))]
+fn put_shortened(text: &mut Vec<u8>, line: &[u8]) -> Result<(), AllocError>
+    ensures { OnOk result (text.new.items ≡ text.old.items ++ shortened line.now) }
+{
+    if line.len() <= MAX_LETTERS {
+        return put(text, line);
+    }
+    let (front, _) = line.split_at(77);
+    put(text, front)?;
+    put(text, b" ..")
+}
