@@ -9,6 +9,9 @@ fn all(number: u64) -> Numbers {
         in_batches: number,
         held: u128::from(number),
         given: u128::from(number),
+        splits: number,
+        underused_splits: number,
+        pinned_tries: number,
         pages: Pages {
             allocated: number,
             partly_mapped: 0,

@@ -9,6 +9,7 @@ use Rattle.std.proofs.lemmas.List.FromFn.{get_or-map-range_with_len, length-map-
 use Rattle.thp_model.specs.declared.events.Event.{Event}
 use Rattle.thp_model.specs.declared.shape.Shape.{Shape}
 use Rattle.thp_model.specs.Counts.{allocations, is_alloc, is_live, is_split}
+use Rattle.thp_model.specs.Counters.{thp_split_page, thp_split_page_failed, thp_underused_split_page}
 use Rattle.thp_model.specs.Frames.{frames_given, frames_held}
 use Rattle.thp_model.specs.History.{History, count_of}
 use Rattle.thp_model.specs.Legal.{Fits, IsLegal}
@@ -55,19 +56,13 @@ series_push s h e =
 pub length_of_series : (s : Shape) (h : History) → length (series s h) ≡ length h + 1
 length_of_series s h = length-map-range_with_len (λ i. numbers_at s (take i h)) 0 (length h + 1)
 
-make : ℕ → ℕ → ℕ → ℕ → Pages → Numbers
-make queue in_batches held given pages = record { queue = queue; in_batches = in_batches; held = held; given = given; pages = pages }
-
 -- numbers are told by the parts
-pub numbers_are : (s : Shape) (h : History) (q held given : ℕ) (pages : Pages) → IsLegal s h → q ≡ length (queue s h) → held ≡ frames_held s h → given ≡ frames_given h → pages ≡ pages_at s h →
-    (record { queue = q; in_batches = pages.in_batch; held = held; given = given; pages = pages }) ≡ numbers_at s h
-unfolding make
-numbers_are s h q held given pages l a b c d =
-    ap (λ x. make x pages.in_batch held given pages) a
-    ∙ ap (λ x. make (length (queue s h)) x held given pages) (ap (λ (p : Pages). p.in_batch) d ∙ in_batches_are s h l)
-    ∙ ap (λ x. make (length (queue s h)) (length (flights h)) x given pages) b
-    ∙ ap (λ x. make (length (queue s h)) (length (flights h)) (frames_held s h) x pages) c
-    ∙ ap (λ x. make (length (queue s h)) (length (flights h)) (frames_held s h) (frames_given h) x) d
+pub numbers_are : (s : Shape) (h : History) (n : Numbers) → IsLegal s h → n.queue ≡ length (queue s h) → n.in_batches ≡ n.pages.in_batch → n.held ≡ frames_held s h → n.given ≡ frames_given h
+    → n.splits ≡ thp_split_page h → n.underused_splits ≡ thp_underused_split_page s h → n.pinned_tries ≡ thp_split_page_failed h → n.pages ≡ pages_at s h → n ≡ numbers_at s h
+numbers_are s h n l a b c d e f g i =
+    let batches : n.in_batches ≡ length (flights h) = b ∙ ap (λ (p : Pages). p.in_batch) i ∙ in_batches_are s h l in
+    let is : n ≡ record { queue = n.queue; in_batches = n.in_batches; held = n.held; given = n.given; splits = n.splits; underused_splits = n.underused_splits; pinned_tries = n.pinned_tries; pages = n.pages } = refl in
+    is ∙ rw (a, batches, c, d, e, f, g, i) refl
 
 count_at : (s : Shape) (h : History) (x : Stage) → count_in (pages_at s h) x ≡ pages_in s h x
 count_at s h Allocated = refl

@@ -54,5 +54,8 @@ column_append xs ys h k =
       span_of_both (λ (n : Numbers). n.in_batches) xs ys h k,
       span_of_both (λ (n : Numbers). n.held) xs ys h k,
       span_of_both (λ (n : Numbers). n.given) xs ys h k,
+      span_of_both (λ (n : Numbers). n.splits) xs ys h k,
+      span_of_both (λ (n : Numbers). n.underused_splits) xs ys h k,
+      span_of_both (λ (n : Numbers). n.pinned_tries) xs ys h k,
       sums_append xs ys,
     ) refl

@@ -40,6 +40,9 @@ column_of ns = record {
   in_batches = span_of (map (λ (n : Numbers). n.in_batches) ns);
   held = span_of (map (λ (n : Numbers). n.held) ns);
   given = span_of (map (λ (n : Numbers). n.given) ns);
+  splits = span_of (map (λ (n : Numbers). n.splits) ns);
+  underused_splits = span_of (map (λ (n : Numbers). n.underused_splits) ns);
+  pinned_tries = span_of (map (λ (n : Numbers). n.pinned_tries) ns);
   pages = sums_of ns;
 }
 

@@ -20,6 +20,9 @@ both a b = record {
   in_batches = joined a.in_batches b.in_batches;
   held = joined a.held b.held;
   given = joined a.given b.given;
+  splits = joined a.splits b.splits;
+  underused_splits = joined a.underused_splits b.underused_splits;
+  pinned_tries = joined a.pinned_tries b.pinned_tries;
   pages = added a.pages b.pages;
 }
 

@@ -2,6 +2,7 @@
 use Rattle.std.specs.Prelude.{◌+◌, List, length, map, take}
 use Rattle.std.specs.List.{range_with_len}
 use Rattle.thp_model.specs.declared.shape.Shape.{Shape}
+use Rattle.thp_model.specs.Counters.{thp_split_page, thp_split_page_failed, thp_underused_split_page}
 use Rattle.thp_model.specs.Frames.{frames_given, frames_held}
 use Rattle.thp_model.specs.History.{History}
 use Rattle.thp_model.specs.Places.{queue, flights}
@@ -15,6 +16,9 @@ numbers_at s h = record {
   in_batches = length (flights h);
   held = frames_held s h;
   given = frames_given h;
+  splits = thp_split_page h;
+  underused_splits = thp_underused_split_page s h;
+  pinned_tries = thp_split_page_failed h;
   pages = pages_at s h;
 }
 

@@ -19,6 +19,12 @@ pub struct Column {
     pub held: Span,
     /// Frames given back so far.
     pub given: Span,
+    /// Pages split so far.
+    pub splits: Span,
+    /// Pages split so far that weren't partly mapped, but underused.
+    pub underused_splits: Span,
+    /// Tries that found a page pinned, so far.
+    pub pinned_tries: Span,
     /// Live pages in each stage, summed over the prefixes.
     pub pages: PageSums,
 }
@@ -34,6 +40,9 @@ impl Column {
             in_batches: Span::of(u128::from(numbers.in_batches)),
             held: Span::of(numbers.held),
             given: Span::of(numbers.given),
+            splits: Span::of(u128::from(numbers.splits)),
+            underused_splits: Span::of(u128::from(numbers.underused_splits)),
+            pinned_tries: Span::of(u128::from(numbers.pinned_tries)),
             pages: PageSums::of(numbers),
         }
     }
@@ -48,6 +57,9 @@ impl Column {
             in_batches: self.in_batches.join(&other.in_batches),
             held: self.held.join(&other.held),
             given: self.given.join(&other.given),
+            splits: self.splits.join(&other.splits),
+            underused_splits: self.underused_splits.join(&other.underused_splits),
+            pinned_tries: self.pinned_tries.join(&other.pinned_tries),
             pages: self.pages.join(&other.pages),
         }
     }

@@ -140,6 +140,9 @@ fn numbers_of(replay: &Replay, pages: Pages) -> Numbers
         in_batches: pages.in_batch,
         held: replay.frames_held(),
         given: replay.frames_given(),
+        splits: replay.thp_split_page(),
+        underused_splits: replay.thp_underused_split_page(),
+        pinned_tries: replay.thp_split_page_failed(),
         pages,
     }
 }

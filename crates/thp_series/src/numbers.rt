@@ -12,6 +12,12 @@ pub struct Numbers {
     pub held: u128,
     /// How many frames were given back.
     pub given: u128,
+    /// How many pages were split so far.
+    pub splits: u64,
+    /// How many of these weren't partly mapped, but underused.
+    pub underused_splits: u64,
+    /// How many tries found a page pinned so far.
+    pub pinned_tries: u64,
     /// How many live pages are in each stage.
     pub pages: Pages,
 }
