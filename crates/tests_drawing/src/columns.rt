@@ -1,6 +1,6 @@
 //! Columns of numbers made up.
 use std::process::Abort;
-use thp_series::{Column, Columns, MAX_COLUMNS, Numbers, Pages, Span};
+use thp_series::{Column, Columns, MAX_COLUMNS, Numbers, Pages, SHOWN_PAGES, Span};
 
 // A prefix with this number in each place, and all pages allocated.
 fn all(number: u64) -> Numbers {
@@ -19,6 +19,7 @@ fn all(number: u64) -> Numbers {
             in_batch: 0,
             split: 0,
         },
+        stages: [None; SHOWN_PAGES],
     }
 }
 

@@ -1,17 +1,18 @@
 -- What is kept of a node, with one more event.
-use Rattle.std.proofs.Common.{◌≡◌, ℕ, suc, zero, ◌+◌, ◌^◌, ◌<◌, ◌≤◌, Bool, true, false, cond, List, [], ◌∷◌, ◌++◌, Option, Some, None, length, map, take, refl, ap, sym, ◌∙◌, subst, arith, inl, inr, length-append}
-use Rattle.std.proofs.lemmas.Bool.{cases_lt}
+use Rattle.std.proofs.Common.{◌≡◌, ℕ, suc, zero, ◌+◌, ◌^◌, ◌<◌, ◌≤◌, Bool, true, false, cond, List, [], ◌∷◌, ◌++◌, Option, Some, None, length, map, take, get_or, set, nat_eq, nat_lt, refl, ap, sym, ◌∙◌, subst, arith, inl, inr, length-append}
+use Rattle.std.specs.Prelude.{replicate, ◌≢◌}
+use Rattle.std.proofs.lemmas.Bool.{cases_lt, eq-eqb, eqb-true, ltb-false, ltb-true}
 use Rattle.thp_model.proofs.SumsBelow.{sum_below_suc}
 use Rattle.std.specs.List.{range_with_len}
 use Rattle.std.specs.Option.{option_and_then}
-use Rattle.std.proofs.lemmas.List.{same_lists, take_all, take-append-le}
+use Rattle.std.proofs.lemmas.List.{ext_get_or, get_or-set_other, get_or-set_same, length-set, same_lists, take_all, take-append-le}
 use Rattle.std.proofs.lemmas.List.FromFn.{get_or-map-range_with_len, length-map-range_with_len, map-range_with_len_more}
 use Rattle.thp_model.specs.declared.events.Event.{Event}
 use Rattle.thp_model.specs.declared.shape.Shape.{Shape}
 use Rattle.thp_model.specs.Counts.{allocations, is_alloc, is_live, is_split}
 use Rattle.thp_model.specs.Counters.{thp_split_page, thp_split_page_failed, thp_underused_split_page}
 use Rattle.thp_model.specs.Frames.{frames_given, frames_held}
-use Rattle.thp_model.specs.History.{History, count_of}
+use Rattle.thp_model.specs.History.{History, count_of, some_event}
 use Rattle.thp_model.specs.Legal.{Fits, IsLegal}
 use Rattle.thp_model.specs.Places.{flights, queue}
 use Rattle.thp_model.specs.Sets.{count_below, sum_below}
@@ -27,11 +28,11 @@ use Rattle.thp_series.specs.declared.pages.Pages.{Pages}
 use Rattle.thp_series.specs.declared.stage.Stage.{Stage}
 use Rattle.thp_series.specs.declared.stage.Stage.TheVariants.{Allocated, PartlyMapped, Queued, InBatch, Split}
 use Rattle.thp_journal_writer.specs.EventLines.{page_told}
-use Rattle.thp_series.specs.Following.{count_in, entered, left, GoesAlong, MayEnter, MayLeave}
+use Rattle.thp_series.specs.Following.{count_in, entered, left, staged, GoesAlong, MayEnter, MayLeave}
 use Rattle.thp_series.specs.Series.{numbers_at, series}
-use Rattle.thp_series.specs.Stages.{is_stage, pages_at, pages_in, stage_by, stage_of}
+use Rattle.thp_series.specs.Stages.{is_stage, pages_at, pages_in, stage_by, stage_of, stages_at}
 use Rattle.thp_series.proofs.Batches.{in_batches_are}
-use Rattle.thp_series.proofs.Moving.{count_moves, count_stays, one}
+use Rattle.thp_series.proofs.Moving.{count_moves, count_stays, none_named, not_named, one, stage_stays}
 
 -- the numbers behind one more event stand behind the others
 pub series_push : (s : Shape) (h : History) (e : Event) → series s (h ++ e ∷ []) ≡ series s h ++ numbers_at s (h ++ e ∷ []) ∷ []
@@ -58,11 +59,11 @@ length_of_series s h = length-map-range_with_len (λ i. numbers_at s (take i h))
 
 -- numbers are told by the parts
 pub numbers_are : (s : Shape) (h : History) (n : Numbers) → IsLegal s h → n.queue ≡ length (queue s h) → n.in_batches ≡ n.pages.in_batch → n.held ≡ frames_held s h → n.given ≡ frames_given h
-    → n.splits ≡ thp_split_page h → n.underused_splits ≡ thp_underused_split_page s h → n.pinned_tries ≡ thp_split_page_failed h → n.pages ≡ pages_at s h → n ≡ numbers_at s h
-numbers_are s h n l a b c d e f g i =
+    → n.splits ≡ thp_split_page h → n.underused_splits ≡ thp_underused_split_page s h → n.pinned_tries ≡ thp_split_page_failed h → n.pages ≡ pages_at s h → n.stages ≡ stages_at s h → n ≡ numbers_at s h
+numbers_are s h n l a b c d e f g i j =
     let batches : n.in_batches ≡ length (flights h) = b ∙ ap (λ (p : Pages). p.in_batch) i ∙ in_batches_are s h l in
-    let is : n ≡ record { queue = n.queue; in_batches = n.in_batches; held = n.held; given = n.given; splits = n.splits; underused_splits = n.underused_splits; pinned_tries = n.pinned_tries; pages = n.pages } = refl in
-    is ∙ rw (a, batches, c, d, e, f, g, i) refl
+    let is : n ≡ record { queue = n.queue; in_batches = n.in_batches; held = n.held; given = n.given; splits = n.splits; underused_splits = n.underused_splits; pinned_tries = n.pinned_tries; pages = n.pages; stages = n.stages } = refl in
+    is ∙ rw (a, batches, c, d, e, f, g, i, j) refl
 
 count_at : (s : Shape) (h : History) (x : Stage) → count_in (pages_at s h) x ≡ pages_in s h x
 count_at s h Allocated = refl
@@ -203,31 +204,74 @@ pages_push s h e n o u l f same may before after = same_pages (entered (left n o
       by_page x (Some p) is = count_moves s h e.caller e.what p x l f is
       by_page x None is = ap (λ i. i + 0) (count_stays s h e x f is)
 
-pub goes_on : (r t : Replayed) (e : Event) (m v : Pages) (cs ds : List Numbers) (old new : Numbers) (o u : Option Stage) → GoesAlong r old cs → t ≡ with_event r e → Fits r.shape r.history e →
+-- the stages of the pages that were allocated first, with one more event
+same_stages : (f g : ℕ → Option Stage) → ((i : ℕ) → i < 60 → f i ≡ g i) → map f (range_with_len 0 60) ≡ map g (range_with_len 0 60)
+same_stages f g same =
+    ext_get_or None (map f (range_with_len 0 60)) (map g (range_with_len 0 60)) (length-map-range_with_len f 0 60 ∙ sym (length-map-range_with_len g 0 60))
+    (λ i low.
+    let below : i < 60 = omega (arith, low, length-map-range_with_len f 0 60) in
+    get_or-map-range_with_len f 0 60 i i None below (omega arith) ∙ same i below ∙ sym (get_or-map-range_with_len g 0 60 i i None below (omega arith)))
+
+one_staged : (f g : ℕ → Option Stage) (p : ℕ) → p < 60 → ((i : ℕ) → (i ≢ p) → f i ≡ g i) → set (map f (range_with_len 0 60)) p (g p) ≡ map g (range_with_len 0 60)
+one_staged f g p inside same =
+    let count : length (map f (range_with_len 0 60)) ≡ 60 = length-map-range_with_len f 0 60 in
+    let still : length (set (map f (range_with_len 0 60)) p (g p)) ≡ 60 = length-set (map f (range_with_len 0 60)) p (g p) ∙ count in
+    ext_get_or None (set (map f (range_with_len 0 60)) p (g p)) (map g (range_with_len 0 60)) (still ∙ sym (length-map-range_with_len g 0 60))
+    (λ i low.
+    let below : i < 60 = omega (arith, low, still) in
+    place i below (nat_eq i p) refl ∙ sym (get_or-map-range_with_len g 0 60 i i None below (omega arith)))
+  where
+    place : (i : ℕ) → i < 60 → (b : Bool) → nat_eq i p ≡ b → get_or (set (map f (range_with_len 0 60)) p (g p)) i None ≡ g i
+    place i below true e =
+        let is : i ≡ p = eqb-true i p e in
+        rw is (get_or-set_same (map f (range_with_len 0 60)) p (g p) None (omega (arith, inside, length-map-range_with_len f 0 60)))
+    place i below false e =
+        let other : i ≢ p = λ z. absurd (let yes : nat_eq i p ≡ true = eq-eqb i p z in cc) in
+        get_or-set_other (map f (range_with_len 0 60)) p i (g p) None other ∙ get_or-map-range_with_len f 0 60 i i None below (omega arith) ∙ same i other
+
+stages_push : (s : Shape) (h : History) (e : Event) (ss : List (Option Stage)) (u : Option Stage) → Fits s h e → ss ≡ stages_at s h → u ≡ option_and_then (stage_of s (h ++ e ∷ [])) (page_told e.what) →
+    staged ss (page_told e.what) u ≡ stages_at s (h ++ e ∷ [])
+stages_push s h e ss u f same after = ap (λ xs. staged xs (page_told e.what) u) same ∙ ap (staged (stages_at s h) (page_told e.what)) after ∙ by_page (page_told e.what) refl where
+  k : History
+  k = h ++ e ∷ []
+
+  by_page : (page : Option ℕ) → page_told e.what ≡ page → staged (stages_at s h) page (option_and_then (stage_of s k) page) ≡ stages_at s k
+  by_page None is = same_stages (stage_of s h) (stage_of s k) (λ i low. sym (stage_stays s h e i f (none_named e.what i is)))
+  by_page (Some p) is = inside (nat_lt p 60) refl where
+    others : (i : ℕ) → (i ≢ p) → stage_of s h i ≡ stage_of s k i
+    others i n = sym (stage_stays s h e i f (not_named e.what p i is n))
+
+    inside : (b : Bool) → nat_lt p 60 ≡ b → cond b (set (stages_at s h) p (stage_of s k p)) (stages_at s h) ≡ stages_at s k
+    inside true low = one_staged (stage_of s h) (stage_of s k) p (ltb-true p 60 low) others
+    inside false high = same_stages (stage_of s h) (stage_of s k) (λ i low. others i (λ z. omega (arith, z, low, ltb-false p 60 high)))
+
+pub goes_on : (r t : Replayed) (e : Event) (m v : Pages) (ss : List (Option Stage)) (cs ds : List Numbers) (old new : Numbers) (o u : Option Stage) → GoesAlong r old cs → t ≡ with_event r e → Fits r.shape r.history e →
     MayLeave old.pages o → o ≡ option_and_then (stage_of r.shape r.history) (page_told e.what) → u ≡ option_and_then (stage_of t.shape t.history) (page_told e.what) →
-    m ≡ left old.pages o → v ≡ entered m u → (IsLegal t.shape t.history → v ≡ pages_at t.shape t.history → new ≡ numbers_at t.shape t.history) → ds ≡ cs ++ new ∷ [] → GoesAlong t new ds
-goes_on r t e m v cs ds old new o u along is f may before after leaves enters told more =
+    m ≡ left old.pages o → v ≡ entered m u → ss ≡ staged old.stages (page_told e.what) u → (IsLegal t.shape t.history → v ≡ pages_at t.shape t.history → ss ≡ stages_at t.shape t.history → new ≡ numbers_at t.shape t.history) → ds ≡ cs ++ new ∷ [] → GoesAlong t new ds
+goes_on r t e m v ss cs ds old new o u along is f may before after leaves enters stages told more =
     let s : Shape = r.shape in
     let h : History = r.history in
     let legal : IsLegal s (h ++ e ∷ []) = legal_push s h e along.legal f in
     let pages : v ≡ pages_at s (h ++ e ∷ []) =
     enters ∙ ap (λ (k : Pages). entered k u) leaves
     ∙ pages_push s h e old.pages o u along.legal f (ap (λ (n : Numbers). n.pages) along.numbers_are) may before (after ∙ ap (λ (x : Replayed). option_and_then (stage_of x.shape x.history) (page_told e.what)) is) in
+    let staged_are : ss ≡ stages_at s (h ++ e ∷ []) =
+    stages ∙ stages_push s h e old.stages u f (ap (λ (n : Numbers). n.stages) along.numbers_are) (after ∙ ap (λ (x : Replayed). option_and_then (stage_of x.shape x.history) (page_told e.what)) is) in
     let numbers_is : new ≡ numbers_at s (h ++ e ∷ []) =
-    subst (λ (x : Replayed). IsLegal x.shape x.history → v ≡ pages_at x.shape x.history → new ≡ numbers_at x.shape x.history) is told legal pages in
+    subst (λ (x : Replayed). IsLegal x.shape x.history → v ≡ pages_at x.shape x.history → ss ≡ stages_at x.shape x.history → new ≡ numbers_at x.shape x.history) is told legal pages staged_are in
     subst (λ (x : Replayed). GoesAlong x new ds) (sym is) (record {
       legal = legal;
       numbers_are = numbers_is;
       columns_are = more ∙ ap (λ ns. ns ++ new ∷ []) along.columns_are ∙ ap (λ x. series s h ++ x ∷ []) numbers_is ∙ sym (series_push s h e);
     })
 
-pub begins_along : (r : Replayed) (n : Pages) (cs : List Numbers) (numbers : Numbers) → r.history ≡ [] → n ≡ record { allocated = 0; partly_mapped = 0; queued = 0; in_batch = 0; split = 0 } →
-    (IsLegal r.shape r.history → n ≡ pages_at r.shape r.history → numbers ≡ numbers_at r.shape r.history) → cs ≡ numbers ∷ [] → GoesAlong r numbers cs
-unfolding count_of sum_below
-begins_along r n cs numbers none no_page told is =
-    let P : History → Type 0 = λ h. (IsLegal r.shape h → n ≡ pages_at r.shape h → numbers ≡ numbers_at r.shape h) → GoesAlong (record { shape = r.shape; history = h }) numbers cs in
+pub begins_along : (r : Replayed) (n : Pages) (ss : List (Option Stage)) (cs : List Numbers) (numbers : Numbers) → r.history ≡ [] → n ≡ record { allocated = 0; partly_mapped = 0; queued = 0; in_batch = 0; split = 0 } →
+    ss ≡ replicate 60 None → (IsLegal r.shape r.history → n ≡ pages_at r.shape r.history → ss ≡ stages_at r.shape r.history → numbers ≡ numbers_at r.shape r.history) → cs ≡ numbers ∷ [] → GoesAlong r numbers cs
+unfolding count_of sum_below some_event
+begins_along r n ss cs numbers none no_page no_stage told is =
+    let P : History → Type 0 = λ h. (IsLegal r.shape h → n ≡ pages_at r.shape h → ss ≡ stages_at r.shape h → numbers ≡ numbers_at r.shape h) → GoesAlong (record { shape = r.shape; history = h }) numbers cs in
     subst P (sym none) (λ told. record {
       legal = legal_none r.shape;
-      numbers_are = told (legal_none r.shape) no_page;
-      columns_are = is ∙ ap (λ x. x ∷ []) (told (legal_none r.shape) no_page);
+      numbers_are = told (legal_none r.shape) no_page no_stage;
+      columns_are = is ∙ ap (λ x. x ∷ []) (told (legal_none r.shape) no_page no_stage);
     }) told

@@ -60,7 +60,7 @@ apart : (p q r : ℕ) → Some r ≡ Some p → (q ≢ p) → nat_eq q r ≡ fal
 apart p q r e n = let same : r ≡ p = cc in ne_eqb q r (λ z. n (z ∙ same))
 
 -- an event names no page but that which it is about
-not_named : (w : What) (p q : ℕ) → page_told w ≡ Some p → (q ≢ p) → names q w ≡ false
+pub not_named : (w : What) (p q : ℕ) → page_told w ≡ Some p → (q ≢ p) → names q w ≡ false
 not_named (what.Alloc r b) p q e n = apart p q r e n
 not_named (what.MapWhole r) p q e n = apart p q r e n
 not_named (what.UnmapWhole o r set) p q e n = apart p q r e n
@@ -79,7 +79,7 @@ not_named (what.Back r) p q e n = apart p q r e n
 not_named (what.Dropped r) p q e n = apart p q r e n
 not_named what.Close p q e n = refl
 
-none_named : (w : What) (q : ℕ) → page_told w ≡ None → names q w ≡ false
+pub none_named : (w : What) (q : ℕ) → page_told w ≡ None → names q w ≡ false
 none_named what.Close q e = refl
 none_named (what.Alloc r b) q e = absurd (cc)
 none_named (what.MapWhole r) q e = absurd (cc)

@@ -3,7 +3,7 @@ use Rattle.std.proofs.Common.{◌≡◌, ℕ, ◌<◌, min, max, List, [], ◌�
 use Rattle.std.proofs.lemmas.List.{map-append, length-map}
 use Rattle.thp_series.specs.declared.numbers.Numbers.{Numbers}
 use Rattle.thp_series.specs.Spans.{least, greatest, span_of, joined}
-use Rattle.thp_series.specs.Columns.{column_of, sums_of}
+use Rattle.thp_series.specs.Columns.{last_stages, column_of, sums_of}
 use Rattle.thp_series.specs.declared.pages.PageSums.{PageSums}
 use Rattle.thp_series.specs.Folding.{HasLowSums}
 use Rattle.std.proofs.lemmas.List.Sums.{sum_by-append}
@@ -46,6 +46,13 @@ low_append xs ys a b =
       split = omega (arith, a.split, b.split, length-append xs ys);
     })
 
+-- the last of both is the last of the latter
+last_of_both : (xs ys : List Numbers) → 0 < length ys → last_stages (xs ++ ys) ≡ last_stages ys
+last_of_both [] ys some = refl
+last_of_both (x ∷ []) [] some = absurd (omega (arith, some))
+last_of_both (x ∷ []) (y ∷ ys) some = refl
+last_of_both (x ∷ z ∷ xs) ys some = last_of_both (z ∷ xs) ys some
+
 -- a column of the prefixes of both is the two columns joined
 pub column_append : (xs ys : List Numbers) → 0 < length xs → 0 < length ys → column_of (xs ++ ys) ≡ both (column_of xs) (column_of ys)
 column_append xs ys h k =
@@ -58,4 +65,5 @@ column_append xs ys h k =
       span_of_both (λ (n : Numbers). n.underused_splits) xs ys h k,
       span_of_both (λ (n : Numbers). n.pinned_tries) xs ys h k,
       sums_append xs ys,
+      last_of_both xs ys k,
     ) refl

@@ -1,9 +1,10 @@
 -- The columns of a node: how wide they are, and what each tells.
-use Rattle.std.specs.Prelude.{◌≡◌, ℕ, ◌*◌, ◌^◌, ◌≤◌, zero, suc, List, [], ◌∷◌, length, map, take, drop}
+use Rattle.std.specs.Prelude.{◌≡◌, ℕ, ◌*◌, ◌^◌, ◌≤◌, zero, suc, List, [], ◌∷◌, Option, length, map, take, drop}
 use Rattle.std.specs.List.{sum_by}
 use Rattle.thp_series.specs.declared.column.Column.{Column}
 use Rattle.thp_series.specs.declared.numbers.Numbers.{Numbers}
 use Rattle.thp_series.specs.declared.pages.PageSums.{PageSums}
+use Rattle.thp_series.specs.declared.stage.Stage.{Stage}
 use Rattle.thp_series.specs.Spans.{span_of}
 
 -- the most columns of a node
@@ -33,6 +34,12 @@ sums_of ns = record {
   split = sum_by (λ (n : Numbers). n.pages.split) ns;
 }
 
+-- the stages behind the last of some prefixes
+abbrev pub last_stages : List Numbers → List (Option Stage)
+last_stages [] = []
+last_stages (n ∷ []) = n.stages
+last_stages (n ∷ m ∷ ns) = last_stages (m ∷ ns)
+
 -- what a column tells of its prefixes
 abbrev pub column_of : List Numbers → Column
 column_of ns = record {
@@ -44,6 +51,7 @@ column_of ns = record {
   underused_splits = span_of (map (λ (n : Numbers). n.underused_splits) ns);
   pinned_tries = span_of (map (λ (n : Numbers). n.pinned_tries) ns);
   pages = sums_of ns;
+  stages = last_stages ns;
 }
 
 -- the columns of these prefixes, w in each

@@ -1,5 +1,5 @@
 -- What is kept of a node while its events come. No public clause cites this module.
-use Rattle.std.specs.Prelude.{◌≡◌, ℕ, ◌+◌, ◌-◌, ◌<◌, ◌^◌, List, Option, Some, None}
+use Rattle.std.specs.Prelude.{◌≡◌, ℕ, ◌+◌, ◌-◌, ◌<◌, ◌^◌, List, Option, Some, None, set, nat_lt, if◌then◌else◌}
 use Rattle.thp_model.specs.Legal.{IsLegal}
 use Rattle.thp_check.specs.Replays.{Replayed}
 use Rattle.thp_series.specs.declared.numbers.Numbers.{Numbers}
@@ -7,6 +7,7 @@ use Rattle.thp_series.specs.declared.pages.Pages.{Pages}
 use Rattle.thp_series.specs.declared.stage.Stage.{Stage}
 use Rattle.thp_series.specs.declared.stage.Stage.TheVariants.{Allocated, PartlyMapped, Queued, InBatch, Split}
 use Rattle.thp_series.specs.Series.{numbers_at, series}
+use Rattle.thp_series.specs.Stages.{shown_pages}
 
 abbrev pub count_in : Pages → Stage → ℕ
 count_in n Allocated = n.allocated
@@ -32,6 +33,11 @@ entered n (Some PartlyMapped) = record n { partly_mapped = n.partly_mapped + 1 }
 entered n (Some Queued) = record n { queued = n.queued + 1 }
 entered n (Some InBatch) = record n { in_batch = n.in_batch + 1 }
 entered n (Some Split) = record n { split = n.split + 1 }
+
+-- the stages of the pages that were allocated first, with this one of the page that an event is about
+abbrev pub staged : List (Option Stage) → Option ℕ → Option Stage → List (Option Stage)
+staged stages None stage = stages
+staged stages (Some page) stage = if nat_lt page shown_pages then set stages page stage else stages
 
 -- there is a page to leave it
 abbrev pub MayLeave : Pages → Option Stage → Type 0

@@ -24,6 +24,7 @@ both a b = record {
   underused_splits = joined a.underused_splits b.underused_splits;
   pinned_tries = joined a.pinned_tries b.pinned_tries;
   pages = added a.pages b.pages;
+  stages = b.stages;
 }
 
 -- each two neighbours made one

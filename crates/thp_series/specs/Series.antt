@@ -7,7 +7,7 @@ use Rattle.thp_model.specs.Frames.{frames_given, frames_held}
 use Rattle.thp_model.specs.History.{History}
 use Rattle.thp_model.specs.Places.{queue, flights}
 use Rattle.thp_series.specs.declared.numbers.Numbers.{Numbers}
-use Rattle.thp_series.specs.Stages.{pages_at}
+use Rattle.thp_series.specs.Stages.{pages_at, stages_at}
 
 -- the numbers behind these events
 abbrev pub numbers_at : Shape → History → Numbers
@@ -20,6 +20,7 @@ numbers_at s h = record {
   underused_splits = thp_underused_split_page s h;
   pinned_tries = thp_split_page_failed h;
   pages = pages_at s h;
+  stages = stages_at s h;
 }
 
 -- those of each prefix, from no event to all of them

@@ -1,5 +1,6 @@
 -- The stages of a page's life, and how many pages are in each.
-use Rattle.std.specs.Prelude.{ℕ, Bool, true, false, nat_eq, if◌then◌else◌, Option, Some, None}
+use Rattle.std.specs.Prelude.{ℕ, Bool, true, false, nat_eq, if◌then◌else◌, Option, Some, None, List, map}
+use Rattle.std.specs.List.{range_with_len}
 use Rattle.thp_model.specs.declared.shape.Shape.{Shape}
 use Rattle.thp_model.specs.Counts.{allocations, is_live, is_split}
 use Rattle.thp_model.specs.History.{History}
@@ -51,3 +52,11 @@ pages_at s h = record {
   in_batch = pages_in s h InBatch;
   split = pages_in s h Split;
 }
+
+-- of how many pages the stages are told one by one
+abbrev pub shown_pages : ℕ
+shown_pages = 60
+
+-- the stages of the pages that were allocated first
+abbrev pub stages_at : Shape → History → List (Option Stage)
+stages_at s h = map (stage_of s h) (range_with_len 0 shown_pages)

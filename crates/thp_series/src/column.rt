@@ -3,9 +3,10 @@ ghost use Rattle.std.specs.Prelude.{◌≡◌, ◌^◌, [], ◌∷◌};
 ghost use Rattle.thp_series.specs.Columns.{column_of};
 ghost use Rattle.thp_series.specs.Joining.{both, AreWithin, FitTogether};
 
-use crate::numbers::Numbers;
+use crate::numbers::{Numbers, SHOWN_PAGES};
 use crate::pages::PageSums;
 use crate::span::Span;
+use crate::stage::Stage;
 
 /// The least and the greatest of each number of a node over a column's prefixes, and of how many pages are in each stage
 /// the sums.
@@ -27,6 +28,8 @@ pub struct Column {
     pub pinned_tries: Span,
     /// Live pages in each stage, summed over the prefixes.
     pub pages: PageSums,
+    /// The stages of the pages that were allocated first, behind the column's last prefix.
+    pub stages: [Option<Stage>; SHOWN_PAGES],
 }
 
 impl Column {
@@ -44,6 +47,7 @@ impl Column {
             underused_splits: Span::of(u128::from(numbers.underused_splits)),
             pinned_tries: Span::of(u128::from(numbers.pinned_tries)),
             pages: PageSums::of(numbers),
+            stages: numbers.stages,
         }
     }
 
@@ -61,6 +65,7 @@ impl Column {
             underused_splits: self.underused_splits.join(&other.underused_splits),
             pinned_tries: self.pinned_tries.join(&other.pinned_tries),
             pages: self.pages.join(&other.pages),
+            stages: other.stages,
         }
     }
 }

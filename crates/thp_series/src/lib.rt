@@ -19,7 +19,7 @@ mod stage;
 pub use column::Column;
 pub use columns::{Columns, MAX_COLUMNS};
 pub use node_series::{NodeSeries, Stopped};
-pub use numbers::Numbers;
+pub use numbers::{Numbers, SHOWN_PAGES};
 pub use pages::{PageSums, Pages};
 pub use span::Span;
 pub use stage::Stage;

@@ -7,18 +7,19 @@ ghost use Rattle.thp_model.specs.Limits.{max_order, min_order};
 ghost use Rattle.thp_journal_writer.specs.EventLines.{page_told};
 ghost use Rattle.thp_check.specs.Reasons.{Explains};
 ghost use Rattle.thp_check.specs.Replays.{with_event};
+ghost use Rattle.thp_series.specs.Following.{staged};
 ghost use Rattle.thp_series.specs.Series.{numbers_at, series};
-ghost use Rattle.thp_series.specs.Stages.{pages_at, stage_of};
+ghost use Rattle.thp_series.specs.Stages.{pages_at, stage_of, stages_at};
 
 use crate::columns::Columns;
-use crate::numbers::Numbers;
+use crate::numbers::{Numbers, SHOWN_PAGES};
 use crate::pages::Pages;
 use crate::stage::{Stage, stage_of};
 use std::alloc::{AllocError, Global};
 use std::marker::Model;
 use thp_check::{Misfit, Replay};
 use thp_journal_writer::page_told;
-use thp_model::{Event, Shape, What};
+use thp_model::{Event, PageId, Shape, What};
 
 /// A node whose events come one by one, with its numbers at each prefix of them in columns.
 ///
@@ -62,7 +63,7 @@ impl NodeSeries {
         ensures none { IfOk result (λ n. n.history ≡ []) }
     {
         let replay = Replay::new(alloc, shape)?;
-        let numbers = numbers_of(&replay, Pages::none());
+        let numbers = numbers_of(&replay, Pages::none(), [None; SHOWN_PAGES]);
         let columns = Columns::new(alloc, &numbers)?;
         Ok(NodeSeries {
             replay,
@@ -92,8 +93,11 @@ impl NodeSeries {
             Ok(replay) => {
                 let mut pages = numbers.pages;
                 pages.leave(before);
-                pages.enter(stage_in(&replay, &event.what));
-                let numbers = numbers_of(&replay, pages);
+                let after = stage_in(&replay, &event.what);
+                pages.enter(after);
+                let mut stages = numbers.stages;
+                set_stage(&mut stages, page_told(&event.what), after);
+                let numbers = numbers_of(&replay, pages, stages);
                 columns.push(&numbers);
                 Ok(NodeSeries {
                     replay,
@@ -131,9 +135,29 @@ impl NodeSeries {
     }
 }
 
-// The numbers of a replay, of whose pages so many are in each stage.
-fn numbers_of(replay: &Replay, pages: Pages) -> Numbers
-    ensures { IsLegal replay.now.shape replay.now.history → pages ≡ pages_at replay.now.shape replay.now.history → result ≡ numbers_at replay.now.shape replay.now.history }
+// A page is in this stage, where it is one of those that were allocated first.
+fn set_stage(
+    stages: &mut [Option<Stage>; SHOWN_PAGES],
+    page: Option<PageId>,
+    stage: Option<Stage>,
+)
+    ensures { stages.new ≡ staged stages.old page stage }
+{
+    let Some(page) = page else {
+        return;
+    };
+    if page.0 < SHOWN_PAGES as u64 {
+        stages[page.0 as usize] = stage;
+    }
+}
+
+// The numbers of a replay, of whose pages so many are in each stage, and whose first pages are in these.
+fn numbers_of(
+    replay: &Replay,
+    pages: Pages,
+    stages: [Option<Stage>; SHOWN_PAGES],
+) -> Numbers
+    ensures { IsLegal replay.now.shape replay.now.history → pages ≡ pages_at replay.now.shape replay.now.history → stages ≡ stages_at replay.now.shape replay.now.history → result ≡ numbers_at replay.now.shape replay.now.history }
 {
     Numbers {
         queue: u64::from(replay.queue_len()),
@@ -144,6 +168,7 @@ fn numbers_of(replay: &Replay, pages: Pages) -> Numbers
         underused_splits: replay.thp_underused_split_page(),
         pinned_tries: replay.thp_split_page_failed(),
         pages,
+        stages,
     }
 }
 

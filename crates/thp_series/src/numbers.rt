@@ -1,5 +1,9 @@
 //! The numbers of a node.
 use crate::pages::Pages;
+use crate::stage::Stage;
+
+/// Of how many pages the stages are told one by one: of those that were allocated first.
+pub const SHOWN_PAGES: usize = 60;
 
 /// The numbers of a node behind a prefix of its events.
 #[derive(Clone, Copy, Debug, PartialEq, Eq)]
@@ -20,4 +24,6 @@ pub struct Numbers {
     pub pinned_tries: u64,
     /// How many live pages are in each stage.
     pub pages: Pages,
+    /// The stages of the pages that were allocated first, by their numbers; `None` where a page doesn't live.
+    pub stages: [Option<Stage>; SHOWN_PAGES],
 }

@@ -14,7 +14,7 @@ pub enter-requires : goal.enter-requires
 enter-requires c =
     let i = c.self.inside in
     let past : length i.replay.history ≡ length c.args.self.history = ap (λ (r : Replayed). length r.history) c.self.view_is in
-    may_enter i.replay.shape i.replay.history i.numbers.pages c.leave.new.self c.stage_in-before.result c.stage_in.result (ap (λ (n : Numbers). n.pages) c.self.invariant.numbers_are) (omega (arith, past, c.requires.room))
+    may_enter i.replay.shape i.replay.history i.numbers.pages c.leave.new.self c.stage_in-before.result c.stage_in-after.result (ap (λ (n : Numbers). n.pages) c.self.invariant.numbers_are) (omega (arith, past, c.requires.room))
     (may_leave i.replay.shape i.replay.history i.numbers.pages c.stage_in-before.result (page_told c.args.event.now.what) c.self.invariant.legal (ap (λ (n : Numbers). n.pages) c.self.invariant.numbers_are) c.stage_in-before.ensures)
     c.leave.ensures
 
@@ -27,7 +27,7 @@ push-requires c =
 pub invariant_of-result : goal.invariant_of-result
 invariant_of-result c =
     let i = c.self.inside in
-    goes_on i.replay c.in-Ok.replay c.args.event.now c.leave.new.self c.enter.new.self i.columns c.push.new.self i.numbers c.numbers_of-numbers.result c.stage_in-before.result c.stage_in.result c.self.invariant
+    goes_on i.replay c.in-Ok.replay c.args.event.now c.leave.new.self c.enter.new.self c.set_stage.new.stages i.columns c.push.new.self i.numbers c.numbers_of-numbers.result c.stage_in-before.result c.stage_in-after.result c.self.invariant
     c.in-Ok.ensures.admitted c.in-Ok.ensures.fits
     (may_leave i.replay.shape i.replay.history i.numbers.pages c.stage_in-before.result (page_told c.args.event.now.what) c.self.invariant.legal (ap (λ (n : Numbers). n.pages) c.self.invariant.numbers_are) c.stage_in-before.ensures)
-    c.stage_in-before.ensures c.stage_in.ensures c.leave.ensures c.enter.ensures c.numbers_of-numbers.ensures c.push.ensures
+    c.stage_in-before.ensures c.stage_in-after.ensures c.leave.ensures c.enter.ensures (rw c.page_told.ensures at c.set_stage.ensures) c.numbers_of-numbers.ensures c.push.ensures
