@@ -136,11 +136,7 @@ impl NodeSeries {
 }
 
 // A page is in this stage, where it is one of those that were allocated first.
-fn set_stage(
-    stages: &mut [Option<Stage>; SHOWN_PAGES],
-    page: Option<PageId>,
-    stage: Option<Stage>,
-)
+fn set_stage(stages: &mut [Option<Stage>; SHOWN_PAGES], page: Option<PageId>, stage: Option<Stage>)
     ensures { stages.new ≡ staged stages.old page stage }
 {
     let Some(page) = page else {
@@ -152,11 +148,7 @@ fn set_stage(
 }
 
 // The numbers of a replay, of whose pages so many are in each stage, and whose first pages are in these.
-fn numbers_of(
-    replay: &Replay,
-    pages: Pages,
-    stages: [Option<Stage>; SHOWN_PAGES],
-) -> Numbers
+fn numbers_of(replay: &Replay, pages: Pages, stages: [Option<Stage>; SHOWN_PAGES]) -> Numbers
     ensures { IsLegal replay.now.shape replay.now.history → pages ≡ pages_at replay.now.shape replay.now.history → stages ≡ stages_at replay.now.shape replay.now.history → result ≡ numbers_at replay.now.shape replay.now.history }
 {
     Numbers {

@@ -11,4 +11,3 @@ returns-in-Some c = named c.args.version (codes "mapsub") (OfRange range.MapSub)
 
 pub returns : goal.returns
 returns c = named c.args.version (codes "mapwhole") (OfPage page.MapWhole) c.args.caller c.args.text.now c.in_ok-operands.operands.now c.page_event_ahead.result _ _ (mapwhole_is c.args.version) c.in_ok-operands.ensures c.page_event_ahead.ensures
-

@@ -11,4 +11,3 @@ returns-in-Some c = named c.args.version (codes "pin") (OfPage page.Pin) c.args.
 
 pub returns : goal.returns
 returns c = named c.args.version (codes "pinned") (OfPage page.Pinned) c.args.caller c.args.text.now c.in_ok-operands.operands.now c.page_event_ahead-2.result _ _ (pinned_is c.args.version) c.in_ok-operands.ensures c.page_event_ahead-2.ensures
-

@@ -11,4 +11,3 @@ returns-in-Some c = named c.args.version (codes "splitpmd") (OfPage page.SplitPm
 
 pub returns : goal.returns
 returns c = named c.args.version (codes "split") Split c.args.caller c.args.text.now c.in_ok-operands.operands.now c.split_event_ahead.result _ _ (split_is c.args.version) c.in_ok-operands.ensures c.split_event_ahead.ensures
-

@@ -14,4 +14,3 @@ returns-in-Some-behind_name c = named c.args.version (codes "unpin") (OfLoss los
 
 pub returns-in-Some-behind_name-2 : goal.returns-in-Some-behind_name-2
 returns-in-Some-behind_name-2 c = named c.args.version (codes "unmapwhole") (OfLoss loss.UnmapWhole) c.args.caller c.args.text.now c.in-Some-behind_name-2.operands.now c.loss_event_ahead-in-Some-behind_name-2.result _ _ (unmapwhole_is c.args.version) c.in-Some-behind_name-2.ensures c.loss_event_ahead-in-Some-behind_name-2.ensures
-

@@ -37,8 +37,8 @@ loop-text-preserved g c =
     let number : c.in-Some.field-0.number ≡ l.text.line = rw c.in-Some.is at c.in_ok-number.ensures.number in
     let added : told c.add.new.self ≡ with_line l.text.line (told l.nodes) said = rw number at c.in_ok-add-in-Ok.ensures.nodes in
     let step : (more : Text) → told_behind c.next_line.new.self more (lines_tell (told c.add.new.self) c.place_after-place.result c.next_line.new.self.line (c.next_line.new.self.begun ++ (c.next_line.new.rest.now ++ more)))
-        ≡ told_behind l.text more (lines_tell (told l.nodes) l.place l.text.line (l.text.begun ++ (l.rest.now ++ more)))
-        = λ more. rw (after, added, c.place_after-place.ensures) (ap (told_behind l.text more) (sym (line_tells (told l.nodes) l.place l.text.line (l.text.begun ++ (l.rest.now ++ more)) bytes (c.next_line.new.rest.now ++ more) said (lines more) says)))
+    ≡ told_behind l.text more (lines_tell (told l.nodes) l.place l.text.line (l.text.begun ++ (l.rest.now ++ more)))
+    = λ more. rw (after, added, c.place_after-place.ensures) (ap (told_behind l.text more) (sym (line_tells (told l.nodes) l.place l.text.line (l.text.begun ++ (l.rest.now ++ more)) bytes (c.next_line.new.rest.now ++ more) said (lines more) says)))
     in
     record {
       tells = λ more. c.in_ok-rest-in-Ok.ensures.tells more ∙ step more ∙ l.invariant.tells more;
