@@ -14,7 +14,8 @@ pub(crate) const LARGE: Shape = Shape {
     underused: None,
 };
 
-const PAGE: PageId = PageId(0);
+/// The page of the first run.
+pub(crate) const PAGE: PageId = PageId(0);
 
 // What happens when page 0 of a large node is allocated, half of it is unmapped, and it is taken and split.
 pub(crate) fn first_run() -> [What; 5]

@@ -1,9 +1,130 @@
 //! Pictures of nodes.
-use thp_drawing::put_escaped;
+use crate::nodes::{LARGE, first_run, followed};
+use thp_drawing::{DrawnNode, put_escaped, put_picture};
+
+// As a plain program outside draws it; looked at in a browser, on a light and on a dark ground.
+const PICTURE: &[u8] = b"<svg xmlns=\"http://www.w3.org/2000/svg\" viewBox=\"0 0 7200 5320\">\n\
+<style>\n\
+svg{display:block;width:100%;max-width:1080px;height:auto;margin:0 auto;color-scheme:light dark}\n\
+text{font:120px system-ui,sans-serif;font-variant-numeric:tabular-nums}\n\
+.h{font-size:150px;font-weight:600}.hh{font-size:190px;font-weight:600}.e{text-anchor:end}.c{text-anchor:middle}\n\
+path{shape-rendering:crispEdges}.pale{fill-opacity:.35}.rule,.zero{fill:none;shape-rendering:auto;stroke-width:6}\n\
+svg{background:#ffffff}.bg{fill:#ffffff}.ink{fill:#1c2128}.soft{fill:#5d6673}.bad{fill:#c8102e}\n\
+.rule{stroke:#e4e7ec}.zero{stroke:#1c2128}.held{fill:#64748b}.given{fill:#a4582a}\n\
+.s0{fill:#b6bfc9}.s1{fill:#e79700}.s2{fill:#3652b8}.s3{fill:#bd61ab}.s4{fill:#428452}\n\
+@media(prefers-color-scheme:dark){\n\
+svg{background:#14171c}.bg{fill:#14171c}.ink{fill:#e8ebf0}.soft{fill:#a3acb9}.bad{fill:#ff6b78}\n\
+.rule{stroke:#2a3038}.zero{stroke:#e8ebf0}.held{fill:#8b9ab0}.given{fill:#d28a55}\n\
+.s0{fill:#4d5663}.s1{fill:#f9a726}.s2{fill:#4280ff}.s3{fill:#d764a1}.s4{fill:#45a670}\n\
+}</style>\n\
+<rect class=\"bg\" x=\"0\" y=\"0\" width=\"7200\" height=\"5320\"/>\n\
+<text class=\"ink hh\" x=\"150\" y=\"300\">Deferred split queues</text>\n\
+<text class=\"soft\" x=\"150\" y=\"480\">The events of a node follow each other from left to right; those of two nod\
+es have no common time.</text>\n\
+<text class=\"soft\" x=\"150\" y=\"640\">Full colour reaches the least number of a column's events, pale the greates\
+t; stages have their mean.</text>\n\
+<g transform=\"translate(0 660)\">\n\
+<text class=\"ink h\" x=\"150\" y=\"240\">node 0: 16 blocks of 2^9 frames, underused off, 5 legal events</text>\n\
+<g transform=\"translate(900 280)\">\n\
+<text class=\"soft e\" x=\"-60\" y=\"150\">pages</text>\n\
+<rect class=\"s2\" x=\"0\" y=\"72\" width=\"80\" height=\"80\"/>\n\
+<text class=\"ink\" x=\"130\" y=\"150\">queue: most 1, last 0</text>\n\
+<rect class=\"s3\" x=\"3000\" y=\"72\" width=\"80\" height=\"80\"/>\n\
+<text class=\"ink\" x=\"3130\" y=\"150\">in batches: most 1, last 0</text>\n\
+<g transform=\"translate(0 260)\">\n\
+<path class=\"rule\" d=\"M0 0v1000M1000 0v1000M2000 0v1000M3000 0v1000M4000 0v1000M5000 0v1000\"/>\n\
+<g transform=\"translate(0 500)\">\n\
+<path class=\"rule\" d=\"M0 -500h6000\"/>\n\
+<text class=\"soft e\" x=\"-60\" y=\"-500\" dy=\"40\">1</text>\n\
+<path class=\"s2\" d=\"M0 0V-0H1000V-0H2000V-0H3000V-500H4000V-0H5000V-0H6000V0z\"/>\n\
+<path class=\"rule\" d=\"M0 500h6000\"/>\n\
+<text class=\"soft e\" x=\"-60\" y=\"500\" dy=\"40\">1</text>\n\
+<path class=\"s3\" d=\"M0 0V0H1000V0H2000V0H3000V0H4000V500H5000V0H6000V0z\"/>\n\
+<path class=\"zero\" d=\"M0 0h6000\"/>\n\
+<text class=\"soft e\" x=\"-60\" y=\"0\" dy=\"40\">0</text>\n\
+</g>\n\
+</g>\n\
+</g>\n\
+<g transform=\"translate(900 1640)\">\n\
+<text class=\"soft e\" x=\"-60\" y=\"150\">frames</text>\n\
+<rect class=\"held\" x=\"0\" y=\"72\" width=\"80\" height=\"80\"/>\n\
+<text class=\"ink\" x=\"130\" y=\"150\">held: most 512, last 256</text>\n\
+<rect class=\"given\" x=\"3000\" y=\"72\" width=\"80\" height=\"80\"/>\n\
+<text class=\"ink\" x=\"3130\" y=\"150\">given back: most 256, last 256</text>\n\
+<g transform=\"translate(0 260)\">\n\
+<path class=\"rule\" d=\"M0 0v1000M1000 0v1000M2000 0v1000M3000 0v1000M4000 0v1000M5000 0v1000\"/>\n\
+<g transform=\"translate(0 666)\">\n\
+<path class=\"rule\" d=\"M0 -166h6000\"/>\n\
+<text class=\"soft e\" x=\"-60\" y=\"-166\" dy=\"40\">128</text>\n\
+<path class=\"rule\" d=\"M0 -333h6000\"/>\n\
+<text class=\"soft e\" x=\"-60\" y=\"-333\" dy=\"40\">256</text>\n\
+<path class=\"rule\" d=\"M0 -500h6000\"/>\n\
+<text class=\"soft e\" x=\"-60\" y=\"-500\" dy=\"40\">384</text>\n\
+<path class=\"rule\" d=\"M0 -666h6000\"/>\n\
+<text class=\"soft e\" x=\"-60\" y=\"-666\" dy=\"40\">512</text>\n\
+<path class=\"held\" d=\"M0 0V-0H1000V-666H2000V-666H3000V-666H4000V-666H5000V-333H6000V0z\"/>\n\
+<path class=\"rule\" d=\"M0 166h6000\"/>\n\
+<text class=\"soft e\" x=\"-60\" y=\"166\" dy=\"40\">128</text>\n\
+<path class=\"rule\" d=\"M0 333h6000\"/>\n\
+<text class=\"soft e\" x=\"-60\" y=\"333\" dy=\"40\">256</text>\n\
+<path class=\"given\" d=\"M0 0V0H1000V0H2000V0H3000V0H4000V0H5000V333H6000V0z\"/>\n\
+<path class=\"zero\" d=\"M0 0h6000\"/>\n\
+<text class=\"soft e\" x=\"-60\" y=\"0\" dy=\"40\">0</text>\n\
+</g>\n\
+</g>\n\
+</g>\n\
+<g transform=\"translate(900 3000)\">\n\
+<text class=\"soft e\" x=\"-60\" y=\"150\">pages</text>\n\
+<rect class=\"s0\" x=\"0\" y=\"72\" width=\"80\" height=\"80\"/>\n\
+<text class=\"ink\" x=\"130\" y=\"150\">allocated</text>\n\
+<rect class=\"s2\" x=\"2400\" y=\"72\" width=\"80\" height=\"80\"/>\n\
+<text class=\"ink\" x=\"2530\" y=\"150\">queued</text>\n\
+<rect class=\"s3\" x=\"3600\" y=\"72\" width=\"80\" height=\"80\"/>\n\
+<text class=\"ink\" x=\"3730\" y=\"150\">in a batch</text>\n\
+<rect class=\"s4\" x=\"4800\" y=\"72\" width=\"80\" height=\"80\"/>\n\
+<text class=\"ink\" x=\"4930\" y=\"150\">split</text>\n\
+<g transform=\"translate(0 260)\">\n\
+<path class=\"rule\" d=\"M0 0v1000M1000 0v1000M2000 0v1000M3000 0v1000M4000 0v1000M5000 0v1000\"/>\n\
+<g transform=\"translate(0 1000)\">\n\
+<path class=\"rule\" d=\"M0 -1000h6000\"/>\n\
+<text class=\"soft e\" x=\"-60\" y=\"-1000\" dy=\"40\">1</text>\n\
+<path class=\"s4\" d=\"M0 0V-0H1000V-1000H2000V-1000H3000V-1000H4000V-1000H5000V-1000H6000V0z\"/>\n\
+<path class=\"s3\" d=\"M0 0V-0H1000V-1000H2000V-1000H3000V-1000H4000V-1000H5000V-0H6000V0z\"/>\n\
+<path class=\"s2\" d=\"M0 0V-0H1000V-1000H2000V-1000H3000V-1000H4000V-0H5000V-0H6000V0z\"/>\n\
+<path class=\"s0\" d=\"M0 0V-0H1000V-1000H2000V-1000H3000V-0H4000V-0H5000V-0H6000V0z\"/>\n\
+<path class=\"zero\" d=\"M0 0h6000\"/>\n\
+<text class=\"soft e\" x=\"-60\" y=\"0\" dy=\"40\">0</text>\n\
+</g>\n\
+</g>\n\
+</g>\n\
+<g transform=\"translate(900 4470)\">\n\
+<text class=\"soft e\" x=\"-130\" y=\"0\">event</text>\n\
+<text class=\"soft c\" x=\"0\" y=\"0\">0</text>\n\
+<text class=\"soft c\" x=\"1000\" y=\"0\">1</text>\n\
+<text class=\"soft c\" x=\"2000\" y=\"0\">2</text>\n\
+<text class=\"soft c\" x=\"3000\" y=\"0\">3</text>\n\
+<text class=\"soft c\" x=\"4000\" y=\"0\">4</text>\n\
+<text class=\"soft c\" x=\"5000\" y=\"0\">5</text>\n\
+</g>\n\
+</g>\n\
+</svg>\n";
+
+// Words with each byte that has a name.
+const ESCAPED: &[u8] = b"a &lt; b &amp; &quot;c&quot; &gt; d";
 
 #[test]
 fn words_are_escaped(rt: HostRuntime) {
     let mut text = Vec::new(rt.alloc());
     put_escaped(&mut text, b"a < b & \"c\" > d").expect(&rt, "memory");
-    assert!(rt; text.as_slice() == b"a &lt; b &amp; &quot;c&quot; &gt; d");
+    assert!(rt; text.as_slice() == ESCAPED);
+}
+
+#[test]
+fn picture_of_the_first_run(rt: HostRuntime) {
+    let alloc = rt.alloc();
+    let node = followed(&rt, alloc, &first_run());
+    let nodes = [DrawnNode::of(LARGE, node)];
+    let mut text = Vec::new(alloc);
+    put_picture(&mut text, &nodes).expect(&rt, "memory");
+    assert!(rt; text.as_slice() == PICTURE);
 }

@@ -1,6 +1,7 @@
 //! Tables of nodes.
-use crate::nodes::{LARGE, first_run, followed};
-use thp_drawing::{DrawnNode, put_table};
+use crate::nodes::{LARGE, PAGE, first_run, followed};
+use thp_drawing::{DrawnNode, IllegalEvent, put_table};
+use thp_model::{Event, What};
 
 // What a plain program outside tells of the same events.
 const TABLE: &[u8] =
@@ -24,4 +25,26 @@ fn table_of_the_first_run(rt: HostRuntime) {
     let mut text = Vec::new(alloc);
     put_table(&mut text, &nodes).expect(&rt, "memory");
     assert!(rt; text.as_slice() == TABLE);
+}
+
+// The lines of a node whose first event, in line 3, takes a page that was never allocated.
+const ILLEGAL: &[u8] = b"node\t0\t16\t9\toff\t0\t1\t0\t0\t0\t0\t0\t0\t0\t0\t0\t3\t0 taken 0\n\
+column\t0\t0\t0\t0\t0\t0\t0\t0\t0\t0\t0\t0\t0\t0\t0\t0\n";
+
+#[test]
+fn table_tells_the_illegal_event(rt: HostRuntime) {
+    let alloc = rt.alloc();
+    let node = followed(&rt, alloc, &[]);
+    let numbers = node.numbers();
+    let illegal = IllegalEvent {
+        line: 3,
+        event: Event {
+            caller: 0,
+            what: What::Taken { page: PAGE },
+        },
+    };
+    let nodes = [DrawnNode::from_columns(LARGE, node.into_columns(), numbers, Some(illegal))];
+    let mut text = Vec::new(alloc);
+    put_table(&mut text, &nodes).expect(&rt, "memory");
+    assert!(rt; text.as_slice().ends_with(ILLEGAL));
 }

@@ -1,5 +1,5 @@
 -- What is drawn of a node.
-use Rattle.std.specs.Prelude.{◌≡◌, List, Option, None, length}
+use Rattle.std.specs.Prelude.{◌≡◌, List, None, length}
 use Rattle.thp_model.specs.declared.shape.Shape.{Shape}
 use Rattle.thp_model.specs.History.{History}
 use Rattle.thp_series.specs.declared.numbers.Numbers.{Numbers}

@@ -1,5 +1,5 @@
 -- What a picture is made of. A class names what colour an element has, and how its letters look.
-use Rattle.std.specs.Prelude.{ℕ, ◌+◌, List, ◌++◌, codes}
+use Rattle.std.specs.Prelude.{ℕ, List, ◌++◌, codes}
 use Rattle.std.specs.Fmt.{decimal}
 use Rattle.thp_drawing.specs.Escapes.{escaped}
 

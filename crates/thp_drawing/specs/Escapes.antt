@@ -1,6 +1,6 @@
 -- Words as a text of XML has them.
-use Rattle.std.specs.Prelude.{ℕ, List, [], ◌∷◌, codes, if◌then◌else◌, nat_eq}
-use Rattle.std.specs.List.{flat_map}
+use Rattle.std.specs.Prelude.{◌≡◌, ℕ, Bool, false, ◌||◌, List, [], ◌∷◌, codes, if◌then◌else◌, nat_eq}
+use Rattle.std.specs.List.{flat_map, list_any}
 
 -- a byte; `&`, `<`, `>` and `"` have names
 abbrev pub escaped_byte : ℕ → List ℕ
@@ -13,3 +13,11 @@ escaped_byte b =
 
 abbrev pub escaped : List ℕ → List ℕ
 escaped words = flat_map escaped_byte words
+
+-- a byte at which a text of XML, or a value in quotes, ends
+abbrev pub ends_words : ℕ → Bool
+ends_words b = nat_eq b 60 || nat_eq b 62 || nat_eq b 34
+
+-- whatever the words are, nothing of them ends the text that they stand in
+abbrev pub EscapedStaysWithin : Type 0
+EscapedStaysWithin = (words : List ℕ) → list_any ends_words (escaped words) ≡ false

@@ -11,7 +11,7 @@ letter_rules =
 unfoldable pub size_rules : List ℕ
 size_rules =
     codes ".h{font-size:150px;font-weight:600}.hh{font-size:190px;font-weight:600}.e{text-anchor:end}.c{text-anchor:middle}\n"
-    ++ codes ".pale{fill-opacity:.35}.rule,.zero{fill:none}.rule{stroke-width:6}.zero{stroke-width:8}\n"
+    ++ codes "path{shape-rendering:crispEdges}.pale{fill-opacity:.35}.rule,.zero{fill:none;shape-rendering:auto;stroke-width:6}\n"
 
 -- on a light ground: letters, lines, and frames
 unfoldable pub light_inks : List ℕ

@@ -30,9 +30,9 @@ node_words n d =
     codes "node " ++ decimal n ++ codes ": "
     ++ shape_words d.shape.blocks d.shape.order d.shape.underused ++ codes ", " ++ events_words d
 
--- a line of at most 80 letters, or the front of a longer one
+-- a line of at most 70 letters, or the front of a longer one
 unfoldable pub shortened : List ℕ → List ℕ
-shortened line = if nat_le (length line) 80 then line else take 77 line ++ codes " .."
+shortened line = if nat_le (length line) 70 then line else take 67 line ++ codes " .."
 
 -- an illegal event, and the number of its line in the journal's text
 unfoldable pub illegal_words : ℕ → Event → List ℕ

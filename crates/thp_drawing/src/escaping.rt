@@ -1,6 +1,6 @@
 //! Words as a text of XML has them.
 ghost use Rattle.std.specs.Prelude.{◌≡◌, ◌++◌, OnOk};
-ghost use Rattle.thp_drawing.specs.Escapes.{escaped, escaped_byte};
+ghost use Rattle.thp_drawing.specs.Escapes.{escaped, escaped_byte, EscapedStaysWithin};
 
 use std::alloc::AllocError;
 use thp_journal_writer::put;
@@ -30,3 +30,10 @@ fn put_byte(text: &mut Vec<u8>, byte: u8) -> Result<(), AllocError>
         put(text, &[byte])
     }
 }
+
+/// Whatever words are escaped, nothing of them ends the text or the value that they stand in.
+///
+/// It does nothing: its contract is the law.
+pub fn escaped_stays_within()
+    ensures { EscapedStaysWithin }
+{}

@@ -18,7 +18,7 @@ mod style;
 mod table;
 mod title;
 
-pub use escaping::put_escaped;
+pub use escaping::{escaped_stays_within, put_escaped};
 pub use illegal_event::IllegalEvent;
 pub use node::DrawnNode;
 pub use picture::put_picture;

@@ -15,7 +15,7 @@ const SIZES: &[u8] =
     b".h{font-size:150px;font-weight:600}.hh{font-size:190px;font-weight:600}.e{text-anchor:end}.c{text-anchor:middle}\n";
 
 const LINES: &[u8] =
-    b".pale{fill-opacity:.35}.rule,.zero{fill:none}.rule{stroke-width:6}.zero{stroke-width:8}\n";
+    b"path{shape-rendering:crispEdges}.pale{fill-opacity:.35}.rule,.zero{fill:none;shape-rendering:auto;stroke-width:6}\n";
 
 const LIGHT_INKS: &[u8] =
     b"svg{background:#ffffff}.bg{fill:#ffffff}.ink{fill:#1c2128}.soft{fill:#5d6673}.bad{fill:#c8102e}\n";

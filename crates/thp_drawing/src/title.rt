@@ -12,7 +12,7 @@ use thp_journal_writer::put;
 use thp_model::Event;
 
 // A line of an event that is shown has at most so many letters.
-const MAX_LETTERS: usize = 80;
+const MAX_LETTERS: usize = 70;
 
 /// Puts the words of a node's title.
 #[tactic(auto, using(crate::proofs::Pieces::six), unfolding(crate::specs::Titles::node_words))]
@@ -128,7 +128,7 @@ fn put_shortened(text: &mut Vec<u8>, line: &[u8]) -> Result<(), AllocError>
     if line.len() <= MAX_LETTERS {
         return put(text, line);
     }
-    let (front, _) = line.split_at(77);
+    let (front, _) = line.split_at(67);
     put(text, front)?;
     put(text, b" ..")
 }
