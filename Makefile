@@ -1,7 +1,7 @@
 # make try:     runs the first script at once, without proving anything
 # make run:     proves the program and all that it stands on, its libraries side by side (prove.py), builds it, and runs the
 #               first script
-# make checker: the same of thpcheck, which checks journals of any length
+# make checker: the same of thpcheck, which checks journals of any length; make drawer: of thpdraw, which draws them
 # make install: puts the proved programs and thpwhatif, their manual pages and completions below PREFIX (default /usr/local;
 #               DESTDIR as usual); make uninstall takes them away
 # make deb:     the Debian packages of the proved programs with thpwhatif, and of the library for C, into DEBS (default out; wants
@@ -25,13 +25,14 @@
 PREFIX ?= /usr/local
 PROGRAM = crates/thpsplit/out/thpsplit
 CHECKER = crates/thpcheck/out/thpcheck
+DRAWER = crates/thpdraw/out/thpdraw
 ARCHIVE = crates/thp_c/out/libthp_c.a
 SCRIPT = examples/first.script
 DEBS ?= out
 CASES ?= 2000
 SEED ?= 1
 
-.PHONY: help try run checker install put put-whatif uninstall deb test outside toolchain fuzz memory c edits linux bench
+.PHONY: help try run checker drawer install put put-whatif uninstall deb test outside toolchain fuzz memory c edits linux bench
 
 help:
 	@sed -n '/^[^#]/q; s/^# //p' Makefile
@@ -52,6 +53,11 @@ checker: toolchain
 	@python3 prove.py thpcheck
 	@cd crates/thpcheck && rt run < ../../examples/two_workers.journal
 
+# the third one, which draws such journals: proved and built, and the table of an example
+drawer: toolchain
+	@python3 prove.py thpdraw
+	@cd crates/thpdraw && rt run -- --table < ../../examples/two_workers.journal
+
 # what is installed: its place below the prefix, and the file
 INSTALLED = bin/thpsplit=$(PROGRAM) share/man/man1/thpsplit.1=docs/thpsplit.1 share/man/man5/thpsplit.5=docs/thpsplit.5 \
 	share/bash-completion/completions/thpsplit=completions/thpsplit.bash \
@@ -60,9 +66,13 @@ INSTALLED = bin/thpsplit=$(PROGRAM) share/man/man1/thpsplit.1=docs/thpsplit.1 sh
 	bin/thpcheck=$(CHECKER) share/man/man1/thpcheck.1=docs/thpcheck.1 \
 	share/bash-completion/completions/thpcheck=completions/thpcheck.bash \
 	share/zsh/site-functions/_thpcheck=completions/_thpcheck \
-	share/fish/vendor_completions.d/thpcheck.fish=completions/thpcheck.fish
+	share/fish/vendor_completions.d/thpcheck.fish=completions/thpcheck.fish \
+	bin/thpdraw=$(DRAWER) share/man/man1/thpdraw.1=docs/thpdraw.1 \
+	share/bash-completion/completions/thpdraw=completions/thpdraw.bash \
+	share/zsh/site-functions/_thpdraw=completions/_thpdraw \
+	share/fish/vendor_completions.d/thpdraw.fish=completions/thpdraw.fish
 
-install: run checker put put-whatif
+install: run checker drawer put put-whatif
 
 # puts the files into place, as they are
 put:
@@ -83,8 +93,8 @@ uninstall:
 	@for pair in $(INSTALLED); do rm -f "$(DESTDIR)$(PREFIX)/$${pair%%=*}"; done
 	@$(MAKE) --no-print-directory -s -C linux/whatif uninstall PREFIX="$(PREFIX)" DESTDIR="$(abspath $(DESTDIR))"
 
-deb: run checker $(ARCHIVE)
-	@python3 debian/build.py $(PROGRAM) $(CHECKER) $(ARCHIVE) $(DEBS)
+deb: run checker drawer $(ARCHIVE)
+	@python3 debian/build.py $(PROGRAM) $(CHECKER) $(DRAWER) $(ARCHIVE) $(DEBS)
 
 test: toolchain
 	@python3 tests/gate.py
@@ -103,7 +113,9 @@ outside:
 	@$(if $(GIVEN),python3 tests/outside.py --self-test $(GIVEN))
 	@$(if $(GIVEN),python3 tests/large.py $(GIVEN))
 	@$(if $(wildcard $(CHECKER)),python3 tests/checker.py $(CHECKER))
-	@$(if $(and $(GIVEN),$(wildcard $(CHECKER)),$(wildcard $(ARCHIVE))),python3 tests/package.py $(GIVEN) $(CHECKER) $(ARCHIVE) || test $$? = 77)
+	@$(if $(wildcard $(DRAWER)),python3 tests/drawer.py $(DRAWER))
+	@$(if $(wildcard $(DRAWER)),python3 tests/tables.py $(DRAWER) --seed $(SEED))
+	@$(if $(and $(GIVEN),$(wildcard $(CHECKER)),$(wildcard $(DRAWER)),$(wildcard $(ARCHIVE))),python3 tests/package.py $(GIVEN) $(CHECKER) $(DRAWER) $(ARCHIVE) || test $$? = 77)
 
 fuzz: run
 	@python3 tests/fuzz.py $(PROGRAM) --cases $(CASES) --seed $(SEED)

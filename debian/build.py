@@ -1,7 +1,7 @@
 #!/usr/bin/env python3
 """Builds the Debian packages `thpsplit`, `libthp0` and `libthp-dev` from what was built before.
 
-    debian/build.py THPSPLIT THPCHECK ARCHIVE FOLDER
+    debian/build.py THPSPLIT THPCHECK THPDRAW ARCHIVE FOLDER
 
 ARCHIVE is that of the library for C, crates/thp_c/out/libthp_c.a. The packages go into FOLDER, and their paths are printed. They are
 built on a copy of what they are made from, so that nothing else of the tree changes. Status 77 with one line where Debian's tools
@@ -23,7 +23,8 @@ ROOT = Path(__file__).resolve().parent.parent
 PARTS = ("Makefile", "README.md", "CHANGELOG.md", "LICENSE-APACHE", "LICENSE-MIT", "c", "completions", "debian", "docs", "linux")
 """What the packages are made from, beside what was built."""
 
-BUILT = ("crates/thpsplit/out/thpsplit", "crates/thpcheck/out/thpcheck", "crates/thp_c/out/libthp_c.a")
+BUILT = ("crates/thpsplit/out/thpsplit", "crates/thpcheck/out/thpcheck", "crates/thpdraw/out/thpdraw",
+         "crates/thp_c/out/libthp_c.a")
 """Where the tree has what was proved and built, in the order of the words."""
 
 TOOLS = {"dpkg-buildpackage": "dpkg-dev", "dh": "debhelper", "cc": "gcc"}
@@ -85,7 +86,7 @@ def main() -> None:
     for file in built:
         if not file.is_file():
             sys.exit(f"{file} is no file")
-    for program in built[:2]:
+    for program in built[:-1]:
         if not os.access(program, os.X_OK):
             sys.exit(f"{program} is no program")
     lacks = [package for tool, package in TOOLS.items() if shutil.which(tool) is None]

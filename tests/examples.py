@@ -20,7 +20,9 @@ from tally import Missing, Tally
 
 ROOT = Path(__file__).resolve().parent.parent
 EXAMPLES = ROOT / "examples"
-CHECKER = ROOT / "crates/thpcheck/out/thpcheck"
+OTHERS = {name: ROOT / f"crates/{name}/out/{name}" for name in ("thpcheck", "thpdraw")}
+"""The programs beside `thpsplit`, and where they are built."""
+
 ENDED = re.compile(r"case=(\S+) run=ended status=(\d+)")
 
 
@@ -86,14 +88,16 @@ def shown() -> list[tuple[str, str]]:
 
 
 def readme(program: str) -> str | None:
-    """What README.md shows otherwise than it is, or None. What it shows of `thpcheck` is compared where that is built."""
+    """What README.md shows otherwise than it is, or None. What it shows of another program is compared where that
+    is built."""
     with tempfile.TemporaryDirectory() as folder:
         (Path(folder) / "examples").symlink_to(EXAMPLES)
         (Path(folder) / "bin").mkdir()
         (Path(folder) / "bin/thpsplit").symlink_to(Path(program).resolve())
-        (Path(folder) / "bin/thpcheck").symlink_to(CHECKER)
+        for name, path in OTHERS.items():
+            (Path(folder) / "bin" / name).symlink_to(path)
         for command, output in shown():
-            if command.startswith("thpcheck") and not CHECKER.exists():
+            if any(name in command and not path.exists() for name, path in OTHERS.items()):
                 continue
             shell = f'PATH="{folder}/bin:$PATH"; exec 2>&1; {command}'
             done = subprocess.run(["sh", "-c", shell], cwd=folder, capture_output=True, text=True, check=False)

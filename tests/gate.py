@@ -27,6 +27,9 @@ BUILT = ("crates/thpsplit/out/thpsplit", "crates/thpsplit/out/thpsplit.by-rattle
 CHECKERS = ("crates/thpcheck/out/thpcheck", "crates/thpcheck/out/thpcheck.by-rattle")
 """The same of the program for journals of any length."""
 
+DRAWERS = ("crates/thpdraw/out/thpdraw", "crates/thpdraw/out/thpdraw.by-rattle")
+"""And of the one that draws them."""
+
 BY_EACH = ("tests/examples.py", "tests/rows.py", "tests/outside.py", "tests/large.py")
 """What looks at a program."""
 
@@ -128,8 +131,12 @@ def main() -> None:
     checkers = made_since(began, CHECKERS)
     for program in checkers:
         gate.add(f"checker.py {Path(program).name}", [sys.executable, "tests/checker.py", program])
-    if programs and checkers and archives:
-        gate.add("package.py", [sys.executable, "tests/package.py", programs[0], checkers[0], archives[0]])
+    drawers = made_since(began, DRAWERS)
+    for program in drawers:
+        gate.add(f"drawer.py {Path(program).name}", [sys.executable, "tests/drawer.py", program])
+        gate.add(f"tables.py {Path(program).name}", [sys.executable, "tests/tables.py", program])
+    if programs and checkers and drawers and archives:
+        gate.add("package.py", [sys.executable, "tests/package.py", programs[0], checkers[0], drawers[0], archives[0]])
     if not programs:
         gate.add("examples.py", [sys.executable, "tests/examples.py"])
         gate.skip("the program from outside", "rt ci has built none")

@@ -16,21 +16,22 @@ from pathlib import Path
 from tally import Missing, Tally
 
 ROOT = Path(__file__).resolve().parent.parent
-PAGES = ["docs/thpsplit.1", "docs/thpsplit.5", "docs/thpcheck.1"]
+PAGES = ["docs/thpsplit.1", "docs/thpsplit.5", "docs/thpcheck.1", "docs/thpdraw.1"]
 COMPLETIONS = {"bash": "completions/thpsplit.bash", "zsh": "completions/_thpsplit", "fish": "completions/thpsplit.fish"}
 CHECKER_COMPLETIONS = {"bash": "completions/thpcheck.bash", "zsh": "completions/_thpcheck",
                        "fish": "completions/thpcheck.fish"}
+DRAWER_COMPLETIONS = {"bash": "completions/thpdraw.bash", "zsh": "completions/_thpdraw", "fish": "completions/thpdraw.fish"}
 KERNEL_PAGE = "docs/thpwhatif.1"
 KERNEL_COMPLETIONS = {"bash": "completions/thpwhatif.bash", "zsh": "completions/_thpwhatif",
                       "fish": "completions/thpwhatif.fish"}
-PUT = 11
-"""How many files are put into place of `thpsplit` and `thpcheck`."""
+PUT = 16
+"""How many files are put into place of `thpsplit`, `thpcheck` and `thpdraw`."""
 
 
 def make(target: str, folder: Path) -> str | None:
     """What is wrong where `make` puts files below a folder, or takes them away; or None."""
     words = ["make", "-s", target, "PREFIX=/usr", f"DESTDIR={folder}/root", f"PROGRAM={folder}/program",
-             f"CHECKER={folder}/program"]
+             f"CHECKER={folder}/program", f"DRAWER={folder}/program"]
     done = subprocess.run(words, cwd=ROOT, capture_output=True, text=True, check=False)
     return None if done.returncode == 0 else f"make {target}: {done.stderr.strip()}"
 
@@ -98,10 +99,12 @@ def main() -> None:
         tally.run(f"no warning in {page}", lambda page=page: page_is_sound(page))
     for path in [PAGES[0], *COMPLETIONS.values()]:
         tally.run(f"options in {path}", lambda path=path: options_are_told(path))
-    for path in [PAGES[2], *CHECKER_COMPLETIONS.values()]:
-        own = "crates/thp_check_run/src/options.rt"
-        tally.run(f"options in {path}", lambda path=path, own=own: options_are_told(path, own))
-    for shell, path in [*COMPLETIONS.items(), *CHECKER_COMPLETIONS.items(), *KERNEL_COMPLETIONS.items()]:
+    for page, files, crate in (PAGES[2], CHECKER_COMPLETIONS, "thp_check_run"), (PAGES[3], DRAWER_COMPLETIONS, "thp_draw_run"):
+        for path in [page, *files.values()]:
+            own = f"crates/{crate}/src/options.rt"
+            tally.run(f"options in {path}", lambda path=path, own=own: options_are_told(path, own))
+    completions = (COMPLETIONS, CHECKER_COMPLETIONS, DRAWER_COMPLETIONS, KERNEL_COMPLETIONS)
+    for shell, path in (pair for files in completions for pair in files.items()):
         tally.run(f"syntax of {path}", lambda shell=shell, path=path: reads_as(shell, path))
     tally.end()
 

@@ -1,6 +1,6 @@
 """The Debian packages: built from what was proved, checked by lintian, installed in a clean root, tried there, and removed.
 
-    tests/package.py THPSPLIT THPCHECK ARCHIVE
+    tests/package.py THPSPLIT THPCHECK THPDRAW ARCHIVE
 
 ARCHIVE is that of the library for C. Status 77 with one line where this machine lacks Debian's tools for packages. Nothing is
 installed on the machine itself.
@@ -17,6 +17,7 @@ from pathlib import Path
 from typing import Optional
 
 from process import Call, Ended, run
+from tables import table
 from tally import SKIPPED, Missing, Tally
 
 ROOT = Path(__file__).resolve().parent.parent
@@ -24,7 +25,8 @@ FIRST, LEGAL = ROOT / "examples/first.script", ROOT / "examples/two_workers.jour
 ADMIN = "var/lib/dpkg"
 """What `dpkg` keeps of a root."""
 
-PUT = ("usr/bin/thpsplit", "usr/bin/thpcheck", "usr/bin/thpwhatif", "usr/share/man/man1/thpcheck.1.gz",
+PUT = ("usr/bin/thpsplit", "usr/bin/thpcheck", "usr/bin/thpdraw", "usr/bin/thpwhatif",
+       "usr/share/man/man1/thpcheck.1.gz", "usr/share/man/man1/thpdraw.1.gz",
        "usr/share/man/man1/thpsplit.1.gz", "usr/share/man/man5/thpsplit.5.gz",
        "usr/share/bash-completion/completions/thpsplit", "usr/share/doc/thpsplit/copyright",
        "usr/include/thp.h", "usr/share/man/man3/libthp.3.gz")
@@ -82,7 +84,8 @@ def works(root: Path) -> Optional[str]:
     if totals.status != 0 or b"frames_given 256\n" not in totals.output:
         return f"the first script: {totals}"
     told = run(program, Call(("--check",), LEGAL.read_bytes())).differs_from(Ended(0, b"legal\n"))
-    return told or run(root / "usr/bin/thpcheck", Call((), LEGAL.read_bytes())).differs_from(Ended(0, b"legal\n"))
+    told = told or run(root / "usr/bin/thpcheck", Call((), LEGAL.read_bytes())).differs_from(Ended(0, b"legal\n"))
+    return told or run(root / "usr/bin/thpdraw", Call(("--table",), LEGAL.read_bytes())).differs_from(table(LEGAL.read_bytes()))
 
 
 def links(root: Path) -> Optional[str]:
@@ -117,8 +120,8 @@ def comes_and_goes(packages: list[Path], folder: Path) -> Optional[str]:
 def main() -> None:
     """Tests the packages of the files of the command line."""
     files = [Path(word) for word in sys.argv[1:]]
-    if len(files) != 3 or not all(it.is_file() for it in files):
-        sys.exit(f"not two programs and an archive\n\n{__doc__}")
+    if len(files) != 4 or not all(it.is_file() for it in files):
+        sys.exit(f"not three programs and an archive\n\n{__doc__}")
     tally = Tally()
     with tempfile.TemporaryDirectory(prefix="thp-package-") as name:
         folder = Path(name)

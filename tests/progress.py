@@ -1,4 +1,4 @@
-"""What `thpcheck` shows of how far it is: lines on standard error, taken away before anything is told there."""
+"""What `thpcheck` and `thpdraw` show of how far they are: lines on standard error, taken away before anything is told there."""
 
 from __future__ import annotations
 
@@ -32,17 +32,17 @@ SECONDS = 60
 """A slow run that takes longer counts as one that never ends."""
 
 
-def line(text: bytes) -> bytes:
-    """The pattern of the line that is shown behind this front of a journal."""
+def line(text: bytes, program: bytes = b"thpcheck") -> bytes:
+    """The pattern of the line that a program shows behind this front of a journal."""
     tenths = len(text) * 10 // 2**20
     events = sum(it[:1].isdigit() for it in text.split(b"\n"))
-    told = b"thpcheck: %d.%d MiB, %d events, " % (*divmod(tenths, 10), events)
+    told = b"%s: %d.%d MiB, %d events, " % (program, *divmod(tenths, 10), events)
     return re.escape(REMOVAL + told) + rb"\d+\.\d MiB/s"
 
 
-def lines(*fronts: bytes, behind: bytes = b"") -> bytes:
+def lines(*fronts: bytes, behind: bytes = b"", program: bytes = b"thpcheck") -> bytes:
     """The pattern of what standard error takes: a line behind each front, the last of which is taken away, and what is told."""
-    return b"".join(line(it) for it in fronts) + (re.escape(REMOVAL) if fronts else b"") + re.escape(behind)
+    return b"".join(line(it, program) for it in fronts) + (re.escape(REMOVAL) if fronts else b"") + re.escape(behind)
 
 
 def differs(ended: Ended, status: int, output: bytes, errors: bytes) -> Optional[str]:

@@ -6,6 +6,7 @@ use Rattle.std.proofs.lemmas.List.{append-nil}
 use Rattle.thp_text.specs.Limits.{max_counted}
 use Rattle.thp_text.specs.declared.fault.ReadFault.TheVariants as reading
 use Rattle.thp_text.specs.declared.fault.TextKind.{TextKind}
+use Rattle.thp_text.specs.Scripts.{Fault}
 use Rattle.thp_totals.specs.Totals.{lines_from}
 use Rattle.thp_journal_reader.specs.declared.illegal.Illegal.{Illegal}
 use Rattle.thp_journal_reader.specs.declared.journals.Journals.{Journals}
@@ -26,7 +27,7 @@ use Rattle.thp_streams.specs.Passages.{WritesAnswer}
 use Rattle.thp_streams.specs.RunFaults.{fault_of_summary, seen_fault, IsReadingFault}
 use Rattle.thp_streams.specs.Verdicts.{verdict_text}
 use Rattle.thp_streams.proofs.PassageLaws.{ends_cut, ends_early, ends_written, fault_of_journal, keeps_same, same_journals}
-use Rattle.thp_check_run.specs.Checks.{line_of, CheckEnds, IsCheckOf, IsFindFault, IsFound}
+use Rattle.thp_check_run.specs.Checks.{line_of, IsCheckOf, IsFindFault, IsFound, LongEnds}
 use Rattle.thp_check_run.specs.declared.finding.Found.{Found}
 use Rattle.thp_check_run.specs.declared.options.CheckOptions.{CheckOptions}
 
@@ -39,7 +40,7 @@ at_reading known failed OutOfMemory reading = reading
 at_reading known failed Write reading = absurd reading
 at_reading known failed (Text line kind) reading = absurd reading
 
-pub err_at_reading : (known : Option (List ℕ)) (failed : Bool) (fault : RunFault) (r : Result Found LongRunFault) → IsErrAnd r (λ e. seen_fault e ≡ fault) → IsReadingFault failed fault → IfErr r (λ e. IsFindFault known failed (seen_fault e))
+pub err_at_reading : {A : Type 0} (known : Option (List ℕ)) (failed : Bool) (fault : RunFault) (r : Result A LongRunFault) → IsErrAnd r (λ e. seen_fault e ≡ fault) → IsReadingFault failed fault → IfErr r (λ e. IsFindFault known failed (seen_fault e))
 err_at_reading known failed fault (Ok found) is reading = absurd is
 err_at_reading known failed fault (Err e) is reading =
     let P : RunFault → Type 0 = λ f. IsFindFault known failed f in
@@ -47,14 +48,14 @@ err_at_reading known failed fault (Err e) is reading =
 
 module _ (known : Option (List ℕ)) (bytes : List ℕ) (read : IfSome known (IsFrontOf max_counted bytes)) (failed : Bool) (same : failed ≡ false) where
   -- the text is at fault
-  pub err_at_text : (line : ℕ) (kind : TextKind) (r : Result Found LongRunFault) → IsErrAnd r (λ e. e ≡ long.Text line kind) → journals_within max_counted bytes ≡ Err (line, kind) → IfErr r (λ e. IsFindFault known failed (seen_fault e))
+  pub err_at_text : {A : Type 0} (line : ℕ) (kind : TextKind) (r : Result A LongRunFault) → IsErrAnd r (λ e. e ≡ long.Text line kind) → journals_within max_counted bytes ≡ Err (line, kind) → IfErr r (λ e. IsFindFault known failed (seen_fault e))
   err_at_text line kind (Ok found) is told = absurd is
   err_at_text line kind (Err e) is told =
       let P : LongRunFault → Type 0 = λ f. IsFindFault known failed (seen_fault f) in
       subst P (sym is) (bytes, read, told, same)
 
   -- or memory for the last totals was refused
-  pub err_at_summary : (fault : SummaryFault) (r : Result Found LongRunFault) → IsErrAnd r (λ e. e ≡ fault_of_summary fault) → TellsSummaryFault (journals_within max_counted bytes) fault → IfErr r (λ e. IsFindFault known failed (seen_fault e))
+  pub err_at_summary : {A : Type 0} (fault : SummaryFault) (r : Result A LongRunFault) → IsErrAnd r (λ e. e ≡ fault_of_summary fault) → TellsSummaryFault (journals_within max_counted bytes) fault → IfErr r (λ e. IsFindFault known failed (seen_fault e))
   err_at_summary (summary.Text fault) r is told = err_at_text fault.line fault.kind r is told
   err_at_summary summary.OutOfMemory (Ok found) is told = absurd is
   err_at_summary summary.OutOfMemory (Err e) is told =
@@ -89,7 +90,7 @@ check_of options bytes text found is written =
       text_is = written;
     }
 
-check_of_input : (options : CheckOptions) (input bytes text : List ℕ) (illegal : Option Illegal) → IsFrontOf max_counted bytes input → IsCheckOf options bytes illegal text → IsCheckOf options input illegal text
+pub check_of_input : (options : CheckOptions) (input bytes text : List ℕ) (illegal : Option Illegal) → IsFrontOf max_counted bytes input → IsCheckOf options bytes illegal text → IsCheckOf options input illegal text
 check_of_input options input bytes text illegal read c =
     let v = c.verdict in
     record {
@@ -103,31 +104,36 @@ check_of_input options input bytes text illegal read c =
 
 -- ---- how it ends
 
-module _ (options : CheckOptions) (known : Option (List ℕ)) where
+-- a reading of any length, whose answer to what was read is one to the whole input
+module _ {A : Type 0} (IsAnswer : List ℕ → A → List ℕ → Type 0) (of_input : (input bytes text : List ℕ) (x : A) → IsFrontOf max_counted bytes input → IsAnswer bytes x text → IsAnswer input x text) (known : Option (List ℕ)) where
+  abbrev HasFault : List ℕ → Fault → Type 0
+  HasFault bytes fault = journals_within max_counted bytes ≡ Err fault
+
   -- nothing was found
-  pub ends_at_find : (old : Option (List ℕ)) (reader_failed writer_failed : Bool) (fault : RunFault) (r : Result (Option Illegal) RunFault) → IsFindFault known reader_failed fault → writer_failed ≡ false → r ≡ Err fault → CheckEnds options known old old reader_failed writer_failed r
+  pub ends_at_find : (old : Option (List ℕ)) (reader_failed writer_failed : Bool) (fault : RunFault) (r : Result A RunFault) → IsFindFault known reader_failed fault → writer_failed ≡ false → r ≡ Err fault
+      → LongEnds IsAnswer known old old reader_failed writer_failed r
   ends_at_find old rf wf (Text line kind) r why f is =
-      ends_early max_counted (IsCheckOf options) (λ b fault. journals_within max_counted b ≡ Err fault) (check_of_input options) (fault_of_journal max_counted) known why.0 why.1 old rf wf (reading.Text line kind) r why.2 why.3 f is
+      ends_early max_counted IsAnswer HasFault of_input (fault_of_journal max_counted) known why.0 why.1 old rf wf (reading.Text line kind) r why.2 why.3 f is
   ends_at_find old rf wf OutOfMemory r why f is = rw is (keeps_same old, why, f)
   ends_at_find old rf wf Read r why f is = rw is (keeps_same old, why, f)
   ends_at_find old rf wf Write r why f is = absurd why
 
   module _ (bytes : List ℕ) (read : IfSome known (IsFrontOf max_counted bytes)) where
     -- the writer took a front of the text
-    pub ends_at_write : (old new : Option (List ℕ)) (reader_failed writer_failed : Bool) (illegal : Option Illegal) (text : List ℕ) (o : Option (Unit {0})) (r : Result (Option Illegal) RunFault) → IsCheckOf options bytes illegal text → o ≡ None
-        → IfNone o (WritesFront old new text) → IfNone o (writer_failed ≡ true) → reader_failed ≡ false → r ≡ Err Write → CheckEnds options known old new reader_failed writer_failed r
-    ends_at_write old new rf wf illegal text o r check none cut failed e is =
-        ends_cut max_counted (IsCheckOf options) (λ b fault. journals_within max_counted b ≡ Err fault) (check_of_input options) (fault_of_journal max_counted) known bytes read old new rf wf illegal text r check (rw none at cut) e (rw none at failed) is
+    pub ends_at_write : (old new : Option (List ℕ)) (reader_failed writer_failed : Bool) (x : A) (text : List ℕ) (o : Option (Unit {0})) (r : Result A RunFault) → IsAnswer bytes x text → o ≡ None
+        → IfNone o (WritesFront old new text) → IfNone o (writer_failed ≡ true) → reader_failed ≡ false → r ≡ Err Write → LongEnds IsAnswer known old new reader_failed writer_failed r
+    ends_at_write old new rf wf x text o r answer none cut failed e is =
+        ends_cut max_counted IsAnswer HasFault of_input (fault_of_journal max_counted) known bytes read old new rf wf x text r answer (rw none at cut) e (rw none at failed) is
 
     -- the text was written
-    pub ends_told : (old new : Option (List ℕ)) (reader_failed writer_failed : Bool) (illegal : Option Illegal) (text : List ℕ) (o : Option (Unit {0})) (u : Unit {0}) → IsCheckOf options bytes illegal text → ok_or o long.Write ≡ Ok u
-        → IfSome o (λ _. Appends old new text) → IfSome o (λ _. writer_failed ≡ false) → reader_failed ≡ false → CheckEnds options known old new reader_failed writer_failed (Ok illegal)
-    ends_told old new rf wf illegal text (Some v) u check some done flag e =
-        ends_written max_counted (IsCheckOf options) (λ b fault. journals_within max_counted b ≡ Err fault) (check_of_input options) (fault_of_journal max_counted) known bytes read old new rf wf illegal text (Ok illegal) check done e flag refl
-    ends_told old new rf wf illegal text None u check some done flag e = absurd cc
+    pub ends_told : (old new : Option (List ℕ)) (reader_failed writer_failed : Bool) (x : A) (text : List ℕ) (o : Option (Unit {0})) (u : Unit {0}) → IsAnswer bytes x text → ok_or o long.Write ≡ Ok u
+        → IfSome o (λ _. Appends old new text) → IfSome o (λ _. writer_failed ≡ false) → reader_failed ≡ false → LongEnds IsAnswer known old new reader_failed writer_failed (Ok x)
+    ends_told old new rf wf x text (Some v) u answer some done flag e =
+        ends_written max_counted IsAnswer HasFault of_input (fault_of_journal max_counted) known bytes read old new rf wf x text (Ok x) answer done e flag refl
+    ends_told old new rf wf x text None u answer some done flag e = absurd cc
 
 -- no call of the writer was made
-pub none_at_find : (known : Option (List ℕ)) (r : Result (Option Illegal) RunFault) (reader_failed writer_failed : Bool) (fault : RunFault) (calls : List Call) → IsFindFault known reader_failed fault → r ≡ Err fault → WritesAnswer r writer_failed calls calls
+pub none_at_find : {A : Type 0} (known : Option (List ℕ)) (r : Result A RunFault) (reader_failed writer_failed : Bool) (fault : RunFault) (calls : List Call) → IsFindFault known reader_failed fault → r ≡ Err fault → WritesAnswer r writer_failed calls calls
 none_at_find known r rf wf (Text line kind) calls why is = rw is refl
 none_at_find known r rf wf OutOfMemory calls why is = rw is refl
 none_at_find known r rf wf Read calls why is = rw is refl

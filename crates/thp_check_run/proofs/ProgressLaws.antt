@@ -11,6 +11,7 @@ use Rattle.thp_streams.specs.Devices.{WritesFront}
 use Rattle.thp_streams.specs.Outcomes.{device_of, Device, Takes}
 use Rattle.thp_streams.specs.Watch.{Watch}
 use Rattle.thp_streams.specs.declared.calls.Call.{Call}
+use Rattle.thp_streams.specs.declared.ending.Program.{Program}
 use Rattle.thp_streams.specs.declared.calls.Call.TheVariants as call
 use Rattle.thp_check_run.specs.Counting.{begins_behind, events_from}
 use Rattle.thp_check_run.specs.Progress.{last_removed, progress_line, progress_text, removal, AreAnswered, IsAnswered, IsReached, Reached, ShowsLines, Took}
@@ -111,11 +112,11 @@ took_front w text more e t = record {
 
 -- ---- lines
 
-text_more : (lines : List Reached) (line : Reached) → progress_text (lines ++ line ∷ []) ≡ progress_text lines ++ progress_line line
-text_more lines line =
-    ap concat (map-append progress_line lines (line ∷ []))
-    ∙ concat-append (map progress_line lines) (progress_line line ∷ [])
-    ∙ ap (λ (t : List ℕ). progress_text lines ++ t) (append-nil (progress_line line))
+text_more : (program : Program) (lines : List Reached) (line : Reached) → progress_text program (lines ++ line ∷ []) ≡ progress_text program lines ++ progress_line program line
+text_more program lines line =
+    ap concat (map-append (progress_line program) lines (line ∷ []))
+    ∙ concat-append (map (progress_line program) lines) (progress_line program line ∷ [])
+    ∙ ap (λ (t : List ℕ). progress_text program lines ++ t) (append-nil (progress_line program line))
 
 some_more : (lines : List Reached) (line : Reached) → is_some_line (lines ++ line ∷ []) ≡ true
 some_more [] line = refl
@@ -150,9 +151,9 @@ one_reached text line is (suc k) d inside = absurd (omega arith)
 reached_now : (progress : Progress) (text : List ℕ) (rate : ℕ) → HasCounted progress text → IsReached text (record { bytes = progress.bytes; events = progress.counted.events; rate = rate })
 reached_now progress text rate c = record { front = text; rest = []; parts = sym (append-nil text); bytes_are = c.bytes_are; events_are = c.events_are }
 
-module _ {S : Type 0} (contents : S → Option (List ℕ)) (start : Watch S) where
+module _ {S : Type 0} (contents : S → Option (List ℕ)) (start : Watch S) (program : Program) where
   -- nothing was shown
-  pub shown_none : (stands : Bool) → start.failed ≡ false → stands ≡ false → HasShown [] stands (device_of contents start start)
+  pub shown_none : (stands : Bool) → start.failed ≡ false → stands ≡ false → HasShown program [] stands (device_of contents start start)
   shown_none stands ok none = record { lines = []; reached = All-nil (IsReached []); took = took_nothing (contents start.device) start.failed start.calls ok; stands_is = none }
 
   took_line : (old new : Watch S) (text line : List ℕ) → old.failed ≡ false → Took (device_of contents start old) text → Takes (device_of contents old new) line → Took (device_of contents start new) (text ++ line)
@@ -160,37 +161,37 @@ module _ {S : Type 0} (contents : S → Option (List ℕ)) (start : Watch S) whe
       took_more (contents start.device) (contents old.device) (contents new.device) new.failed start.calls old.calls new.calls text line (rw ok at took) takes
 
   -- more has come, and was looked at
-  pub shown_more : (progress : Progress) (text more : List ℕ) (stood : Bool) (old new : Watch S) → HasShown text stood (device_of contents start old) → HasCounted progress (text ++ more)
-      → Looks contents stood progress old new → HasShown (text ++ more) progress.stands (device_of contents start new)
-  shown_more progress text more stood old new shown counted (inl (same, stands)) =
-      let P : Watch S → Type 0 = λ w. Took (device_of contents start w) (progress_text shown.lines) in
+  pub shown_more : (progress : Progress) → progress.program ≡ program → (text more : List ℕ) (stood : Bool) (old new : Watch S) → HasShown program text stood (device_of contents start old) → HasCounted progress (text ++ more)
+      → Looks contents stood progress old new → HasShown program (text ++ more) progress.stands (device_of contents start new)
+  shown_more progress own text more stood old new shown counted (inl (same, stands)) =
+      let P : Watch S → Type 0 = λ w. Took (device_of contents start w) (progress_text program shown.lines) in
       record { lines = shown.lines; reached = each_more text more shown.lines shown.reached; took = subst P (sym same) shown.took; stands_is = stands ∙ shown.stands_is }
-  shown_more progress text more stood old new shown counted (inr (ok, stands, told)) =
+  shown_more progress own text more stood old new shown counted (inr (ok, stands, told)) =
       let line : Reached = record { bytes = progress.bytes; events = progress.counted.events; rate = told.0 } in
       let P : List ℕ → Type 0 = λ t. Took (device_of contents start new) t in
       record {
         lines = shown.lines ++ line ∷ [];
         reached = All-append (IsReached (text ++ more)) shown.lines (line ∷ []) (each_more text more shown.lines shown.reached) (one_reached (text ++ more) line (reached_now progress (text ++ more) told.0 counted));
-        took = subst P (sym (text_more shown.lines line)) (took_line old new (progress_text shown.lines) (progress_line line) ok shown.took told.1);
+        took = subst P (sym (text_more program shown.lines line)) (took_line old new (progress_text program shown.lines) (progress_line program line) ok shown.took (rw own at told.1));
         stands_is = stands ∙ sym (some_more shown.lines line);
       }
 
-  took_all : (stood : Bool) (old new : Watch S) (lines : List Reached) → Took (device_of contents start old) (progress_text lines) → stood ≡ is_some_line lines → Removes contents stood old new
-      → Took (device_of contents start new) (progress_text lines ++ last_removed lines)
+  took_all : (stood : Bool) (old new : Watch S) (lines : List Reached) → Took (device_of contents start old) (progress_text program lines) → stood ≡ is_some_line lines → Removes contents stood old new
+      → Took (device_of contents start new) (progress_text program lines ++ last_removed lines)
   took_all stood old new lines took is (inl (ok, stands, takes)) =
-      let P : List ℕ → Type 0 = λ t. Took (device_of contents start new) (progress_text lines ++ t) in
-      subst P (sym (last_stands lines (sym is ∙ stands))) (took_line old new (progress_text lines) removal ok took takes)
+      let P : List ℕ → Type 0 = λ t. Took (device_of contents start new) (progress_text program lines ++ t) in
+      subst P (sym (last_stands lines (sym is ∙ stands))) (took_line old new (progress_text program lines) removal ok took takes)
   took_all stood old new lines took is (inr (same, inl none)) =
-      let P : Watch S → Type 0 = λ w. Took (device_of contents start w) (progress_text lines ++ last_removed lines) in
+      let P : Watch S → Type 0 = λ w. Took (device_of contents start w) (progress_text program lines ++ last_removed lines) in
       let Q : List ℕ → Type 0 = λ t. Took (device_of contents start old) t in
-      subst P (sym same) (subst Q (sym (ap (λ (t : List ℕ). progress_text lines ++ t) (none_stands lines (sym is ∙ none)) ∙ append-nil (progress_text lines))) took)
+      subst P (sym same) (subst Q (sym (ap (λ (t : List ℕ). progress_text program lines ++ t) (none_stands lines (sym is ∙ none)) ∙ append-nil (progress_text program lines))) took)
   took_all stood old new lines took is (inr (same, inr failed)) =
-      let P : Watch S → Type 0 = λ w. Took (device_of contents start w) (progress_text lines ++ last_removed lines) in
-      subst P (sym same) (took_front (device_of contents start old) (progress_text lines) (last_removed lines) failed took)
+      let P : Watch S → Type 0 = λ w. Took (device_of contents start w) (progress_text program lines ++ last_removed lines) in
+      subst P (sym same) (took_front (device_of contents start old) (progress_text program lines) (last_removed lines) failed took)
 
   -- no more has come, and what stood there was taken away
-  pub shown_all : (known : Option (List ℕ)) (text : List ℕ) (stood : Bool) (old new : Watch S) → IsReadOf known text → HasShown text stood (device_of contents start old) → Removes contents stood old new
-      → ShowsLines known (device_of contents start new)
+  pub shown_all : (known : Option (List ℕ)) (text : List ℕ) (stood : Bool) (old new : Watch S) → IsReadOf known text → HasShown program text stood (device_of contents start old) → Removes contents stood old new
+      → ShowsLines program known (device_of contents start new)
   shown_all None text stood old new read shown removes = record { lines = shown.lines; reached = tt; took = took_all stood old new shown.lines shown.took shown.stands_is removes }
   shown_all (Some all) text stood old new read shown removes =
       let P : List ℕ → Type 0 = λ t. All (IsReached t) shown.lines in

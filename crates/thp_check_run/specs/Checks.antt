@@ -65,9 +65,13 @@ abbrev pub found_in : Result Checked LongRunFault → Result (Option Illegal) Ru
 found_in (Ok checked) = Ok checked.illegal
 found_in (Err fault) = Err (seen_fault fault)
 
+-- how the reading of a journal of any length ends: with an answer to it, or with the first fault of the journal
+abbrev pub LongEnds : {A : Type 0} → (List ℕ → A → List ℕ → Type 0) → Option (List ℕ) → Option (List ℕ) → Option (List ℕ) → Bool → Bool → Result A RunFault → Type 0
+LongEnds IsAnswer = Ends IsAnswer (λ bytes fault. journals_within max_counted bytes ≡ Err fault)
+
 -- how the check of a journal ends: with its verdict, or with the first fault of the journal
 abbrev pub CheckEnds : CheckOptions → Option (List ℕ) → Option (List ℕ) → Option (List ℕ) → Bool → Bool → Result (Option Illegal) RunFault → Type 0
-CheckEnds options = Ends (IsCheckOf options) (λ bytes fault. journals_within max_counted bytes ≡ Err fault)
+CheckEnds options = LongEnds (IsCheckOf options)
 
 -- the check ended so: with the first illegal event, or none
 pub record Checks (options : CheckOptions) (input : Source) (output : Device) (result : Result (Option Illegal) RunFault) : Type 0 where

@@ -19,7 +19,7 @@ use Rattle.thp_check_run.specs.CommandLine.{AnswersWords}
 
 -- why the program didn't do what it was asked for, in the words of both programs
 abbrev pub fault_at_end : EndFault → ProgramFault
-fault_at_end (ended.Check fault) = Run (seen_fault fault)
+fault_at_end (ended.Journal fault) = Run (seen_fault fault)
 fault_at_end (ended.Words fault) = fault
 
 -- how the program ended, and what it then has to explain

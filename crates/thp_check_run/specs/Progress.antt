@@ -1,18 +1,16 @@
--- What a screen takes while a journal is checked: lines that show how far the check is (this project's profile).
-use Rattle.std.specs.Prelude.{◌≡◌, ◌+◌, ◌*◌, ◌/◌, ◌%◌, ◌++◌, ◌∷◌, [], ℕ, Bool, true, false, ◌||◌, All, List, Option, IfSome, MatchBool, Result, Ok, Err, codes, length, map}
+-- What a screen takes while a journal is read: lines that show how far that is (this project's profile).
+use Rattle.std.specs.Prelude.{◌≡◌, ◌+◌, ◌*◌, ◌/◌, ◌%◌, ◌++◌, ◌∷◌, [], ℕ, Bool, true, false, ◌||◌, All, List, Option, IfSome, MatchBool, codes, length, map}
 use Rattle.std.specs.Fmt.{decimal}
 use Rattle.std.specs.Io.KnownBytes.{Appends}
 use Rattle.std.specs.List.{concat}
 use Rattle.thp_streams.specs.declared.calls.Call.{Call}
 use Rattle.thp_streams.specs.declared.calls.Call.TheVariants as call
-use Rattle.thp_streams.specs.declared.ending.WordsFault.{WordsFault}
+use Rattle.thp_streams.specs.declared.ending.Program.{Program}
 use Rattle.thp_streams.specs.Devices.{WritesFront}
-use Rattle.thp_streams.specs.Outcomes.{Device, IsUntouched, Source}
-use Rattle.thp_check_run.specs.declared.options.CheckOptions.{CheckOptions}
-use Rattle.thp_check_run.specs.CommandLine.{AnswersWords}
+use Rattle.thp_streams.specs.Outcomes.{name_front, Device, IsUntouched}
 use Rattle.thp_check_run.specs.Counting.{events_in}
 
--- ---- how far a check is
+-- ---- how far it is
 
 -- what a line of progress tells: bytes that were read, the events in them, and bytes a second
 pub record Reached : Type 0 where
@@ -38,12 +36,13 @@ removal = 13 ∷ 27 ∷ codes "[K"
 unfoldable pub mebibytes : ℕ → List ℕ
 mebibytes bytes = decimal (bytes / 1048576) ++ codes "." ++ decimal (bytes % 1048576 * 10 / 1048576) ++ codes " MiB"
 
-unfoldable pub progress_line : Reached → List ℕ
-progress_line r = removal ++ codes "thpcheck: " ++ mebibytes r.bytes ++ codes ", " ++ decimal r.events ++ codes " events, " ++ mebibytes r.rate ++ codes "/s"
+-- the line of a program, behind its name
+unfoldable pub progress_line : Program → Reached → List ℕ
+progress_line program r = removal ++ name_front program ++ mebibytes r.bytes ++ codes ", " ++ decimal r.events ++ codes " events, " ++ mebibytes r.rate ++ codes "/s"
 
 -- lines, each in the place of the one before
-abbrev pub progress_text : List Reached → List ℕ
-progress_text lines = concat (map progress_line lines)
+abbrev pub progress_text : Program → List Reached → List ℕ
+progress_text program lines = concat (map (progress_line program) lines)
 
 -- what takes the last of them away, where there is one
 abbrev pub last_removed : List Reached → List ℕ
@@ -68,30 +67,17 @@ pub record Took (w : Device) (text : List ℕ) : Type 0 where
   pub bytes : MatchBool w.failed (WritesFront w.before w.after text) (Appends w.before w.after text)
   pub calls : AreAnswered w.failed w.called w.calls
 
--- the screen took lines of progress, each of which tells of a front of the text, and the last of which was taken away
-pub record ShowsLines (input : Option (List ℕ)) (screen : Device) : Type 0 where
+-- the screen took a program's lines of progress, each of which tells of a front of the text, and the last of which was taken away
+pub record ShowsLines (program : Program) (input : Option (List ℕ)) (screen : Device) : Type 0 where
   pub lines : List Reached
   pub reached : IfSome input (λ text. All (IsReached text) lines)
-  pub took : Took screen (progress_text lines ++ last_removed lines)
+  pub took : Took screen (progress_text program lines ++ last_removed lines)
 
 -- what a screen takes where progress may be shown, and where it may not: nothing
-abbrev pub ShowsProgress : Bool → Option (List ℕ) → Device → Type 0
-ShowsProgress true input screen = ShowsLines input screen
-ShowsProgress false input screen = IsUntouched screen
+abbrev pub ShowsProgress : Program → Bool → Option (List ℕ) → Device → Type 0
+ShowsProgress program true input screen = ShowsLines program input screen
+ShowsProgress program false input screen = IsUntouched screen
 
--- ---- where progress may be shown
-
--- it is asked for, or the screen is a terminal
-abbrev pub may_show : CheckOptions → Bool → Bool
-may_show options is_terminal = options.progress || is_terminal
-
--- the words ask for a check whose progress may be shown
-abbrev pub AskForProgress : Result (List (List ℕ)) WordsFault → Bool → Type 0
-AskForProgress (Ok words) is_terminal = (options : CheckOptions) × AnswersWords words (Ok options) × (may_show options is_terminal ≡ true)
-AskForProgress (Err fault) is_terminal = ⊥
-
--- the screen took what shows the progress of the check that the words ask for, where they do and it may be shown, and else nothing
-pub record ShowsAsAsked (given : Result (List (List ℕ)) WordsFault) (is_terminal : Bool) (input : Source) (screen : Device) : Type 0 where
-  pub shows : Bool
-  pub asked : shows ≡ true → AskForProgress given is_terminal
-  pub shown : ShowsProgress shows input.bytes screen
+-- progress may be shown where it is asked for, or the screen is a terminal
+abbrev pub may_show : Bool → Bool → Bool
+may_show asked is_terminal = asked || is_terminal

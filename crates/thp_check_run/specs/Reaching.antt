@@ -1,5 +1,6 @@
--- What is kept of a check that shows how far it is.
+-- What is kept of a reading that shows how far it is.
 use Rattle.std.specs.Prelude.{◌≡◌, ◌⊎◌, ◌++◌, ℕ, Bool, true, false, All, List, [], ◌∷◌, Option, IfSome, length}
+use Rattle.thp_streams.specs.declared.ending.Program.{Program}
 use Rattle.thp_streams.specs.Outcomes.{device_of, Device, Takes}
 use Rattle.thp_streams.specs.Watch.{Watch}
 use Rattle.thp_check_run.specs.declared.progress.Progress.{Progress}
@@ -17,18 +18,18 @@ abbrev pub is_some_line : List Reached → Bool
 is_some_line [] = false
 is_some_line (line ∷ lines) = true
 
--- the screen took lines of progress, each of which tells of a front of the text; the last of them stands there, where there is one
-pub record HasShown (text : List ℕ) (stands : Bool) (screen : Device) : Type 0 where
+-- the screen took a program's lines of progress, each of which tells of a front of the text; the last of them stands there, where there is one
+pub record HasShown (program : Program) (text : List ℕ) (stands : Bool) (screen : Device) : Type 0 where
   pub lines : List Reached
   pub reached : All (IsReached text) lines
-  pub took : Took screen (progress_text lines)
+  pub took : Took screen (progress_text program lines)
   pub stands_is : stands ≡ is_some_line lines
 
--- the line that tells how far the check is
+-- the line that tells how far it is
 abbrev pub line_at : Progress → ℕ → List ℕ
-line_at progress rate = progress_line (record { bytes = progress.bytes; events = progress.counted.events; rate = rate })
+line_at progress rate = progress_line progress.program (record { bytes = progress.bytes; events = progress.counted.events; rate = rate })
 
--- the screen is as it was, or took the line that tells how far the check is, which now stands there
+-- the screen is as it was, or took the line that tells how far it is, which now stands there
 abbrev pub Looks : {S : Type 0} → (S → Option (List ℕ)) → Bool → Progress → Watch S → Watch S → Type 0
 Looks contents stood progress old new =
     ((new ≡ old) × (progress.stands ≡ stood))

@@ -1,6 +1,7 @@
 //! From the bytes of a journal of any length to whether it is legal.
 ghost use Rattle.std.specs.Prelude.{◌≡◌, ◌++◌, IfOk, false, option_map};
 ghost use Rattle.thp_streams.specs.Calls.{ReadsOn};
+ghost use Rattle.thp_streams.specs.declared.ending.Program.TheVariants.{Thpcheck};
 ghost use Rattle.thp_streams.specs.Outcomes.{device_of};
 ghost use Rattle.thp_streams.specs.Passages.{WritesAnswer};
 ghost use Rattle.thp_streams.specs.Verdicts.{verdict_text};
@@ -90,7 +91,7 @@ pub fn check_long<R: Read, W: Write, S: Write, C: Clock>(
     ensures reads { ReadsOn reader.new.failed reader.old.calls reader.new.calls }
     ensures writes { WritesAnswer (found_in result) writer.new.failed writer.old.calls writer.new.calls }
     ensures explanation { IfOk result (λ checked. option_map (λ t. t.items) checked.explanation ≡ explanation_of options checked.illegal) }
-    ensures screen { ShowsProgress (may_show options screen.old.is_terminal) (R.remaining reader.old.device) (device_of S.contents screen.old.writer screen.new.writer) }
+    ensures screen { ShowsProgress Thpcheck (may_show options.progress screen.old.is_terminal) (R.remaining reader.old.device) (device_of S.contents screen.old.writer screen.new.writer) }
 {
     let found = find(alloc, options, reader, screen)?;
     let explanation = explanation_of(alloc, options, &found.illegal)?;

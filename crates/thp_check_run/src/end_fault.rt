@@ -1,7 +1,7 @@
 //! What ends the program without what it was asked for.
 ghost use Rattle.std.specs.Prelude.{◌≡◌};
 ghost use Rattle.thp_streams.specs.declared.long_fault.LongRunFault.TheVariants.{OutOfMemory};
-ghost use Rattle.thp_check_run.specs.declared.end_fault.EndFault.TheVariants.{Check, Words};
+ghost use Rattle.thp_check_run.specs.declared.end_fault.EndFault.TheVariants.{Journal, Words};
 
 use std::alloc::AllocError;
 use thp_streams::{LongRunFault, ProgramFault};
@@ -9,17 +9,17 @@ use thp_streams::{LongRunFault, ProgramFault};
 /// Why the program didn't do what it was asked for.
 #[derive(Debug, Drop)]
 pub enum EndFault {
-    /// The check ended so.
-    Check(LongRunFault),
+    /// What was to be done with the journal ended so.
+    Journal(LongRunFault),
     /// The words of the command line were answered so, or can't be had.
     Words(ProgramFault),
 }
 
 impl From<LongRunFault> for EndFault {
-    ghost from_gives = { λ fault end. end ≡ Check fault };
+    ghost from_gives = { λ fault end. end ≡ Journal fault };
 
     fn from(fault: LongRunFault) -> EndFault {
-        EndFault::Check(fault)
+        EndFault::Journal(fault)
     }
 }
 
@@ -32,9 +32,9 @@ impl From<ProgramFault> for EndFault {
 }
 
 impl From<AllocError> for EndFault {
-    ghost from_gives = { λ _ end. end ≡ Check OutOfMemory };
+    ghost from_gives = { λ _ end. end ≡ Journal OutOfMemory };
 
     fn from(_error: AllocError) -> EndFault {
-        EndFault::Check(LongRunFault::OutOfMemory)
+        EndFault::Journal(LongRunFault::OutOfMemory)
     }
 }

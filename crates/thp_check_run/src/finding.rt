@@ -2,6 +2,7 @@
 ghost use Rattle.std.specs.Prelude.{◌≡◌, ℕ, List, IfOk, IfErr, IfSome, true, false};
 ghost use Rattle.thp_text.specs.Limits.{max_counted};
 ghost use Rattle.thp_streams.specs.Calls.{ReadsOn};
+ghost use Rattle.thp_streams.specs.declared.ending.Program.TheVariants.{Thpcheck};
 ghost use Rattle.thp_streams.specs.Devices.{IsFrontOf};
 ghost use Rattle.thp_streams.specs.Outcomes.{device_of};
 ghost use Rattle.thp_streams.specs.RunFaults.{seen_fault};
@@ -17,7 +18,7 @@ use std::time::Clock;
 use thp_check::Misfit;
 use thp_journal_reader::{Illegal, LongCheck, SummedCheck};
 use thp_model::{Outcome, Refusal, What};
-use thp_streams::{LongRunFault, Watched};
+use thp_streams::{LongRunFault, Program, Watched};
 use thp_totals::Totals;
 
 /// What a journal tells.
@@ -42,11 +43,12 @@ fn find_first<R: Read, S: Write, C: Clock>(
     ensures flag { IfOk result (λ _. reader.new.failed ≡ false) }
     ensures fault { IfErr result (λ fault. IsFindFault (R.remaining reader.old.device) reader.new.failed (seen_fault fault)) }
     ensures calls { ReadsOn reader.new.failed reader.old.calls reader.new.calls }
-    ensures screen { ShowsProgress (may_show options screen.old.is_terminal) (R.remaining reader.old.device) (device_of S.contents screen.old.writer screen.new.writer) }
+    ensures screen { ShowsProgress Thpcheck (may_show options.progress screen.old.is_terminal) (R.remaining reader.old.device) (device_of S.contents screen.old.writer screen.new.writer) }
 {
     // the toolchain finds these types, which stand in illegal events, only in functions that name them
     let _in_illegal = (What::Close, Outcome::Stays, Refusal::NoPage, Misfit::Block);
-    let check = read_journal(alloc, options, LongCheck::new(alloc), reader, screen)?;
+    let check = LongCheck::new(alloc);
+    let check = read_journal(alloc, Program::Thpcheck, options.progress, check, reader, screen)?;
     let illegal = check.finish()?;
     Ok(Found {
         illegal,
@@ -67,11 +69,12 @@ fn sum_up<R: Read, S: Write, C: Clock>(
     ensures flag { IfOk result (λ _. reader.new.failed ≡ false) }
     ensures fault { IfErr result (λ fault. IsFindFault (R.remaining reader.old.device) reader.new.failed (seen_fault fault)) }
     ensures calls { ReadsOn reader.new.failed reader.old.calls reader.new.calls }
-    ensures screen { ShowsProgress (may_show options screen.old.is_terminal) (R.remaining reader.old.device) (device_of S.contents screen.old.writer screen.new.writer) }
+    ensures screen { ShowsProgress Thpcheck (may_show options.progress screen.old.is_terminal) (R.remaining reader.old.device) (device_of S.contents screen.old.writer screen.new.writer) }
 {
     // as above
     let _in_illegal = (What::Close, Outcome::Stays, Refusal::NoPage, Misfit::Block);
-    let check = read_journal(alloc, options, SummedCheck::new(alloc), reader, screen)?;
+    let check = SummedCheck::new(alloc);
+    let check = read_journal(alloc, Program::Thpcheck, options.progress, check, reader, screen)?;
     let summed = check.finish()?;
     Ok(Found {
         illegal: summed.illegal,
@@ -92,7 +95,7 @@ pub(crate) fn find<R: Read, S: Write, C: Clock>(
     ensures flag { IfOk result (λ _. reader.new.failed ≡ false) }
     ensures fault { IfErr result (λ fault. IsFindFault (R.remaining reader.old.device) reader.new.failed (seen_fault fault)) }
     ensures calls { ReadsOn reader.new.failed reader.old.calls reader.new.calls }
-    ensures screen { ShowsProgress (may_show options screen.old.is_terminal) (R.remaining reader.old.device) (device_of S.contents screen.old.writer screen.new.writer) }
+    ensures screen { ShowsProgress Thpcheck (may_show options.progress screen.old.is_terminal) (R.remaining reader.old.device) (device_of S.contents screen.old.writer screen.new.writer) }
 {
     if options.summary {
         sum_up(alloc, options, reader, screen)

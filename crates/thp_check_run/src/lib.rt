@@ -17,5 +17,6 @@ pub use checking::{Checked, check_long};
 pub use end_fault::EndFault;
 pub use options::{CheckOptions, read_words};
 pub use program::run_check_program;
+pub use reading::read_journal;
 pub use screen::Screen;
 pub use thp_streams::{LongRunFault, Watched, WordsFault, words_of};

@@ -1,8 +1,10 @@
 //! The program: from the words of its command line to its exit status.
 ghost use Rattle.std.specs.Prelude.{◌≡◌, false, option_map};
+ghost use Rattle.thp_streams.specs.declared.ending.Program.TheVariants.{Thpcheck};
 ghost use Rattle.thp_streams.specs.Outcomes.{device_of, given_words, source_of};
 ghost use Rattle.thp_check_run.specs.Outcomes.{end_of, ending_of, explained_by, Does, Finishes, Served, TakesExplanation};
-ghost use Rattle.thp_check_run.specs.Progress.{may_show, ShowsAsAsked, ShowsProgress};
+ghost use Rattle.thp_check_run.specs.Asking.{ShowsAsAsked};
+ghost use Rattle.thp_check_run.specs.Progress.{may_show, ShowsProgress};
 
 use crate::checking::check_long;
 use crate::end_fault::EndFault;
@@ -47,14 +49,14 @@ fn check<R: Read, W: Write, S: Write, C: Clock>(
     requires output { output.old.failed ≡ false }
     requires screen { screen.old.writer.failed ≡ false }
     ensures does { Does options (source_of R.remaining reader.old reader.new) (device_of W.contents output.old output.new) (end_of result) (explained_by result) }
-    ensures screen { ShowsProgress (may_show options screen.old.is_terminal) (R.remaining reader.old.device) (device_of S.contents screen.old.writer screen.new.writer) }
+    ensures screen { ShowsProgress Thpcheck (may_show options.progress screen.old.is_terminal) (R.remaining reader.old.device) (device_of S.contents screen.old.writer screen.new.writer) }
 {
     match check_long(alloc, options, reader, output, screen) {
         Ok(checked) => Ok(Done {
             ending: ending_of(&checked.illegal),
             explanation: checked.explanation,
         }),
-        Err(fault) => Err(EndFault::Check(fault)),
+        Err(fault) => Err(EndFault::Journal(fault)),
     }
 }
 
@@ -75,10 +77,10 @@ fn serve<R: Read, W: Write, S: Write, C: Clock>(
     let words = match words {
         Ok(words) => words,
         Err(WordsFault::NotText) => return Err(EndFault::Words(ProgramFault::NoText)),
-        Err(WordsFault::OutOfMemory) => return Err(EndFault::Check(LongRunFault::OutOfMemory)),
+        Err(WordsFault::OutOfMemory) => return Err(EndFault::Journal(LongRunFault::OutOfMemory)),
     };
     let Ok(texts) = texts_of(alloc, words.as_slice()) else {
-        return Err(EndFault::Check(LongRunFault::OutOfMemory));
+        return Err(EndFault::Journal(LongRunFault::OutOfMemory));
     };
     match read_words(alloc, texts.as_slice()) {
         Ok(options) => check(alloc, options, reader, output, screen),
@@ -131,7 +133,7 @@ pub fn run_check_program<R: Read, W: Write, E: Write, S: Write, C: Clock>(
             explain(done.explanation, errors);
             status_of_ending(done.ending)
         }
-        Err(EndFault::Check(fault)) => tell_run(alloc, Program::Thpcheck, fault, errors),
+        Err(EndFault::Journal(fault)) => tell_run(alloc, Program::Thpcheck, fault, errors),
         Err(EndFault::Words(fault)) => tell(alloc, Program::Thpcheck, fault, errors),
     }
 }

@@ -1,4 +1,4 @@
-//! How far the check of a journal is, and the lines that show it.
+//! How far the reading of a journal is, and the lines that show it.
 ghost use Rattle.std.specs.Prelude.{◌≡◌, ◌≤◌, ◌+◌, ◌*◌, ◌/◌, ◌-◌, ◌^◌, ◌++◌, [], IfOk, List, OnOk, ℕ, length, min, max, false};
 ghost use Rattle.std.specs.Duration.{as_nanos};
 ghost use Rattle.thp_check_run.specs.Progress.{mebibytes, progress_line, removal};
@@ -10,7 +10,7 @@ use std::alloc::{AllocError, Global};
 use std::io::Write;
 use std::time::{Clock, Duration};
 use thp_journal_writer::{put, put_number};
-use thp_streams::tell_text;
+use thp_streams::{Program, name_front, tell_text};
 
 /// How many bytes a mebibyte has.
 const MEBIBYTE: u64 = 1_048_576;
@@ -40,14 +40,20 @@ fn removal() -> &'static [u8]
     b"\r\x1b[K"
 }
 
-/// A line of progress, in the place of the one that stands there.
+/// A line of progress of a program, in the place of the one that stands there.
 #[tactic(auto, unfolding(crate::specs::Progress::progress_line))]
-fn line_of(alloc: Global, bytes: u64, events: u64, rate: u64) -> Result<Vec<u8>, AllocError>
-    ensures { IfOk result (λ text. text.items ≡ progress_line (record { bytes = bytes; events = events; rate = rate })) }
+fn line_of(
+    alloc: Global,
+    program: Program,
+    bytes: u64,
+    events: u64,
+    rate: u64,
+) -> Result<Vec<u8>, AllocError>
+    ensures { IfOk result (λ text. text.items ≡ progress_line program (record { bytes = bytes; events = events; rate = rate })) }
 {
     let mut text = Vec::new(alloc);
     put(&mut text, removal())?;
-    put(&mut text, b"thpcheck: ")?;
+    put(&mut text, name_front(program))?;
     put_mebibytes(&mut text, bytes)?;
     put(&mut text, b", ")?;
     put_number(&mut text, events, b' ')?;
@@ -57,9 +63,11 @@ fn line_of(alloc: Global, bytes: u64, events: u64, rate: u64) -> Result<Vec<u8>,
     Ok(text)
 }
 
-/// How far the check of a journal is, and what of that stands on a screen.
+/// How far the reading of a journal is, and what of that stands on a screen.
 #[derive(Drop)]
 pub(crate) struct Progress {
+    // whose lines are shown
+    program: Program,
     // how many bytes have come
     bytes: u64,
     counted: Counted,
@@ -70,11 +78,13 @@ pub(crate) struct Progress {
 
 impl Progress {
     /// Nothing has come. The first line is due at once, or as the others are.
-    pub(crate) fn begin<C: Clock>(clock: &C, at_once: bool) -> Progress
+    pub(crate) fn begin<C: Clock>(clock: &C, program: Program, at_once: bool) -> Progress
+        ensures program { result.program ≡ program }
         ensures counted { HasCounted result [] }
         ensures stands { result.stands ≡ false }
     {
         Progress {
+            program,
             bytes: 0,
             counted: Counted::nothing(),
             pace: Pace::begin(clock, at_once),
@@ -88,13 +98,15 @@ impl Progress {
         requires counted { self.old.counted.events ≤ self.old.bytes }
         ensures counted { (text : List ℕ) → HasCounted self.old text → HasCounted self.new (text ++ bytes.now) }
         ensures stands { self.new.stands ≡ self.old.stands }
+        ensures program { self.new.program ≡ self.old.program }
     {
         self.bytes += bytes.len() as u64;
         self.counted = self.counted.with(bytes);
     }
 
-    /// Shows how far the check is, where a line is due and the screen hasn't failed.
+    /// Shows how far it is, where a line is due and the screen hasn't failed.
     fn show<S: Write, C: Clock>(&mut self, alloc: Global, screen: &mut Screen<S, C>)
+        ensures program { self.new.program ≡ self.old.program }
         ensures bytes { self.new.bytes ≡ self.old.bytes }
         ensures counted { self.new.counted ≡ self.old.counted }
         ensures shown { Looks S.contents self.old.stands self.new screen.old.writer screen.new.writer }
@@ -106,7 +118,7 @@ impl Progress {
             return;
         };
         let rate = rate(self.bytes, time);
-        let Ok(line) = line_of(alloc, self.bytes, self.counted.events, rate) else {
+        let Ok(line) = line_of(alloc, self.program, self.bytes, self.counted.events, rate) else {
             return;
         };
         self.stands = true;
@@ -122,6 +134,7 @@ impl Progress {
     )
         requires room { self.old.bytes + length bytes.now ≤ u64.MAX }
         requires counted { self.old.counted.events ≤ self.old.bytes }
+        ensures program { self.new.program ≡ self.old.program }
         ensures counted { (text : List ℕ) → HasCounted self.old text → HasCounted self.new (text ++ bytes.now) }
         ensures shown { Looks S.contents self.old.stands self.new screen.old.writer screen.new.writer }
     {

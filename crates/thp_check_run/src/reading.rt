@@ -1,4 +1,4 @@
-//! All of a journal, part by part, and how far its check is.
+//! All of a journal, part by part, and how far that is.
 ghost use Rattle.std.specs.Prelude.{◌≡◌, [], ℕ, List, IfErr, IfOk, IfSome, false};
 ghost use Rattle.thp_streams.specs.Calls.{ReadsOn};
 ghost use Rattle.thp_streams.specs.Devices.{IsFrontOf};
@@ -8,13 +8,12 @@ ghost use Rattle.thp_text.specs.Limits.{max_counted};
 ghost use Rattle.thp_check_run.specs.Progress.{may_show, ShowsLines, ShowsProgress};
 ghost use Rattle.thp_check_run.specs.Reaching.{HasCounted, HasShown, IsReadOf};
 
-use crate::options::CheckOptions;
 use crate::progress::Progress;
 use crate::screen::Screen;
 use std::alloc::Global;
 use std::io::{Read, Write};
 use std::time::Clock;
-use thp_streams::{ReadsParts, RunFault, Watched, read_parts};
+use thp_streams::{Program, ReadsParts, RunFault, Watched, read_parts};
 use thp_text::MAX_COUNTED;
 
 /// How many bytes one read may give.
@@ -36,7 +35,7 @@ fn read_on<R: Read, P: ReadsParts + Drop, S: Write, C: Clock>(
     ensures flag { IfOk result (λ _. reader.new.failed ≡ false) }
     ensures fault { IfErr result (IsReadingFault reader.new.failed) }
     ensures calls { ReadsOn reader.new.failed reader.old.calls reader.new.calls }
-    ensures shown { (bytes : List ℕ) × IsReadOf (R.remaining reader.old.device) bytes × HasShown bytes progress.new.stands (device_of S.contents screen.old.writer screen.new.writer) }
+    ensures shown { (bytes : List ℕ) × IsReadOf (R.remaining reader.old.device) bytes × HasShown progress.old.program bytes progress.new.stands (device_of S.contents screen.old.writer screen.new.writer) }
 {
     let mut text = first;
     let mut part = [0u8; PART];
@@ -60,6 +59,7 @@ fn read_on<R: Read, P: ReadsParts + Drop, S: Write, C: Clock>(
 /// Reads all of a reader's bytes, part by part, and shows after each how far that is; what is shown is then taken away.
 fn read_shown<R: Read, P: ReadsParts + Drop, S: Write, C: Clock>(
     alloc: Global,
+    program: Program,
     at_once: bool,
     first: P,
     reader: &mut Watched<R>,
@@ -71,25 +71,27 @@ fn read_shown<R: Read, P: ReadsParts + Drop, S: Write, C: Clock>(
     ensures flag { IfOk result (λ _. reader.new.failed ≡ false) }
     ensures fault { IfErr result (IsReadingFault reader.new.failed) }
     ensures calls { ReadsOn reader.new.failed reader.old.calls reader.new.calls }
-    ensures shown { ShowsLines (R.remaining reader.old.device) (device_of S.contents screen.old.writer screen.new.writer) }
+    ensures shown { ShowsLines program (R.remaining reader.old.device) (device_of S.contents screen.old.writer screen.new.writer) }
 {
-    let mut progress = Progress::begin(&screen.clock, at_once);
+    let mut progress = Progress::begin(&screen.clock, program, at_once);
     let read = read_on(alloc, first, reader, &mut progress, screen);
     progress.end(screen);
     read
 }
 
 /// Whether it may be shown how far the check is.
-fn may_show(options: CheckOptions, is_terminal: bool) -> bool
-    ensures { result ≡ may_show options is_terminal }
+fn may_show(asked: bool, is_terminal: bool) -> bool
+    ensures { result ≡ may_show asked is_terminal }
 {
-    options.progress || is_terminal
+    asked || is_terminal
 }
 
-/// Reads all of a reader's bytes, part by part. How far that is is shown where it may be.
-pub(crate) fn read_journal<R: Read, P: ReadsParts + Drop, S: Write, C: Clock>(
+/// Reads all of a reader's bytes, part by part. How far that is is shown in lines of the program, where that is asked for or the
+/// screen is a terminal; what is shown is then taken away.
+pub fn read_journal<R: Read, P: ReadsParts + Drop, S: Write, C: Clock>(
     alloc: Global,
-    options: CheckOptions,
+    program: Program,
+    asked: bool,
     first: P,
     reader: &mut Watched<R>,
     screen: &mut Screen<S, C>,
@@ -100,10 +102,10 @@ pub(crate) fn read_journal<R: Read, P: ReadsParts + Drop, S: Write, C: Clock>(
     ensures flag { IfOk result (λ _. reader.new.failed ≡ false) }
     ensures fault { IfErr result (IsReadingFault reader.new.failed) }
     ensures calls { ReadsOn reader.new.failed reader.old.calls reader.new.calls }
-    ensures shown { ShowsProgress (may_show options screen.old.is_terminal) (R.remaining reader.old.device) (device_of S.contents screen.old.writer screen.new.writer) }
+    ensures shown { ShowsProgress program (may_show asked screen.old.is_terminal) (R.remaining reader.old.device) (device_of S.contents screen.old.writer screen.new.writer) }
 {
-    if may_show(options, screen.is_terminal) {
-        read_shown(alloc, options.progress, first, reader, screen)
+    if may_show(asked, screen.is_terminal) {
+        read_shown(alloc, program, asked, first, reader, screen)
     } else {
         read_parts(first, MAX_COUNTED, reader)
     }

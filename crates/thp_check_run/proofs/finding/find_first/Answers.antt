@@ -15,7 +15,7 @@ returns-in_err-illegal-clause-fault g c =
     let fault = c.in_err-illegal.field-0.0 in
     err_at_text (g.R.Read.remaining c.args.reader.now.device) read.0 read.1 c.read_journal.new.reader.failed c.in_ok-check.ensures.flag fault.line fault.kind
     c.from_residual-in_err-illegal.result c.from_residual-in_err-illegal.ensures.1
-    (sym (read.2 [] ∙ c.new.ensures (read.0 ++ []) ∙ ap (journals_within max_counted) (append-nil read.0)) ∙ c.in_err-illegal.ensures.fault)
+    (sym (read.2 [] ∙ c.new-check.ensures (read.0 ++ []) ∙ ap (journals_within max_counted) (append-nil read.0)) ∙ c.in_err-illegal.ensures.fault)
 
 pub returns-clause-found : goal.returns-clause-found
 returns-clause-found g c =
@@ -25,8 +25,8 @@ returns-clause-found g c =
       read.1,
       record {
         journals = first.0;
-        spelled = sym (read.2 [] ∙ c.new.ensures (read.0 ++ []) ∙ ap (journals_within max_counted) (append-nil read.0)) ∙ first.1;
+        spelled = sym (read.2 [] ∙ c.new-check.ensures (read.0 ++ []) ∙ ap (journals_within max_counted) (append-nil read.0)) ∙ first.1;
         first = first.2;
-        totals_are = c.new-2.ensures.items;
+        totals_are = c.new.ensures.items;
       },
     )

@@ -19,7 +19,7 @@ returns-in_err-summed-clause-fault g c =
     let P : Result Journals Fault → Type 0 = λ told. TellsSummaryFault told fault in
     err_at_summary (g.R.Read.remaining c.args.reader.now.device) read.0 read.1 c.read_journal.new.reader.failed c.in_ok-check.ensures.flag fault
     c.from_residual-in_err-summed.result c.from_residual-in_err-summed.ensures.1
-    (subst P (read.2 [] ∙ c.new.ensures (read.0 ++ []) ∙ ap (journals_within max_counted) (append-nil read.0)) c.in_err-summed.ensures.fault)
+    (subst P (read.2 [] ∙ c.new-check.ensures (read.0 ++ []) ∙ ap (journals_within max_counted) (append-nil read.0)) c.in_err-summed.ensures.fault)
 
 pub returns-clause-found : goal.returns-clause-found
 returns-clause-found g c =
@@ -29,7 +29,7 @@ returns-clause-found g c =
       read.1,
       record {
         journals = summed.0;
-        spelled = sym (read.2 [] ∙ c.new.ensures (read.0 ++ []) ∙ ap (journals_within max_counted) (append-nil read.0)) ∙ summed.1;
+        spelled = sym (read.2 [] ∙ c.new-check.ensures (read.0 ++ []) ∙ ap (journals_within max_counted) (append-nil read.0)) ∙ summed.1;
         first = summed.2.first;
         totals_are = summed.2.totals;
       },

@@ -14,14 +14,14 @@ returns-in-Ok-clause-finishes g c = record {
   told = (c.explain.ensures, c.status_of_ending.ensures);
 }
 
-pub returns-in-Err-Check-clause-finishes : goal.returns-in-Err-Check-clause-finishes
-returns-in-Err-Check-clause-finishes g c =
+pub returns-in-Err-Journal-clause-finishes : goal.returns-in-Err-Journal-clause-finishes
+returns-in-Err-Journal-clause-finishes g c =
     let told = c.tell_run.ensures in
     record {
       end = Err (Run told.0);
       explanation = None;
       served = told_served (source_of g.R.Read.remaining c.args.reader.now c.serve.new.reader) (device_of g.W.Write.contents c.args.output.now c.serve.new.output)
-          (given_words c.args.words) (seen_fault c.in-Err-Check.fault) told.0 None (rw c.in-Err-Check.field-0-is at c.in-Err-Check.ensures.served) told.1;
+          (given_words c.args.words) (seen_fault c.in-Err-Journal.fault) told.0 None (rw c.in-Err-Journal.field-0-is at c.in-Err-Journal.ensures.served) told.1;
       told = (told.2, told.3);
     }
 

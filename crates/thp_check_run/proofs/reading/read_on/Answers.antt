@@ -16,8 +16,9 @@ loop-count-init g c = record {
     omega arith,
     g.met.P.ReadsParts.nothing_read c.args.first,
     c.requires.nothing,
-    shown_none g.S.Write.contents c.args.screen.now.writer c.args.progress.now.stands c.requires.screen c.requires.empty,
+    shown_none g.S.Write.contents c.args.screen.now.writer c.args.progress.now.program c.args.progress.now.stands c.requires.screen c.requires.empty,
   );
+  program = refl;
   flag = c.requires.reader;
   calls = follow_none (call.Read true) c.args.reader.now.calls;
 }
@@ -36,8 +37,9 @@ loop-count-preserved g c =
         omega (arith, length-append t.0 piece, length-take-le c.in-Some.count c.read.new.buf read.0, t.2, c.if-count-left.false),
         g.met.P.ReadsParts.more_read c.args.first c.loop-count.text c.in_ok-text.text t.0 piece t.3 c.in_ok-text.ensures.read,
         counted,
-        shown_more g.S.Write.contents c.args.screen.now.writer c.look.new.self t.0 piece c.loop-count.progress.stands c.loop-count.screen.writer c.look.new.screen.writer t.5 counted c.look.ensures.shown,
+        shown_more g.S.Write.contents c.args.screen.now.writer c.args.progress.now.program c.look.new.self (c.look.ensures.program ∙ c.loop-count.invariant.program) t.0 piece c.loop-count.progress.stands c.loop-count.screen.writer c.look.new.screen.writer t.5 counted c.look.ensures.shown,
       );
+      program = c.look.ensures.program ∙ c.loop-count.invariant.program;
       flag = (rw c.in-Some.is at c.read.ensures.flag_stays) ∙ c.loop-count.invariant.flag;
       calls = follow_more (call.Read true) c.args.reader.now.calls c.loop-count.reader.calls c.read.new.self.calls c.loop-count.invariant.calls (rw c.in-Some.is at c.read.ensures.calls);
     }

@@ -16,7 +16,8 @@ invariant-loop-count g l =
     let remaining = g.R.Read.remaining in
     record {
       taken : (bytes : List ℕ) × Consumes (remaining l.fn.reader.device) (remaining l.reader.device) bytes × (length bytes + l.left ≡ max_counted) × g.P.ReadsParts.has_read l.fn.first bytes l.text
-          × HasCounted l.progress bytes × HasShown bytes l.progress.stands (device_of g.S.Write.contents l.fn.screen.writer l.screen.writer);
+          × HasCounted l.progress bytes × HasShown l.fn.progress.program bytes l.progress.stands (device_of g.S.Write.contents l.fn.screen.writer l.screen.writer);
+      program : l.progress.program ≡ l.fn.progress.program;
       flag : l.reader.failed ≡ false;
       calls : Follow (call.Read true) [] l.fn.reader.calls l.reader.calls;
     }

@@ -1,0 +1,6 @@
+# fish completion for thpdraw
+complete -c thpdraw -f
+complete -c thpdraw -s h -l help -d 'Show the help'
+complete -c thpdraw -s V -l version -d 'Show the version'
+complete -c thpdraw -l table -d 'Write the numbers as a table in place of the picture'
+complete -c thpdraw -l progress -d 'Show on standard error how far the reading is'

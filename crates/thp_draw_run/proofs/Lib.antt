@@ -1,0 +1,4 @@
+mod CommandLineLaws
+mod NodeLaws
+mod DrawLaws
+mod OutcomeLaws

@@ -1,0 +1,36 @@
+-- What is drawn of the nodes that a journal tells.
+use Rattle.std.specs.Prelude.{◌≡◌, ⊤, List, [], ◌∷◌, Option, None, Some, slice_get}
+use Rattle.thp_drawing.specs.Drawn.{AreColumnsOf}
+use Rattle.thp_drawing.specs.declared.illegal_event.IllegalEvent.{IllegalEvent}
+use Rattle.thp_drawing.specs.declared.node.DrawnNode.{DrawnNode}
+use Rattle.thp_journal_reader.specs.declared.journals.NodeJournal.{NodeJournal}
+use Rattle.thp_journal_reader.specs.Answers.{IsFirstIllegal, IsLegalNode}
+use Rattle.thp_journal_reader.specs.Summaries.{IsLegalFront}
+use Rattle.thp_model.specs.History.{History}
+use Rattle.thp_series.specs.Series.{numbers_at, series}
+
+-- it is the node's first illegal event, on the line that tells it
+pub record IsOwnIllegal (node : NodeJournal) (illegal : IllegalEvent) : Type 0 where
+  pub first : IsFirstIllegal node illegal.line
+  pub event_is : slice_get node.events first.place ≡ Some illegal.event
+
+-- none where all events of the node are legal, else the first of them that isn't
+abbrev pub TellsOwn : NodeJournal → Option IllegalEvent → Type 0
+TellsOwn node None = IsLegalNode node
+TellsOwn node (Some illegal) = IsOwnIllegal node illegal
+
+-- it is drawn of the node: its numbers over its legal events, all or those before its first illegal one, which it tells
+pub record IsDrawnOf (node : NodeJournal) (drawn : DrawnNode) : Type 0 where
+  pub front : History
+  pub legal : IsLegalFront node front
+  pub shape_is : drawn.shape ≡ node.shape
+  pub columns_are : AreColumnsOf (series node.shape front) drawn
+  pub last_is : drawn.last ≡ numbers_at node.shape front
+  pub illegal_is : TellsOwn node drawn.illegal
+
+-- they are drawn of these nodes, in order
+abbrev pub AreDrawnOf : List NodeJournal → List DrawnNode → Type 0
+AreDrawnOf [] [] = ⊤
+AreDrawnOf [] (drawn ∷ more) = ⊥
+AreDrawnOf (node ∷ nodes) [] = ⊥
+AreDrawnOf (node ∷ nodes) (drawn ∷ more) = IsDrawnOf node drawn × AreDrawnOf nodes more

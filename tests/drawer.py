@@ -1,0 +1,197 @@
+"""The built program `thpdraw` from outside: each exit status, with each stream's exact bytes.
+
+    tests/drawer.py PROGRAM
+
+Tables are those that tests/tables.py makes by a plain reading of the model. Of pictures it is looked at that they are well-formed, of
+elements and letters that are known, and name each illegal event.
+"""
+
+from __future__ import annotations
+
+import os
+import re
+import sys
+import tempfile
+from dataclasses import dataclass
+from pathlib import Path
+from typing import Iterator, Optional
+from xml.etree import ElementTree
+
+import faulty_texts
+import usage
+from checker import BEHIND, LONG, SEVERAL
+from outside import FEW_BYTES, FIRST, FIRST_JOURNAL, ILLEGAL, LEGAL, LOST, ROOT, STORED, Row, told
+from process import Call, Ended, Sink, Source, run
+from progress import ASKED, Shown, line, lines
+from tables import drawn_nodes, table
+from tally import Tally
+
+HELP = (STORED / "drawer_help.txt").read_bytes()
+VERSION = (STORED / "drawer_version.txt").read_bytes()
+READ_FAILED = Ended(3, b"", b"thpdraw: read failed\n")
+WRITE_FAILED = Ended(3, b"", b"thpdraw: write failed\n")
+NO_MEMORY = Ended(3, b"", b"thpdraw: out of memory\n")
+TABLE = ("--table",)
+FLAGS = ("--table", "--progress")
+NAME = b"thpdraw"
+
+
+def fault(line: int, word: str) -> Ended:
+    """A text at fault."""
+    return Ended(2, b"", f"thpdraw: line {line}: {word}\n".encode())
+
+
+def drawn() -> Iterator[Row]:
+    """Tables of legal and illegal journals: of those in examples/, of several nodes, and of single illegal events."""
+    for path in sorted((ROOT / "examples").glob("*.journal")):
+        text = path.read_bytes()
+        for source in (Source.FILE, Source.PIPE):
+            yield Row("tables", f"{path.name}, {source.name.lower()}", Call(TABLE, text, source), table(text))
+    for name, text in {"the first script's": FIRST_JOURNAL, "several nodes": SEVERAL}.items():
+        yield Row("tables", name, Call(TABLE, text), table(text))
+    for text, _ in faulty_texts.ILLEGAL:
+        yield Row("tables", repr(text[-60:]), Call(TABLE, text + b"end\n"), table(text + b"end\n"))
+    yield Row("tables", "more than 16 MiB, illegal behind that", Call(TABLE, LONG + b"fly\n"), fault(BEHIND, "bad-word"))
+
+
+SVG = "{http://www.w3.org/2000/svg}"
+ELEMENTS = {f"{SVG}{name}" for name in ("svg", "style", "g", "rect", "path", "text", "title")}
+"""The elements of pictures: nothing that runs, loads or links."""
+
+WIDE = 7200
+"""How wide a picture is, in its own units."""
+
+
+def shortened(event: str) -> str:
+    """An event as a picture says it: of one that is longer than 80 letters the front."""
+    return event if len(event) <= 80 else f"{event[:77]} .."
+
+
+@dataclass(frozen=True)
+class Picture:
+    """A journal, whose picture is looked at."""
+
+    name: str
+    text: bytes
+    source: Source = Source.FILE
+    group: str = "pictures"
+
+    def wrong(self, program: Path) -> Optional[str]:
+        """What is wrong with the picture that the program draws, or with its end; or None."""
+        ended = run(program, Call((), self.text, self.source))
+        told = Ended(ended.status, b"", ended.errors).differs_from(Ended(table(self.text).status))
+        return told or self.wrong_with(ended.output)
+
+    def wrong_with(self, output: bytes) -> Optional[str]:
+        """What is wrong with this picture, or None."""
+        if re.fullmatch(rb"[\n\x20-\x7e]+\n", output) is None:
+            return "it has other bytes than letters and line feeds"
+        try:
+            root = ElementTree.fromstring(output)
+        except ElementTree.ParseError as error:
+            return f"it isn't well-formed: {error}"
+        other = {it.tag for it in root.iter()} - ELEMENTS
+        if other:
+            return f"it has {', '.join(sorted(other))}"
+        left, top, wide, _ = map(int, root.get("viewBox", "0 0 0 0").split())
+        if (root.tag, left, top, wide) != (f"{SVG}svg", 0, 0, WIDE):
+            return f"it begins with {root.tag} and {root.get('viewBox')}"
+        texts = " ".join(it.text or "" for it in root.iter(f"{SVG}text"))
+        illegal = [drawn.illegal for drawn in drawn_nodes(self.text.decode().split("\n")[:-1])]
+        wanted = [f"illegal line {line}: {shortened(event)}" for line, event in illegal if line != "-"]
+        lacks = [words for words in wanted if words not in texts]
+        return f"it doesn't say {lacks[0]}" if lacks else None
+
+
+def pictures() -> Iterator[Picture]:
+    """Pictures of the same journals as tables."""
+    for path in sorted((ROOT / "examples").glob("*.journal")):
+        for source in (Source.FILE, Source.PIPE):
+            yield Picture(f"{path.name}, {source.name.lower()}", path.read_bytes(), source)
+    for name, text in {"the first script's": FIRST_JOURNAL, "several nodes": SEVERAL, "long": LONG + b"end\n"}.items():
+        yield Picture(name, text)
+    for text, _ in faulty_texts.ILLEGAL:
+        yield Picture(repr(text[-60:]), text + b"end\n")
+
+
+def faults() -> Iterator[Row]:
+    """Each fault of a journal, also behind an illegal event: nothing is written. And a script is no journal."""
+    for words in ((), TABLE):
+        for text, number, word in faulty_texts.JOURNALS:
+            yield Row("faults", repr(text[-60:]), Call(words, text), fault(number, word))
+        yield Row("faults", "a script", Call(words, FIRST), fault(1, "bad-word"))
+    for text, _ in faulty_texts.ILLEGAL:
+        count = text.count(b"\n") + 1
+        yield Row("faults", f"illegal, then a fault: {text[-60:]!r}", Call(TABLE, text + b"fly\n"), fault(count, "bad-word"))
+        yield Row("faults", f"illegal, then cut: {text[-60:]!r}", Call(TABLE, text), fault(count, "cut"))
+    yield Row("faults", "a line without an end", Call(TABLE, source=Source.ENDLESS, memory=FEW_BYTES), NO_MEMORY)
+
+
+def requests() -> Iterator[Row]:
+    """Help, version, and words at fault: no input is read."""
+    for word, output in {"--help": HELP, "-h": HELP, "--version": VERSION, "-V": VERSION}.items():
+        yield Row("words", word, Call((word,), b"fly\n", untouched=True), Ended(0, output))
+        yield Row("words", f"{word}, /dev/full", Call((word,), output=Sink.FULL), WRITE_FAILED)
+    for word in ("zzz", "--zzz", "-z", "--summary", "--nodes", "my.journal", "\u00e9", ""):
+        yield at_fault((word,), f"unexpected argument '{word}' found")
+    for flag in FLAGS:
+        yield at_fault((flag, flag), f"the argument '{flag}' cannot be used multiple times")
+        yield at_fault((f"{flag}=1",), f"unexpected value '1' for '{flag}' found; no more were expected", flag)
+        yield at_fault((flag, "x"), "unexpected argument 'x' found")
+    yield Row("words", "a word that isn't UTF-8", Call((b"\xff",), b"fly\n", untouched=True), told(usage.NOT_TEXT))
+
+
+def at_fault(words: tuple[str, ...], what: str, named: str = "[OPTIONS]") -> Row:
+    """Words that the command doesn't take, and what `clap` says of them."""
+    text = f"error: {what}\n\nUsage: thpdraw {named}{usage.TRY}".encode()
+    return Row("words", " ".join(words) or repr(""), Call(words, b"fly\n", untouched=True), told(text))
+
+
+def failures() -> Iterator[Row]:
+    """Streams that fail."""
+    for source in (Source.FOLDER, Source.CLOSED):
+        yield Row("streams", f"input {source.name.lower()}", Call(TABLE, source=source), READ_FAILED)
+    for sink in LOST:
+        name = sink.name.lower()
+        for words in ((), TABLE):
+            yield Row("streams", f"legal, standard output {name}", Call(words, LEGAL, output=sink), WRITE_FAILED)
+            yield Row("streams", f"illegal, standard output {name}", Call(words, ILLEGAL, output=sink), WRITE_FAILED)
+        yield Row("streams", f"illegal, standard error {name}", Call(TABLE, ILLEGAL, errors=sink), table(ILLEGAL))
+        yield Row("streams", f"a fault, standard error {name}", Call(TABLE, b"fly\n", errors=sink), Ended(2))
+
+
+def shown() -> Iterator[Shown]:
+    """How far it is, on standard error."""
+    words = (*ASKED, *TABLE)
+    for text in (LEGAL, ILLEGAL):
+        wanted = table(text)
+        for source in (Source.FILE, Source.PIPE):
+            name = f"status {wanted.status}, {source.name.lower()}"
+            yield Shown(name, Call(words, text, source), wanted.status, wanted.output, lines(text, program=NAME))
+    behind = b"thpdraw: line 1: bad-word\n"
+    yield Shown("a fault behind it", Call(ASKED, b"fly\n"), 2, b"", lines(b"fly\n", behind=behind, program=NAME))
+    yield Shown("no input", Call(ASKED, source=Source.CLOSED), 3, b"", lines(behind=READ_FAILED.errors, program=NAME))
+    full = lines(LEGAL, behind=WRITE_FAILED.errors, program=NAME)
+    yield Shown("standard output full", Call(words, LEGAL, output=Sink.FULL), 3, b"", full)
+
+
+def main() -> None:
+    """Tests the program of the command line."""
+    program = Path(sys.argv[-1])
+    if len(sys.argv) < 2 or not os.access(program, os.X_OK) or program.is_dir():
+        sys.exit(f"{program} is no program\n\n{__doc__}")
+    tally = Tally(is_brief=True)
+    with tempfile.TemporaryDirectory() as name:
+        # its name is what it is called by, whatever its file's is
+        path = Path(name) / "thpdraw"
+        path.symlink_to(program.resolve())
+        for part in (drawn, pictures, faults, requests, failures, shown):
+            rows, failed = list(part()), tally.failed
+            for row in rows:
+                tally.run(f"{row.group}: {row.name}", lambda row=row: row.wrong(path))
+            print(f"{rows[0].group}: {len(rows) - tally.failed + failed} of {len(rows)} calls", flush=True)
+    tally.end()
+
+
+if __name__ == "__main__":
+    main()

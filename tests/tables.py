@@ -1,0 +1,248 @@
+#!/usr/bin/env python3
+"""Compares the tables that `thpdraw --table` writes of random journals with those of a plain reading of the model.
+
+    tests/tables.py PROGRAM [--cases N] [--seed S]
+
+A table is made here from the definitions of docs/MODEL.md and docs/FORMATS.md (tables): the numbers of a node behind each of its
+events, by model.py, then joined into columns. Journals have up to eight nodes and up to 3,000 events of one, so that columns are
+up to eight prefixes wide; some have illegal events on some nodes, some a fault.
+"""
+
+from __future__ import annotations
+
+import argparse
+import os
+import sys
+import tempfile
+from dataclasses import dataclass
+from multiprocessing import Pool
+from pathlib import Path
+from random import Random
+from typing import Iterable, Optional
+
+import random_texts
+from model import Misfit, Node, Refused
+from process import Call, Ended, Source, run
+from script import fits, node_of
+from tally import Tally
+from texts import EVENTS, journal_fault
+
+MOST_COLUMNS = 600
+STAGES = ("allocated", "partly-mapped", "queued", "in-batch", "split")
+SERIES = ("queue", "in-batches", "held", "given")
+HEADS = (
+    ["#node", "node", "blocks", "order", "underused", "legal", "width"]
+    + [f"{name}-last" for name in (*SERIES, *STAGES)] + ["illegal-line", "illegal-event"],
+    ["#column", "node", "first", "last"] + [f"{name}-{end}" for name in SERIES for end in ("least", "greatest")]
+    + [f"{name}-sum" for name in STAGES],
+)
+"""The lines that name the fields."""
+
+
+@dataclass(frozen=True)
+class Numbers:
+    """A node's numbers behind some of its events: of each series, and how many pages are in each stage."""
+
+    series: tuple[int, ...]
+    stages: tuple[int, ...]
+
+
+def stage(node: Node, number: int) -> str:
+    """The stage of a live page: the last of them that fits."""
+    page = node.live[number]
+    if page.is_split:
+        return "split"
+    if any(number in flight for flight in node.flights.values()):
+        return "in-batch"
+    if number in node.queue:
+        return "queued"
+    return "partly-mapped" if page.is_partly else "allocated"
+
+
+def numbers(node: Node) -> Numbers:
+    """Those of a node as it is."""
+    in_batches = sum(len(flight) for flight in node.flights.values())
+    found = [stage(node, number) for number in node.live]
+    series = (len(node.queue), in_batches, node.frames_held(), node.given)
+    return Numbers(series, tuple(found.count(name) for name in STAGES))
+
+
+@dataclass
+class Drawn:
+    """What is drawn of a node: its shape, its numbers behind each prefix of its legal events, and its first illegal one."""
+
+    node: Node
+    prefixes: list[Numbers]
+    illegal: tuple[str, str] = ("-", "-")
+
+    def width(self) -> int:
+        """How many prefixes a column has: the least power of two of which few enough serve."""
+        width = 1
+        while len(self.prefixes) > MOST_COLUMNS * width:
+            width *= 2
+        return width
+
+    def lines(self, number: int) -> Iterable[str]:
+        """The node's line, and those of its columns."""
+        node, width, last = self.node, self.width(), self.prefixes[-1]
+        switch = "off" if node.underused is None else node.underused
+        front = ("node", number, node.blocks, node.order, switch, len(self.prefixes) - 1, width)
+        yield tabbed(*front, *last.series, *last.stages, *self.illegal)
+        for first in range(0, len(self.prefixes), width):
+            column = self.prefixes[first : first + width]
+            spans = [end(values) for values in zip(*(it.series for it in column)) for end in (min, max)]
+            sums = [sum(values) for values in zip(*(it.stages for it in column))]
+            yield tabbed("column", number, first, first + len(column) - 1, *spans, *sums)
+
+
+def tabbed(*fields: object) -> str:
+    """Fields that are parted by tabs."""
+    return "\t".join(map(str, fields))
+
+
+def drawn_nodes(lines: Iterable[str]) -> list[Drawn]:
+    """What is drawn of each node of a journal without faults of its text."""
+    nodes: list[Drawn] = []
+    is_over = False
+    for place, line in enumerate(lines, 1):
+        words = line.split()
+        if words[0] == "node":
+            node = node_of(words)
+            nodes.append(Drawn(node, [numbers(node)]))
+            is_over = False
+        elif words[0] not in ("thp-journal", "end") and not is_over:
+            drawn = nodes[-1]
+            is_over = not fits(drawn.node, line)
+            if is_over:
+                drawn.illegal = (str(place), line)
+            else:
+                drawn.prefixes.append(numbers(drawn.node))
+    return nodes
+
+
+def table(text: bytes) -> Ended:
+    """How the program is to end on a journal, by its table or its fault."""
+    fault = journal_fault(text)
+    if fault is not None:
+        return Ended(2, b"", f"thpdraw: line {fault.line}: {fault.word}\n".encode())
+    nodes = drawn_nodes(text.decode().split("\n")[:-1])
+    lines = [tabbed(*heads) for heads in HEADS]
+    lines += [line for number, drawn in enumerate(nodes) for line in drawn.lines(number)]
+    is_illegal = any(drawn.illegal[0] != "-" for drawn in nodes)
+    return Ended(int(is_illegal), random_texts.joined(lines))
+
+
+# Random journals.
+
+LENGTHS = (0, 1, 2, 7, 30, 100, 300, 598, 599, 600, 601, 1199, 1200, 1201, 2400, 3000)
+"""How many events a node may have, most of them where the width of columns changes."""
+
+
+def one_event(chance: Random, node: Node) -> None:
+    """Tries an event that may fit; where it doesn't, the node is as it was."""
+    caller = chance.choice((0, 1, 2, 5, 63))
+    page = chance.choice(list(node.live)) if node.live and chance.random() < 0.95 else node.allocated
+    first = chance.choice((0, node.size // 2, chance.randrange(node.size)))
+    count = chance.choice((node.size - first, 1, node.size // 2))
+    flights = [it for it, flight in node.flights.items() if flight]
+    kind = chance.randrange(24)
+    if kind < 3:
+        node.alloc(caller)
+    elif kind < 5:
+        node.split_pmd(caller, page)
+    elif kind < 9:
+        node.unmap_sub(caller, page, first, count)
+    elif kind < 11:
+        node.map_sub(caller, page, first, count)
+    elif kind < 13:
+        chance.choice((node.map_whole, node.unmap_whole))(caller, page)
+    elif kind < 15:
+        chance.choice((node.pin, node.unpin))(caller, page)
+    elif kind < 17:
+        node.fill(caller, page, first, count, zero=chance.random() < 0.5)
+    elif kind < 20:
+        node.taken(caller)
+    elif flights and kind < 23:
+        caller = chance.choice(flights)
+        node.tried(caller, chance.choice(node.flights[caller]))
+    elif flights:
+        node.returned(chance.choice(flights))
+    elif chance.random() < 0.02:
+        node.close(caller)
+
+
+def random_node(chance: Random, most: int) -> Node:
+    """A node with random events, at most so many."""
+    order = chance.choice((2, 2, 2, 3, 4, 9))
+    switch = chance.choice((None, None, 0, 1, 2**order - 1))
+    node = Node(chance.choice((1, 2, 3, 16)), order, switch)
+    length = min(most, chance.choice(LENGTHS))
+    tries = 0
+    while len(node.journal) < length and tries < 20 * length:
+        tries += 1
+        try:
+            one_event(chance, node)
+        except (Refused, Misfit):
+            pass
+    return node
+
+
+def random_journal(chance: Random) -> bytes:
+    """A journal of random nodes; one in three has illegal events or a fault."""
+    count = chance.choice((1, 1, 2, 3, 8))
+    nodes = [random_node(chance, 3000 if count < 3 else 700) for _ in range(count)]
+    lines = ["thp-journal 3"]
+    for number, node in enumerate(nodes):
+        switch = "off" if node.underused is None else node.underused
+        lines.append(f"node {number} blocks {node.blocks} order {node.order} underused {switch}")
+        lines += node.journal
+    lines.append("end")
+    kind = chance.randrange(6)
+    if kind == 0:
+        return random_texts.spoilt(chance, random_texts.joined(lines), EVENTS)
+    for _ in range(chance.choice((1, 1, 3)) if kind == 1 else 0):
+        lines = random_texts.changed_journal(chance, lines)
+    return random_texts.joined(lines)
+
+
+@dataclass(frozen=True)
+class Case:
+    """A random journal, by its number and a seed."""
+
+    program: Path
+    seed: int
+    place: int
+
+    def wrong(self) -> Optional[str]:
+        """What the program says otherwise than the model; or None."""
+        text = random_journal(Random(f"{self.seed} {self.place}"))
+        source = (Source.FILE, Source.PIPE)[self.place % 2]
+        return run(self.program, Call(("--table",), text, source)).differs_from(table(text))
+
+
+def wrong(case: Case) -> Optional[str]:
+    """The same, for a pool of processes."""
+    return case.wrong()
+
+
+def main() -> None:
+    """Compares as many tables as the command line asks for."""
+    parser = argparse.ArgumentParser(description=__doc__.split("\n")[0])
+    parser.add_argument("program", type=Path)
+    parser.add_argument("--cases", type=int, default=50)
+    parser.add_argument("--seed", type=int, default=1)
+    given = parser.parse_args()
+    if not os.access(given.program, os.X_OK) or given.program.is_dir():
+        sys.exit(f"{given.program} is no program")
+    tally = Tally(is_brief=True)
+    with tempfile.TemporaryDirectory() as name, Pool() as pool:
+        path = Path(name) / "thpdraw"
+        path.symlink_to(given.program.resolve())
+        cases = [Case(path, given.seed, place) for place in range(given.cases)]
+        for case, told in zip(cases, pool.imap(wrong, cases)):
+            tally.run(f"table {case.place} of seed {case.seed}", lambda told=told: told)
+    tally.end()
+
+
+if __name__ == "__main__":
+    main()
