@@ -49,6 +49,7 @@ impl<'a, R: Recorder> Steps for NodePasses<'a, R> {
         }
     }
 
+    #[inline(always)]
     fn step_into(
         &mut self,
         caller: u32,
