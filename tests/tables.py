@@ -29,22 +29,26 @@ from texts import EVENTS, journal_fault
 
 MOST_COLUMNS = 600
 STAGES = ("allocated", "partly-mapped", "queued", "in-batch", "split")
-SERIES = ("queue", "in-batches", "held", "given")
+SERIES = ("queue", "in-batches", "held", "given", "splits", "underused-splits", "pinned-tries")
+LETTERS = dict(zip(STAGES, "amqbs"))
+SHOWN_PAGES = 60
+"""Of how many pages the stages are told one by one."""
 HEADS = (
     ["#node", "node", "blocks", "order", "underused", "legal", "width"]
     + [f"{name}-last" for name in (*SERIES, *STAGES)] + ["illegal-line", "illegal-event"],
     ["#column", "node", "first", "last"] + [f"{name}-{end}" for name in SERIES for end in ("least", "greatest")]
-    + [f"{name}-sum" for name in STAGES],
+    + [f"{name}-sum" for name in STAGES] + ["stages"],
 )
 """The lines that name the fields."""
 
 
 @dataclass(frozen=True)
 class Numbers:
-    """A node's numbers behind some of its events: of each series, and how many pages are in each stage."""
+    """A node's numbers behind some of its events: of each series, how many pages are in each stage, and those of the first pages."""
 
     series: tuple[int, ...]
     stages: tuple[int, ...]
+    letters: str
 
 
 def stage(node: Node, number: int) -> str:
@@ -63,8 +67,10 @@ def numbers(node: Node) -> Numbers:
     """Those of a node as it is."""
     in_batches = sum(len(flight) for flight in node.flights.values())
     found = [stage(node, number) for number in node.live]
-    series = (len(node.queue), in_batches, node.frames_held(), node.given)
-    return Numbers(series, tuple(found.count(name) for name in STAGES))
+    counted = [node.counters[name] for name in ("thp_split_page", "thp_underused_split_page", "thp_split_page_failed")]
+    series = (len(node.queue), in_batches, node.frames_held(), node.given, *counted)
+    letters = "".join(LETTERS[stage(node, number)] if number in node.live else "-" for number in range(SHOWN_PAGES))
+    return Numbers(series, tuple(found.count(name) for name in STAGES), letters)
 
 
 @dataclass
@@ -92,7 +98,7 @@ class Drawn:
             column = self.prefixes[first : first + width]
             spans = [end(values) for values in zip(*(it.series for it in column)) for end in (min, max)]
             sums = [sum(values) for values in zip(*(it.stages for it in column))]
-            yield tabbed("column", number, first, first + len(column) - 1, *spans, *sums)
+            yield tabbed("column", number, first, first + len(column) - 1, *spans, *sums, column[-1].letters)
 
 
 def tabbed(*fields: object) -> str:

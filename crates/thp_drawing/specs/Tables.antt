@@ -6,6 +6,8 @@ use Rattle.thp_journal_writer.specs.EventLines.{event_line}
 use Rattle.thp_journal_writer.specs.Journals.{ended}
 use Rattle.thp_drawing.specs.declared.illegal_event.IllegalEvent.{IllegalEvent}
 use Rattle.thp_series.specs.declared.column.Column.{Column}
+use Rattle.thp_series.specs.declared.stage.Stage.{Stage}
+use Rattle.thp_series.specs.declared.stage.Stage.TheVariants.{Allocated, PartlyMapped, Queued, InBatch, Split}
 use Rattle.thp_drawing.specs.declared.node.DrawnNode.{DrawnNode}
 
 -- numbers, each behind a tab
@@ -23,11 +25,27 @@ unfoldable pub column_numbers : Column → List ℕ
 column_numbers c =
     c.queue.least ∷ c.queue.greatest ∷ c.in_batches.least ∷ c.in_batches.greatest
     ∷ c.held.least ∷ c.held.greatest ∷ c.given.least ∷ c.given.greatest
+    ∷ c.splits.least ∷ c.splits.greatest ∷ c.underused_splits.least ∷ c.underused_splits.greatest
+    ∷ c.pinned_tries.least ∷ c.pinned_tries.greatest
     ∷ c.pages.allocated ∷ c.pages.partly_mapped ∷ c.pages.queued ∷ c.pages.in_batch ∷ c.pages.split ∷ []
 
--- the line of a column of node n, with its first and its last prefix
+-- a page's stage as a letter; a page that doesn't live has none
+abbrev pub stage_letter : Option Stage → List ℕ
+stage_letter None = codes "-"
+stage_letter (Some Allocated) = codes "a"
+stage_letter (Some PartlyMapped) = codes "m"
+stage_letter (Some Queued) = codes "q"
+stage_letter (Some InBatch) = codes "b"
+stage_letter (Some Split) = codes "s"
+
+abbrev pub stage_letters : List (Option Stage) → List ℕ
+stage_letters [] = []
+stage_letters (stage ∷ more) = stage_letter stage ++ stage_letters more
+
+-- the line of a column of node n, with its first and its last prefix; last the stages of the pages that were allocated first
 unfoldable pub column_line : ℕ → ℕ → ℕ → Column → List ℕ
-column_line n first last c = codes "column" ++ fields (n ∷ first ∷ last ∷ []) ++ fields (column_numbers c) ++ codes "\n"
+column_line n first last c =
+    codes "column" ++ fields (n ∷ first ∷ last ∷ []) ++ fields (column_numbers c) ++ codes "\t" ++ stage_letters c.stages ++ codes "\n"
 
 -- the lines of columns from column j on, w prefixes each of so many in all
 abbrev pub column_lines : ℕ → ℕ → ℕ → ℕ → List Column → List ℕ
@@ -39,6 +57,7 @@ column_lines n w prefixes j (c ∷ more) =
 unfoldable pub node_numbers : DrawnNode → List ℕ
 node_numbers d =
     (d.prefixes - 1) ∷ d.width ∷ d.last.queue ∷ d.last.in_batches ∷ d.last.held ∷ d.last.given
+    ∷ d.last.splits ∷ d.last.underused_splits ∷ d.last.pinned_tries
     ∷ d.last.pages.allocated ∷ d.last.pages.partly_mapped ∷ d.last.pages.queued ∷ d.last.pages.in_batch ∷ d.last.pages.split ∷ []
 
 -- the number of the line of the journal's text that tells the first illegal event, and that line, whose end ends the node's own
@@ -64,8 +83,8 @@ lines_from n (d ∷ more) = node_lines n d ++ lines_from (n + 1) more
 -- the names of the fields
 unfoldable pub heads : List ℕ
 heads =
-    codes "#node\tnode\tblocks\torder\tunderused\tlegal\twidth\tqueue-last\tin-batches-last\theld-last\tgiven-last\tallocated-last\tpartly-mapped-last\tqueued-last\tin-batch-last\tsplit-last\tillegal-line\tillegal-event\n"
-    ++ codes "#column\tnode\tfirst\tlast\tqueue-least\tqueue-greatest\tin-batches-least\tin-batches-greatest\theld-least\theld-greatest\tgiven-least\tgiven-greatest\tallocated-sum\tpartly-mapped-sum\tqueued-sum\tin-batch-sum\tsplit-sum\n"
+    codes "#node\tnode\tblocks\torder\tunderused\tlegal\twidth\tqueue-last\tin-batches-last\theld-last\tgiven-last\tsplits-last\tunderused-splits-last\tpinned-tries-last\tallocated-last\tpartly-mapped-last\tqueued-last\tin-batch-last\tsplit-last\tillegal-line\tillegal-event\n"
+    ++ codes "#column\tnode\tfirst\tlast\tqueue-least\tqueue-greatest\tin-batches-least\tin-batches-greatest\theld-least\theld-greatest\tgiven-least\tgiven-greatest\tsplits-least\tsplits-greatest\tunderused-splits-least\tunderused-splits-greatest\tpinned-tries-least\tpinned-tries-greatest\tallocated-sum\tpartly-mapped-sum\tqueued-sum\tin-batch-sum\tsplit-sum\tstages\n"
 
 -- the table of nodes
 abbrev pub table_text : List DrawnNode → List ℕ

@@ -3,7 +3,7 @@ ghost use Rattle.std.specs.Prelude.{◌≡◌, ◌≤◌, ◌++◌, ◌+◌, ◌
 ghost use Rattle.std.specs.Fmt.{decimal};
 ghost use Rattle.thp_journal_writer.specs.EventLines.{event_line};
 ghost use Rattle.thp_journal_writer.specs.Journals.{ended};
-ghost use Rattle.thp_drawing.specs.Tables.{column_line, column_lines, column_numbers, fields, heads, illegal_fields, lines_from, node_line, node_lines, node_numbers, table_text, threshold_field};
+ghost use Rattle.thp_drawing.specs.Tables.{column_line, column_lines, column_numbers, fields, heads, illegal_fields, lines_from, node_line, node_lines, node_numbers, stage_letter, stage_letters, table_text, threshold_field};
 
 use crate::illegal_event::IllegalEvent;
 use crate::node::DrawnNode;
@@ -11,15 +11,15 @@ use itoa::Buffer;
 use std::alloc::AllocError;
 use thp_journal_writer::{Version, put, put_event};
 use thp_model::Event;
-use thp_series::{Column, Numbers};
+use thp_series::{Column, Numbers, Stage};
 
 // The names of a node's fields.
 const NODE_HEADS: &[u8] =
-    b"#node\tnode\tblocks\torder\tunderused\tlegal\twidth\tqueue-last\tin-batches-last\theld-last\tgiven-last\tallocated-last\tpartly-mapped-last\tqueued-last\tin-batch-last\tsplit-last\tillegal-line\tillegal-event\n";
+    b"#node\tnode\tblocks\torder\tunderused\tlegal\twidth\tqueue-last\tin-batches-last\theld-last\tgiven-last\tsplits-last\tunderused-splits-last\tpinned-tries-last\tallocated-last\tpartly-mapped-last\tqueued-last\tin-batch-last\tsplit-last\tillegal-line\tillegal-event\n";
 
 // The names of a column's fields.
 const COLUMN_HEADS: &[u8] =
-    b"#column\tnode\tfirst\tlast\tqueue-least\tqueue-greatest\tin-batches-least\tin-batches-greatest\theld-least\theld-greatest\tgiven-least\tgiven-greatest\tallocated-sum\tpartly-mapped-sum\tqueued-sum\tin-batch-sum\tsplit-sum\n";
+    b"#column\tnode\tfirst\tlast\tqueue-least\tqueue-greatest\tin-batches-least\tin-batches-greatest\theld-least\theld-greatest\tgiven-least\tgiven-greatest\tsplits-least\tsplits-greatest\tunderused-splits-least\tunderused-splits-greatest\tpinned-tries-least\tpinned-tries-greatest\tallocated-sum\tpartly-mapped-sum\tqueued-sum\tin-batch-sum\tsplit-sum\tstages\n";
 
 /// Puts the table of nodes, which are numbered from 0 on, behind a text. Where memory is refused a front of it may stand there.
 pub fn put_table(text: &mut Vec<u8>, nodes: &[DrawnNode]) -> Result<(), AllocError>
@@ -113,7 +113,11 @@ fn put_node_numbers(text: &mut Vec<u8>, node: &DrawnNode) -> Result<(), AllocErr
         in_batches,
         held,
         given,
+        splits,
+        underused_splits,
+        pinned_tries,
         pages,
+        ..
     } = node.last;
     put_fields(
         text,
@@ -124,6 +128,9 @@ fn put_node_numbers(text: &mut Vec<u8>, node: &DrawnNode) -> Result<(), AllocErr
             u128::from(in_batches),
             held,
             given,
+            u128::from(splits),
+            u128::from(underused_splits),
+            u128::from(pinned_tries),
             u128::from(pages.allocated),
             u128::from(pages.partly_mapped),
             u128::from(pages.queued),
@@ -159,7 +166,7 @@ fn put_columns(
     Ok(())
 }
 
-#[tactic(auto, using(crate::proofs::Pieces::four), unfolding(crate::specs::Tables::column_line))]
+#[tactic(auto, using(crate::proofs::Pieces::six), unfolding(crate::specs::Tables::column_line))]
 fn put_column(
     text: &mut Vec<u8>,
     number: usize,
@@ -172,7 +179,31 @@ fn put_column(
     put(text, b"column")?;
     put_fields(text, &[number as u128, first, last])?;
     put_column_numbers(text, column)?;
+    put(text, b"\t")?;
+    put_stages(text, &column.stages)?;
     put(text, b"\n")
+}
+
+fn put_stages(text: &mut Vec<u8>, stages: &[Option<Stage>]) -> Result<(), AllocError>
+    ensures { OnOk result (text.new.items ≡ text.old.items ++ stage_letters stages.now) }
+{
+    for stage in stages {
+        put(text, letter_of(*stage))?;
+    }
+    Ok(())
+}
+
+fn letter_of(stage: Option<Stage>) -> &'static [u8]
+    ensures { result.now ≡ stage_letter stage }
+{
+    match stage {
+        None => b"-",
+        Some(Stage::Allocated) => b"a",
+        Some(Stage::PartlyMapped) => b"m",
+        Some(Stage::Queued) => b"q",
+        Some(Stage::InBatch) => b"b",
+        Some(Stage::Split) => b"s",
+    }
 }
 
 #[tactic(auto, unfolding(crate::specs::Tables::column_numbers))]
@@ -184,7 +215,11 @@ fn put_column_numbers(text: &mut Vec<u8>, column: &Column) -> Result<(), AllocEr
         in_batches,
         held,
         given,
+        splits,
+        underused_splits,
+        pinned_tries,
         pages,
+        ..
     } = *column;
     put_fields(
         text,
@@ -197,6 +232,12 @@ fn put_column_numbers(text: &mut Vec<u8>, column: &Column) -> Result<(), AllocEr
             held.greatest,
             given.least,
             given.greatest,
+            splits.least,
+            splits.greatest,
+            underused_splits.least,
+            underused_splits.greatest,
+            pinned_tries.least,
+            pinned_tries.greatest,
             pages.allocated,
             pages.partly_mapped,
             pages.queued,
