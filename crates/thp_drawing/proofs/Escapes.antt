@@ -7,7 +7,8 @@ use Rattle.thp_drawing.specs.Escapes.{ends_words, escaped, escaped_byte}
 
 -- by whether the byte is one of the four
 by_tests : (b : ℕ) (p q r s : Bool) → nat_eq b 60 ≡ q → nat_eq b 62 ≡ r → nat_eq b 34 ≡ s
-    → list_any ends_words (if p then codes "&amp;" else if q then codes "&lt;" else if r then codes "&gt;" else if s then codes "&quot;" else b ∷ []) ≡ false
+    → list_any ends_words (if p then codes "&amp;" else if q then codes "&lt;" else if r
+    then codes "&gt;" else if s then codes "&quot;" else b ∷ []) ≡ false
 by_tests b true q r s lt gt quote = refl
 by_tests b false true r s lt gt quote = refl
 by_tests b false false true s lt gt quote = refl

@@ -22,7 +22,8 @@ seven t a b c d e f g = simp append_assoc
 pub eight : (t a b c d e f g h : List ℕ) → t ++ a ++ b ++ c ++ d ++ e ++ f ++ g ++ h ≡ t ++ (a ++ b ++ c ++ d ++ e ++ f ++ g ++ h)
 eight t a b c d e f g h = simp append_assoc
 
-pub nine : (t a b c d e f g h i : List ℕ) → t ++ a ++ b ++ c ++ d ++ e ++ f ++ g ++ h ++ i ≡ t ++ (a ++ b ++ c ++ d ++ e ++ f ++ g ++ h ++ i)
+pub nine : (t a b c d e f g h i : List ℕ)
+    → t ++ a ++ b ++ c ++ d ++ e ++ f ++ g ++ h ++ i ≡ t ++ (a ++ b ++ c ++ d ++ e ++ f ++ g ++ h ++ i)
 nine t a b c d e f g h i = simp append_assoc
 
 -- ---- texts each of which is the one before and a piece behind it
@@ -35,6 +36,7 @@ three_behind t a b c p q = ap (λ x. x ++ c) (q ∙ ap (λ x. x ++ b) p) ∙ thr
 pub four_behind : (t a b c d : List ℕ) {u v w : List ℕ} → u ≡ t ++ a → v ≡ u ++ b → w ≡ v ++ c → w ++ d ≡ t ++ (a ++ b ++ c ++ d)
 four_behind t a b c d p q r = ap (λ x. x ++ d) (r ∙ ap (λ x. x ++ c) (q ∙ ap (λ x. x ++ b) p)) ∙ four t a b c d
 
-pub five_behind : (t a b c d e : List ℕ) {u v w x : List ℕ} → u ≡ t ++ a → v ≡ u ++ b → w ≡ v ++ c → x ≡ w ++ d → x ++ e ≡ t ++ (a ++ b ++ c ++ d ++ e)
+pub five_behind : (t a b c d e : List ℕ) {u v w x : List ℕ}
+    → u ≡ t ++ a → v ≡ u ++ b → w ≡ v ++ c → x ≡ w ++ d → x ++ e ≡ t ++ (a ++ b ++ c ++ d ++ e)
 five_behind t a b c d e p q r s =
     ap (λ y. y ++ e) (s ∙ ap (λ y. y ++ d) (r ∙ ap (λ y. y ++ c) (q ∙ ap (λ y. y ++ b) p))) ∙ five t a b c d e

@@ -88,7 +88,8 @@ stage_item x at d =
 unfoldable pub stages_title : DrawnNode → List ℕ
 stages_title d =
     codes "<text class=\"soft e\" x=\"-60\" y=\"150\">pages</text>\n"
-    ++ stage_item Allocated 0 d ++ stage_item PartlyMapped 1200 d ++ stage_item Queued 2400 d ++ stage_item InBatch 3600 d ++ stage_item Split 4800 d
+    ++ stage_item Allocated 0 d ++ stage_item PartlyMapped 1200 d ++ stage_item Queued 2400 d
+    ++ stage_item InBatch 3600 d ++ stage_item Split 4800 d
 
 -- the stages, the last on top
 unfoldable pub stage_areas : DrawnNode → List ℕ

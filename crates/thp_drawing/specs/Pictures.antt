@@ -72,7 +72,8 @@ column_words = codes "Full colour reaches the least number of a column's events,
 
 unfoldable pub title : List ℕ
 title =
-    text_at (codes "ink hh") 150 300 title_words ++ text_at (codes "soft") 150 480 order_words ++ text_at (codes "soft") 150 640 column_words
+    text_at (codes "ink hh") 150 300 title_words ++ text_at (codes "soft") 150 480 order_words
+    ++ text_at (codes "soft") 150 640 column_words
 
 -- the picture of nodes
 unfoldable pub picture_text : List DrawnNode → List ℕ

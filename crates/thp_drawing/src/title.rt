@@ -1,7 +1,8 @@
 //! What is said of a node above its panels.
 ghost use Rattle.std.specs.Prelude.{◌≡◌, ◌++◌, OnOk};
 ghost use Rattle.thp_journal_writer.specs.EventLines.{event_line};
-ghost use Rattle.thp_drawing.specs.Titles.{events_words, illegal_text, illegal_words, many, node_words, shape_words, shortened, threshold_words};
+ghost use Rattle.thp_drawing.specs.Titles.{events_words, illegal_text, illegal_words, many, node_words};
+ghost use Rattle.thp_drawing.specs.Titles.{shape_words, shortened, threshold_words};
 
 use crate::element::{put_decimal, put_text};
 use crate::illegal_event::IllegalEvent;

@@ -3,4 +3,6 @@ use Rattle.thp_drawing.specs.Overviews.{overview_lines}
 use Rattle.thp_drawing.proofs.overview.put_overview_lines.Given as goal
 
 abbrev pub invariant-loop-number : goal.invariant-loop-number
-invariant-loop-number l = l.text.items ++ overview_lines 1060 l.number (drop l.number l.nodes) ≡ l.fn.text.items ++ overview_lines 1060 0 l.nodes
+invariant-loop-number l =
+    l.text.items ++ overview_lines 1060 l.number (drop l.number l.nodes)
+    ≡ l.fn.text.items ++ overview_lines 1060 0 l.nodes
