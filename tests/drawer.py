@@ -19,11 +19,12 @@ from xml.etree import ElementTree
 
 import faulty_texts
 import usage
-from checker import BEHIND, LONG, SEVERAL
+from checker import BEHIND, LONG, ROUNDS, SEVERAL
+from model import Node
 from outside import FEW_BYTES, FIRST, FIRST_JOURNAL, ILLEGAL, LEGAL, LOST, ROOT, STORED, Row, told
 from process import Call, Ended, Sink, Source, run
-from progress import ASKED, Shown, line, lines
-from tables import drawn_nodes, table
+from progress import ASKED, Shown, lines
+from tables import Drawn, drawn_nodes, numbers, table, table_of
 from tally import Tally
 
 HELP = (STORED / "drawer_help.txt").read_bytes()
@@ -51,7 +52,16 @@ def drawn() -> Iterator[Row]:
         yield Row("tables", name, Call(TABLE, text), table(text))
     for text, _ in faulty_texts.ILLEGAL:
         yield Row("tables", repr(text[-60:]), Call(TABLE, text + b"end\n"), table(text + b"end\n"))
-    yield Row("tables", "more than 16 MiB, illegal behind that", Call(TABLE, LONG + b"fly\n"), fault(BEHIND, "bad-word"))
+    yield Row("tables", "more than 16 MiB", Call(TABLE, LONG + b"end\n", memory=FEW_BYTES), long_table())
+    yield Row("tables", "more than 16 MiB, and a fault behind that", Call(TABLE, LONG + b"fly\n"), fault(BEHIND, "bad-word"))
+
+
+def long_table() -> Ended:
+    """The table of the long journal: a page is allocated, and the rounds of two events leave all numbers as they are."""
+    node = Node(16)
+    first = numbers(node)
+    node.alloc(0)
+    return table_of([Drawn(node, [first] + [numbers(node)] * (1 + 2 * ROUNDS))])
 
 
 SVG = "{http://www.w3.org/2000/svg}"
@@ -108,7 +118,7 @@ def pictures() -> Iterator[Picture]:
     for path in sorted((ROOT / "examples").glob("*.journal")):
         for source in (Source.FILE, Source.PIPE):
             yield Picture(f"{path.name}, {source.name.lower()}", path.read_bytes(), source)
-    for name, text in {"the first script's": FIRST_JOURNAL, "several nodes": SEVERAL, "long": LONG + b"end\n"}.items():
+    for name, text in {"the first script's": FIRST_JOURNAL, "several nodes": SEVERAL}.items():
         yield Picture(name, text)
     for text, _ in faulty_texts.ILLEGAL:
         yield Picture(repr(text[-60:]), text + b"end\n")

@@ -131,7 +131,11 @@ def table(text: bytes) -> Ended:
     fault = journal_fault(text)
     if fault is not None:
         return Ended(2, b"", f"thpdraw: line {fault.line}: {fault.word}\n".encode())
-    nodes = drawn_nodes(text.decode().split("\n")[:-1])
+    return table_of(drawn_nodes(text.decode().split("\n")[:-1]))
+
+
+def table_of(nodes: list[Drawn]) -> Ended:
+    """How it is to end, by the table of these nodes."""
     lines = [tabbed(*heads) for heads in HEADS]
     lines += [line for number, drawn in enumerate(nodes) for line in drawn.lines(number)]
     is_illegal = any(drawn.illegal[0] != "-" for drawn in nodes)

@@ -48,7 +48,14 @@ fn find_first<R: Read, S: Write, C: Clock>(
     // the toolchain finds these types, which stand in illegal events, only in functions that name them
     let _in_illegal = (What::Close, Outcome::Stays, Refusal::NoPage, Misfit::Block);
     let check = LongCheck::new(alloc);
-    let check = read_journal(alloc, Program::Thpcheck, options.progress, check, reader, screen)?;
+    let check = read_journal(
+        alloc,
+        Program::Thpcheck,
+        options.progress,
+        check,
+        reader,
+        screen,
+    )?;
     let illegal = check.finish()?;
     Ok(Found {
         illegal,
@@ -74,7 +81,14 @@ fn sum_up<R: Read, S: Write, C: Clock>(
     // as above
     let _in_illegal = (What::Close, Outcome::Stays, Refusal::NoPage, Misfit::Block);
     let check = SummedCheck::new(alloc);
-    let check = read_journal(alloc, Program::Thpcheck, options.progress, check, reader, screen)?;
+    let check = read_journal(
+        alloc,
+        Program::Thpcheck,
+        options.progress,
+        check,
+        reader,
+        screen,
+    )?;
     let summed = check.finish()?;
     Ok(Found {
         illegal: summed.illegal,

@@ -6,8 +6,8 @@ ghost use Rattle.thp_streams.specs.Outcomes.{device_of, given_words, source_of};
 ghost use Rattle.thp_draw_run.specs.Asking.{ShowsAsAsked};
 ghost use Rattle.thp_draw_run.specs.Outcomes.{end_of, Does, Finishes, Served};
 
-use crate::writing::draw;
 use crate::options::{DrawOptions, read_words};
+use crate::writing::draw;
 use std::alloc::Global;
 use std::io::{Read, Write};
 use std::time::Clock;
