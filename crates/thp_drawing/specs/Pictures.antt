@@ -11,7 +11,7 @@ use Rattle.thp_drawing.specs.Styles.{style}
 use Rattle.thp_drawing.specs.Titles.{illegal_text, node_words}
 use Rattle.thp_drawing.specs.declared.illegal_event.IllegalEvent.{IllegalEvent}
 use Rattle.thp_drawing.specs.declared.node.DrawnNode.{DrawnNode}
-use Rattle.thp_drawing.specs.declared.panel.Panel.TheVariants.{Pages, Frames}
+use Rattle.thp_drawing.specs.declared.panel.Panel.TheVariants.{Pages, Frames, Tries, Underused}
 
 -- the height of a panel whose greatest number is this
 abbrev pub height_of : ℕ → ℕ
@@ -25,8 +25,14 @@ pages_top (Some illegal) = 460
 abbrev pub frames_top : DrawnNode → ℕ
 frames_top d = plus (pages_top d.illegal) (height_of (panel_most Pages d))
 
+abbrev pub tries_top : DrawnNode → ℕ
+tries_top d = plus (frames_top d) (height_of (panel_most Frames d))
+
+abbrev pub underused_top : DrawnNode → ℕ
+underused_top d = plus (tries_top d) (height_of (panel_most Tries d))
+
 abbrev pub stages_top : DrawnNode → ℕ
-stages_top d = plus (frames_top d) (height_of (panel_most Frames d))
+stages_top d = plus (underused_top d) (height_of (panel_most Underused d))
 
 abbrev pub axis_top : DrawnNode → ℕ
 axis_top d = plus (stages_top d) (height_of (pages_most d))
@@ -34,11 +40,16 @@ axis_top d = plus (stages_top d) (height_of (pages_most d))
 abbrev pub node_height : DrawnNode → ℕ
 node_height d = plus (axis_top d) 300
 
+-- the panels of a node
+unfoldable pub panels_drawn : DrawnNode → List ℕ
+panels_drawn d =
+    panel_at Pages (pages_top d.illegal) d ++ panel_at Frames (frames_top d) d ++ panel_at Tries (tries_top d) d
+    ++ panel_at Underused (underused_top d) d ++ stages_panel (stages_top d) d
+
 -- node n, from this height on
 unfoldable pub node_drawn : ℕ → ℕ → DrawnNode → List ℕ
 node_drawn y n d =
-    group_start 0 y ++ text_at (codes "ink h") 150 240 (node_words n d) ++ illegal_text d.illegal
-    ++ panel_at Pages (pages_top d.illegal) d ++ panel_at Frames (frames_top d) d ++ stages_panel (stages_top d) d
+    group_start 0 y ++ text_at (codes "ink h") 150 240 (node_words n d) ++ illegal_text d.illegal ++ panels_drawn d
     ++ event_axis (plus (axis_top d) 110) d ++ group_end
 
 -- nodes from node n on, one below the other

@@ -9,7 +9,7 @@ use Rattle.thp_series.specs.declared.stage.Stage.TheVariants.{Allocated, PartlyM
 use Rattle.thp_drawing.specs.Scales.{plus, times}
 use Rattle.thp_drawing.specs.declared.node.DrawnNode.{DrawnNode}
 use Rattle.thp_drawing.specs.declared.quantity.Quantity.{Quantity}
-use Rattle.thp_drawing.specs.declared.quantity.Quantity.TheVariants.{Queue, InBatches, Held, Given}
+use Rattle.thp_drawing.specs.declared.quantity.Quantity.TheVariants.{Queue, InBatches, Held, Given, Splits, PinnedTries, UnderusedSplits, Nothing}
 
 -- the name of a quantity
 abbrev pub quantity_name : Quantity → List ℕ
@@ -17,13 +17,21 @@ quantity_name Queue = codes "queue"
 quantity_name InBatches = codes "in batches"
 quantity_name Held = codes "held"
 quantity_name Given = codes "given back"
+quantity_name Splits = codes "split"
+quantity_name PinnedTries = codes "found pinned"
+quantity_name UnderusedSplits = codes "split as underused"
+quantity_name Nothing = []
 
--- its class; queue and batches have the colours of these stages
+-- its class; some have the colours of stages
 abbrev pub quantity_class : Quantity → List ℕ
 quantity_class Queue = codes "s2"
 quantity_class InBatches = codes "s3"
 quantity_class Held = codes "held"
 quantity_class Given = codes "given"
+quantity_class Splits = codes "s4"
+quantity_class PinnedTries = codes "pin"
+quantity_class UnderusedSplits = codes "s1"
+quantity_class Nothing = []
 
 -- its least and its greatest number in a column
 abbrev pub span_in : Quantity → Column → Span
@@ -31,6 +39,10 @@ span_in Queue c = c.queue
 span_in InBatches c = c.in_batches
 span_in Held c = c.held
 span_in Given c = c.given
+span_in Splits c = c.splits
+span_in PinnedTries c = c.pinned_tries
+span_in UnderusedSplits c = c.underused_splits
+span_in Nothing c = record { least = 0; greatest = 0 }
 
 -- its number behind the last event
 abbrev pub last_of : Quantity → Numbers → ℕ
@@ -38,6 +50,10 @@ last_of Queue n = n.queue
 last_of InBatches n = n.in_batches
 last_of Held n = n.held
 last_of Given n = n.given
+last_of Splits n = n.splits
+last_of PinnedTries n = n.pinned_tries
+last_of UnderusedSplits n = n.underused_splits
+last_of Nothing n = 0
 
 -- its greatest number in any column
 abbrev pub most_of : Quantity → List Column → ℕ

@@ -34,6 +34,10 @@ pub(crate) enum Panel {
     Pages,
     /// Frames held, and given back.
     Frames,
+    /// Tries that split a page so far, and that found it pinned.
+    Tries,
+    /// Pages split so far that were underused.
+    Underused,
 }
 
 impl Panel {
@@ -43,6 +47,8 @@ impl Panel {
         match self {
             Panel::Pages => Quantity::Queue,
             Panel::Frames => Quantity::Held,
+            Panel::Tries => Quantity::Splits,
+            Panel::Underused => Quantity::UnderusedSplits,
         }
     }
 
@@ -52,6 +58,8 @@ impl Panel {
         match self {
             Panel::Pages => Quantity::InBatches,
             Panel::Frames => Quantity::Given,
+            Panel::Tries => Quantity::PinnedTries,
+            Panel::Underused => Quantity::Nothing,
         }
     }
 
@@ -60,7 +68,7 @@ impl Panel {
         ensures { result ≡ panel_step self number }
     {
         match self {
-            Panel::Pages => round_step(number),
+            Panel::Pages | Panel::Tries | Panel::Underused => round_step(number),
             Panel::Frames => doubled_step(number),
         }
     }
@@ -129,6 +137,10 @@ fn put_unit(text: &mut Vec<u8>, panel: Panel) -> Result<(), AllocError>
         Panel::Frames => put(
             text,
             b"<text class=\"soft e\" x=\"-60\" y=\"150\">frames</text>\n",
+        ),
+        Panel::Tries | Panel::Underused => put(
+            text,
+            b"<text class=\"soft e\" x=\"-60\" y=\"150\">tries</text>\n",
         ),
     }
 }

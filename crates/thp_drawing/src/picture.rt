@@ -14,11 +14,14 @@ ghost use Rattle.thp_drawing.specs.Pictures.{
   nodes_drawn,
   order_words,
   pages_top,
+  panels_drawn,
   picture_text,
   stages_top,
   svg_start,
   title,
   title_words,
+  tries_top,
+  underused_top,
 };
 
 use crate::axis::{put_event_axis, put_group_end};
@@ -135,7 +138,7 @@ fn put_nodes(text: &mut Vec<u8>, top: u128, nodes: &[DrawnNode]) -> Result<(), A
     Ok(())
 }
 
-#[tactic(auto, using(crate::proofs::Pieces::eight), unfolding(crate::specs::Pictures::node_drawn))]
+#[tactic(auto, using(crate::proofs::Pieces::six), unfolding(crate::specs::Pictures::node_drawn))]
 fn put_node(text: &mut Vec<u8>, y: u128, number: usize, node: &DrawnNode) -> Result<(), AllocError>
     ensures { OnOk result (text.new.items ≡ text.old.items ++ node_drawn y number node.now) }
 {
@@ -144,11 +147,20 @@ fn put_node(text: &mut Vec<u8>, y: u128, number: usize, node: &DrawnNode) -> Res
     put_group(text, 0, y)?;
     put_text(text, b"ink h", 150, 240, words.as_slice())?;
     put_illegal_text(text, &node.illegal)?;
-    put_panel(text, Panel::Pages, pages_top(&node.illegal), node)?;
-    put_panel(text, Panel::Frames, frames_top(node), node)?;
-    put_stages_panel(text, stages_top(node), node)?;
+    put_panels(text, node)?;
     put_event_axis(text, plus(axis_top(node), 110), node)?;
     put_group_end(text)
+}
+
+#[tactic(auto, using(crate::proofs::Pieces::five), unfolding(crate::specs::Pictures::panels_drawn))]
+fn put_panels(text: &mut Vec<u8>, node: &DrawnNode) -> Result<(), AllocError>
+    ensures { OnOk result (text.new.items ≡ text.old.items ++ panels_drawn node.now) }
+{
+    put_panel(text, Panel::Pages, pages_top(&node.illegal), node)?;
+    put_panel(text, Panel::Frames, frames_top(node), node)?;
+    put_panel(text, Panel::Tries, tries_top(node), node)?;
+    put_panel(text, Panel::Underused, underused_top(node), node)?;
+    put_stages_panel(text, stages_top(node), node)
 }
 
 // The height of a panel whose greatest number is this.
@@ -173,10 +185,22 @@ fn frames_top(node: &DrawnNode) -> u128
     plus(pages_top(&node.illegal), height_of(Panel::Pages.most(node)))
 }
 
+fn tries_top(node: &DrawnNode) -> u128
+    ensures { result ≡ tries_top node.now }
+{
+    plus(frames_top(node), height_of(Panel::Frames.most(node)))
+}
+
+fn underused_top(node: &DrawnNode) -> u128
+    ensures { result ≡ underused_top node.now }
+{
+    plus(tries_top(node), height_of(Panel::Tries.most(node)))
+}
+
 fn stages_top(node: &DrawnNode) -> u128
     ensures { result ≡ stages_top node.now }
 {
-    plus(frames_top(node), height_of(Panel::Frames.most(node)))
+    plus(underused_top(node), height_of(Panel::Underused.most(node)))
 }
 
 fn axis_top(node: &DrawnNode) -> u128

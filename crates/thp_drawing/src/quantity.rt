@@ -16,6 +16,14 @@ pub(crate) enum Quantity {
     Held,
     /// Frames given back so far.
     Given,
+    /// Pages split so far.
+    Splits,
+    /// Tries that found a page pinned, so far.
+    PinnedTries,
+    /// Pages split so far that weren't partly mapped, but underused.
+    UnderusedSplits,
+    /// None at all: what a panel of one number has below its base line.
+    Nothing,
 }
 
 /// Which number of a column is drawn.
@@ -35,6 +43,10 @@ impl Quantity {
             Quantity::InBatches => b"in batches",
             Quantity::Held => b"held",
             Quantity::Given => b"given back",
+            Quantity::Splits => b"split",
+            Quantity::PinnedTries => b"found pinned",
+            Quantity::UnderusedSplits => b"split as underused",
+            Quantity::Nothing => b"",
         }
     }
 
@@ -47,6 +59,10 @@ impl Quantity {
             Quantity::InBatches => b"s3",
             Quantity::Held => b"held",
             Quantity::Given => b"given",
+            Quantity::Splits => b"s4",
+            Quantity::PinnedTries => b"pin",
+            Quantity::UnderusedSplits => b"s1",
+            Quantity::Nothing => b"",
         }
     }
 
@@ -59,6 +75,13 @@ impl Quantity {
             Quantity::InBatches => column.in_batches,
             Quantity::Held => column.held,
             Quantity::Given => column.given,
+            Quantity::Splits => column.splits,
+            Quantity::PinnedTries => column.pinned_tries,
+            Quantity::UnderusedSplits => column.underused_splits,
+            Quantity::Nothing => Span {
+                least: 0,
+                greatest: 0,
+            },
         }
     }
 
@@ -71,6 +94,10 @@ impl Quantity {
             Quantity::InBatches => u128::from(numbers.in_batches),
             Quantity::Held => numbers.held,
             Quantity::Given => numbers.given,
+            Quantity::Splits => u128::from(numbers.splits),
+            Quantity::PinnedTries => u128::from(numbers.pinned_tries),
+            Quantity::UnderusedSplits => u128::from(numbers.underused_splits),
+            Quantity::Nothing => 0,
         }
     }
 

@@ -21,7 +21,7 @@ const LIGHT_INKS: &[u8] =
     b"svg{background:#ffffff}.bg{fill:#ffffff}.ink{fill:#1c2128}.soft{fill:#5d6673}.bad{fill:#c8102e}\n";
 
 const LIGHT_LINES: &[u8] =
-    b".rule{stroke:#e4e7ec}.zero{stroke:#1c2128}.held{fill:#64748b}.given{fill:#a4582a}\n";
+    b".rule{stroke:#e4e7ec}.zero{stroke:#1c2128}.held{fill:#64748b}.given{fill:#a4582a}.pin{fill:#868d97}\n";
 
 const LIGHT_STAGES: &[u8] =
     b".s0{fill:#b6bfc9}.s1{fill:#e79700}.s2{fill:#3652b8}.s3{fill:#bd61ab}.s4{fill:#428452}\n";
@@ -30,7 +30,7 @@ const DARK_INKS: &[u8] =
     b"svg{background:#14171c}.bg{fill:#14171c}.ink{fill:#e8ebf0}.soft{fill:#a3acb9}.bad{fill:#ff6b78}\n";
 
 const DARK_LINES: &[u8] =
-    b".rule{stroke:#2a3038}.zero{stroke:#e8ebf0}.held{fill:#8b9ab0}.given{fill:#d28a55}\n";
+    b".rule{stroke:#2a3038}.zero{stroke:#e8ebf0}.held{fill:#8b9ab0}.given{fill:#d28a55}.pin{fill:#7f8793}\n";
 
 const DARK_STAGES: &[u8] =
     b".s0{fill:#4d5663}.s1{fill:#f9a726}.s2{fill:#4280ff}.s3{fill:#d764a1}.s4{fill:#45a670}\n";
