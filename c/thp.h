@@ -61,7 +61,7 @@ typedef enum thp_code {
     THP_BAD_SIZE = 15,   /**< no node has this shape */
     THP_BAD_COUNT = 16,  /**< more than 128 pages were asked for */
     THP_NO_BATCH = 17,   /**< the caller has no batch open */
-    THP_BATCH_OPEN = 18, /**< a batch is open: on the node, or by the caller of a pass */
+    THP_BATCH_OPEN = 18, /**< the caller has a batch open */
     THP_TOO_SMALL = 19,  /**< the buffer is too small */
     THP_NULL = 20,       /**< a pointer is null */
     /* what the check of a text answers */
@@ -242,8 +242,8 @@ thp_code thp_node_close(thp_node *node, uint32_t caller);
 
 /**
  * @name The shrinker
- * A batch is what one take got, and the caller's that took it; one is open on a node at a time. Each call may also answer
- * THP_EMPTY and THP_NULL.
+ * A batch is what one take got, and the caller's that took it: each caller may have one open. Pages of it may be freed by calls on the
+ * node before they are tried, and are passed over then. Each call may also answer THP_EMPTY and THP_NULL.
  * @{
  */
 /**
@@ -252,17 +252,20 @@ thp_code thp_node_close(thp_node *node, uint32_t caller);
  */
 thp_code thp_node_scan(thp_node *node, uint32_t caller, uint32_t n, thp_scan *scan);
 /**
- * @brief Takes up to n pages, the oldest first, into a batch, which is open then.
+ * @brief Takes up to n pages, the oldest first, into a batch of the caller, which is open then.
  * @param node the node
  * @param caller the caller's number, below 64
  * @param n the most pages, at most 128
  * @param[out] count how many it got
- * @return THP_OK, THP_BAD_CALLER, THP_BAD_COUNT (n above 128), THP_BATCH_OPEN, THP_HAS_BATCH, THP_OUT_OF_MEMORY
+ * @return THP_OK, THP_BAD_CALLER, THP_BAD_COUNT (n above 128), THP_BATCH_OPEN (the caller has one), THP_HAS_BATCH, THP_OUT_OF_MEMORY
  */
 thp_code thp_node_take(thp_node *node, uint32_t caller, uint32_t n, uint32_t *count);
-/** @brief Tries the next page of the caller's open batch. @return THP_OK, THP_NO_BATCH, THP_OUT_OF_MEMORY */
+/** @brief Tries the next page of the caller's open batch that is still in flight. @return THP_OK, THP_NO_BATCH, THP_OUT_OF_MEMORY */
 thp_code thp_node_split_next(thp_node *node, uint32_t caller, thp_tried *tried);
-/** @brief Returns the pages that are left of the caller's open batch, and closes it. @return THP_OK, THP_NO_BATCH, THP_OUT_OF_MEMORY */
+/**
+ * @brief Returns the pages that are left of the caller's open batch, and closes it; with another code than THP_OK it stays open.
+ * @return THP_OK, THP_NO_BATCH, THP_OUT_OF_MEMORY
+ */
 thp_code thp_node_put_back(thp_node *node, uint32_t caller, thp_back *back);
 /**
  * @brief Closes the caller's open batch, and leaves its pages in flight, out of the queue: nothing takes them out of it any more
@@ -318,7 +321,7 @@ thp_code thp_node_journal(thp_node *node, uint8_t *buffer, size_t capacity, size
 thp_code thp_cell_create(thp_pass *pass, uint32_t blocks, uint32_t order, uint32_t underused, uint32_t callers);
 /**
  * @brief Takes the cell apart and gives its node to a node's handle, whose journal is the one legal history of all that the passes
- * did. The pass has all callers, as after the joins, none of which has a batch open, and every other handle of the cell leads to
+ * did, and on which no caller has a batch open. The pass has all callers, as after the joins, none of which has a batch open, and every other handle of the cell leads to
  * nothing.
  * @param pass the cell's one pass
  * @param[out] node an empty handle, which is filled; the pass's is emptied

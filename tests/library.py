@@ -18,7 +18,8 @@ from functools import cache
 from pathlib import Path
 from random import Random
 
-from random_texts import Script, joined, script_of_one
+from random_texts import Script, joined, likely_words, operands, random_shapes, script_of_one
+from script import Run
 from tally import Missing, Tally
 
 ROOT = Path(__file__).resolve().parent.parent
@@ -244,6 +245,16 @@ class Built:
         return called(words, ROOT / "rust", THP_LIB=str(self.folder), **asked)
 
     def same_answers(self, program: Path, cases: int, seed: int) -> str | None:
+    def many_batches(self, cases: int, seed: int) -> str | None:
+        """Batches of several callers on one node, by nodes and by passes, do what a plain reading of the model says."""
+        replay = self.folder / "replay"
+        wrong = called(["cc", "-std=c11", "-O1", "-I.", "tests/replay.c", self.folder / "libthp.a", "-o", replay], C)
+        for case in range(cases if wrong is None else 0):
+            wrong = differs_on_batches(replay, Random(f"batches {seed} {case}"))
+            if wrong is not None:
+                return f"case {case} of seed {seed}: {wrong}"
+        return wrong
+
         """The library answers random scripts as the program does, by nodes and by passes of shared ones, and has the same journals."""
         replay = self.folder / "replay"
         wrong = called(["cc", "-std=c11", "-O1", "-I.", "tests/replay.c", self.folder / "libthp.a", "-o", replay], C)
@@ -278,6 +289,32 @@ def differs(replay: Path, program: Path, script: Script, options: list[str]) -> 
 
 
 ASKED = {"malloc", "realloc", "free", "memcpy", "memmove", "memset", "memcmp"}
+def differs_on_batches(replay: Path, chance: Random) -> str | None:
+    """What the library does otherwise than the model where callers of one node take turns, each with its own open batch."""
+    shape = random_shapes(chance, 1)[0]
+    run, callers = Run([shape]), sorted(chance.sample(range(64), chance.choice((2, 3, 8))))
+    open_by: dict[int, dict[int, list[int]]] = {caller: {} for caller in callers}
+    lines: list[str] = []
+    for index in range(1, chance.randrange(300) + 1):
+        caller = chance.choice(callers)
+        run.batches = open_by[caller]
+        word = chance.choice(likely_words(run, 0))
+        line = " ".join((word, "0", *operands(chance, word, run.nodes[0])))
+        run.line(caller, index, line)
+        lines += [f"as {caller}", line]
+    for caller in callers:
+        run.batches = open_by[caller]
+        run.end(caller)
+    wanted = joined([*run.answers, *run.journal()])
+    told = f"{shape[1]},{'off' if shape[2] is None else shape[2]}"
+    for way in ("nodes", "passes"):
+        ended = subprocess.run([replay, way, str(shape[0]), told], input=joined(lines), capture_output=True, check=False)
+        if ended.returncode != 0 or ended.stdout != wanted:
+            pairs = zip(ended.stdout.splitlines() + [b"(end)"], wanted.splitlines() + [b"(end)"])
+            return f"by {way}: {next((pair for pair in pairs if pair[0] != pair[1]), ended.stderr)!r}"
+    return None
+
+
 """What the library may ask of the C library."""
 
 SANITIZED = ["-fsanitize=address,undefined", "-fno-sanitize-recover=all"]
@@ -349,6 +386,7 @@ def main() -> None:
                 program = asked.program.resolve()
                 tally.run(f"{asked.cases} random scripts", lambda: built.same_answers(program, asked.cases, asked.seed))
                 half = asked.cases // 2
+            tally.run(f"{asked.cases} times batches of several callers", lambda: built.many_batches(asked.cases, asked.seed))
                 tally.run(f"{half} random sequences in Rust", lambda: built.random_sequences(program, half, asked.seed))
     tally.end()
 

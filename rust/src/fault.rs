@@ -39,7 +39,7 @@ pub enum Fault {
     BadCount = 16,
     /// The caller has no batch open.
     NoBatch = 17,
-    /// A batch is open: on the node, or by the caller of a pass.
+    /// The caller has a batch open.
     BatchOpen = 18,
     /// The text is longer than 16,777,216 bytes.
     TextTooLong = 22,
@@ -64,7 +64,7 @@ pub enum Fault {
 }
 
 impl Fault {
-    const ALL: [Fault; 26] = [
+    const ALL: [Fault; 28] = [
         Fault::NoPage, Fault::BadRange, Fault::IsSplit, Fault::NotMapped, Fault::Gone, Fault::NotPinned,
         Fault::TooMany, Fault::Closed, Fault::NoBlock, Fault::HasBatch, Fault::OutOfMemory, Fault::BadCaller,
         Fault::BadSize, Fault::BadCount, Fault::NoBatch, Fault::BatchOpen, Fault::TextTooLong, Fault::TextBadByte,

@@ -5,4 +5,5 @@ mod Masks
 mod Losses
 mod Crossings
 mod PassCrossings
+mod Places
 mod Opened

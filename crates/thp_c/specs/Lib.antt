@@ -1,5 +1,6 @@
 pub mod Codes
 pub mod Checks
+pub mod OpenBatches
 pub mod Engines
 pub mod Calls
 pub mod Replies

@@ -338,7 +338,7 @@ pub extern "C" fn thp_c_node_scan(
     }
 }
 
-/// Takes up to `n` pages, the oldest first, into the batch that is open from then on.
+/// Takes up to `n` pages, the oldest first, into the caller's batch, which is open from then on.
 #[unsafe(no_mangle)]
 pub extern "C" fn thp_c_node_take(
     handle: &mut ThpNode,
