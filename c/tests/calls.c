@@ -26,7 +26,7 @@ static uint64_t queued_page(thp_node *node, uint32_t caller) {
 
 static void words(void) {
     WANT(strcmp(thp_version(), THP_VERSION) == 0);
-    for (int code = THP_OK; code <= THP_BAD_PASS; code++) {
+    for (int code = THP_OK; code <= THP_NO_REASON; code++) {
         WANT(strcmp(thp_strerror((thp_code)code), thp_strerror((thp_code)99)) != 0);
         for (int other = THP_OK; other < code; other++) {
             WANT(strcmp(thp_strerror((thp_code)code), thp_strerror((thp_code)other)) != 0);
@@ -40,7 +40,8 @@ static void numbers(void) {
         THP_OK, THP_NO_PAGE, THP_BAD_RANGE, THP_IS_SPLIT, THP_NOT_MAPPED, THP_GONE, THP_NOT_PINNED, THP_TOO_MANY, THP_CLOSED,
         THP_NO_BLOCK, THP_HAS_BATCH, THP_OUT_OF_MEMORY, THP_EMPTY, THP_IN_USE, THP_BAD_CALLER, THP_BAD_SIZE, THP_BAD_COUNT,
         THP_NO_BATCH, THP_BATCH_OPEN, THP_TOO_SMALL, THP_NULL, THP_ILLEGAL, THP_TEXT_TOO_LONG, THP_TEXT_BAD_BYTE, THP_TEXT_CUT,
-        THP_TEXT_BAD_WORD, THP_TEXT_BAD_COUNT, THP_TEXT_BAD_NUMBER, THP_TEXT_BAD_SET, THP_TEXT_BAD_ORDER, THP_BUSY, THP_BAD_PASS};
+        THP_TEXT_BAD_WORD, THP_TEXT_BAD_COUNT, THP_TEXT_BAD_NUMBER, THP_TEXT_BAD_SET, THP_TEXT_BAD_ORDER, THP_BUSY, THP_BAD_PASS,
+        THP_FINISHED, THP_NO_REASON};
     for (int at = 0; at < (int)(sizeof codes / sizeof *codes); at++) WANT((int)codes[at] == at);
 }
 
@@ -254,7 +255,6 @@ static void batches(void) {
     ANSWERS(thp_node_destroy(&node), THP_OK);
 }
 
-/* a page that is queued since it was allocated, and is found in use */
 /* batches of several callers on one node, each tried, returned and let go by its own; a page of one is freed by another's call */
 static void batches_of_callers(void) {
     enum { CALLERS = 64 };
@@ -300,6 +300,7 @@ static void batches_of_callers(void) {
     ANSWERS(thp_node_destroy(&node), THP_OK);
 }
 
+/* a page that is queued since it was allocated, and is found in use */
 static void underused(void) {
     thp_node node = EMPTY;
     uint64_t page;
@@ -424,8 +425,8 @@ int main(void) {
     limits();
     pages();
     batches();
-    underused();
     batches_of_callers();
+    underused();
     journals();
     texts();
     forked();

@@ -61,6 +61,10 @@ pub enum Fault {
     Busy = 30,
     /// The passes are of two nodes, or don't adjoin; or the pass hasn't all callers, or another is left.
     BadPass = 31,
+    /// The check is finished, and reads no more.
+    Finished = 32,
+    /// The check found no illegal event, or isn't finished.
+    NoReason = 33,
 }
 
 impl Fault {
@@ -69,7 +73,7 @@ impl Fault {
         Fault::TooMany, Fault::Closed, Fault::NoBlock, Fault::HasBatch, Fault::OutOfMemory, Fault::BadCaller,
         Fault::BadSize, Fault::BadCount, Fault::NoBatch, Fault::BatchOpen, Fault::TextTooLong, Fault::TextBadByte,
         Fault::TextCut, Fault::TextBadWord, Fault::TextBadCount, Fault::TextBadNumber, Fault::TextBadSet, Fault::TextBadOrder,
-        Fault::Busy, Fault::BadPass,
+        Fault::Busy, Fault::BadPass, Fault::Finished, Fault::NoReason,
     ];
 
     /// The fault of a code that isn't 0. Other codes can't come: what they tell is ruled out by this crate's types.

@@ -71,7 +71,7 @@ fn refusals_have_their_names() {
     assert_eq!(node.scan(0, 129), Err(Fault::BadCount));
     assert_eq!(node.abandon(0), Err(Fault::NoBatch));
     assert_eq!(Fault::NoPage.to_string(), "no such page");
-    assert_eq!(version(), "0.1.0");
+    assert_eq!(version(), "0.2.0");
 }
 
 #[test]

@@ -10,3 +10,6 @@ pub mod Sharing
 pub mod Passes
 pub mod PassBatches
 pub mod PassHandle
+pub mod CheckCodes
+pub mod LongChecks
+pub mod CheckHandle

@@ -507,7 +507,7 @@ pub extern "C" fn thp_c_node_journal(
 }
 
 // Writes the text to the front of the buffer, if it fits there.
-fn put(buffer: &mut [u8], text: &[u8]) -> Result<(), Fault>
+pub(crate) fn put(buffer: &mut [u8], text: &[u8]) -> Result<(), Fault>
     ensures written { OnOk result (buffer.new ≡ text.now ++ drop (length text.now) buffer.old) }
     ensures same { IfErr result (λ fault. buffer.new ≡ buffer.old) }
     ensures small { IfErr result (λ fault. length buffer.old < length text.now) }
