@@ -92,6 +92,8 @@ const char *thp_strerror(thp_code code) {
     case THP_TEXT_BAD_ORDER: return "a line out of place";
     case THP_BUSY: return "another pass has the node";
     case THP_BAD_PASS: return "the passes don't fit";
+    case THP_FINISHED: return "the check is finished";
+    case THP_NO_REASON: return "there is no reason to tell";
     case THP_NO_CODE: break;
     }
     return "no code of this library";
@@ -100,6 +102,11 @@ const char *thp_strerror(thp_code code) {
 /* ---- the proved functions, and the calls that test their pointers */
 
 uint32_t thp_c_check_text(const uint8_t *text, size_t length, uint32_t *line);
+uint32_t thp_c_check_create(thp_check *check);
+uint32_t thp_c_check_destroy(thp_check *check);
+uint32_t thp_c_check_read(thp_check *check, const uint8_t *part, size_t length);
+uint32_t thp_c_check_finish(thp_check *check, uint64_t *line);
+uint32_t thp_c_check_reason(thp_check *check, uint8_t *buffer, size_t capacity, size_t *size);
 uint32_t thp_c_node_create(thp_node *node, uint32_t blocks, uint32_t order, uint32_t underused);
 uint32_t thp_c_node_destroy(thp_node *node);
 uint32_t thp_c_node_alloc(thp_node *node, uint32_t caller, uint64_t *page);
@@ -148,6 +155,7 @@ uint32_t thp_c_pass_count(thp_pass *pass, uint32_t *pages);
 /* the proved functions lay their structs out as these do */
 _Static_assert(sizeof(thp_node) == 16 && offsetof(thp_node, live) == 8, "a handle is a pointer and a mark");
 _Static_assert(sizeof(thp_pass) == 16 && offsetof(thp_pass, live) == 8, "a handle is a pointer and a mark");
+_Static_assert(sizeof(thp_check) == 16 && offsetof(thp_check, live) == 8, "a handle is a pointer and a mark");
 _Static_assert(sizeof(thp_done) == 72 && offsetof(thp_done, released) == 8, "an outcome and eight words");
 _Static_assert(sizeof(thp_scan) == 24, "six numbers of 32 bits");
 _Static_assert(sizeof(thp_tried) == 16 && offsetof(thp_tried, page) == 8, "a kind and a page");
@@ -161,6 +169,31 @@ static uint8_t no_bytes;
 thp_code thp_check_text(const uint8_t *text, size_t length, uint32_t *line) {
     if ((text == NULL && length != 0) || line == NULL) return THP_NULL;
     return (thp_code)thp_c_check_text(text != NULL ? text : &no_bytes, length, line);
+}
+
+thp_code thp_check_create(thp_check *check) {
+    if (check == NULL) return THP_NULL;
+    return (thp_code)thp_c_check_create(check);
+}
+
+thp_code thp_check_destroy(thp_check *check) {
+    if (check == NULL) return THP_NULL;
+    return (thp_code)thp_c_check_destroy(check);
+}
+
+thp_code thp_check_read(thp_check *check, const uint8_t *part, size_t length) {
+    if (check == NULL || (part == NULL && length != 0)) return THP_NULL;
+    return (thp_code)thp_c_check_read(check, part != NULL ? part : &no_bytes, length);
+}
+
+thp_code thp_check_finish(thp_check *check, uint64_t *line) {
+    if (check == NULL || line == NULL) return THP_NULL;
+    return (thp_code)thp_c_check_finish(check, line);
+}
+
+thp_code thp_check_reason(thp_check *check, uint8_t *buffer, size_t capacity, size_t *size) {
+    if (check == NULL || (buffer == NULL && capacity != 0) || size == NULL) return THP_NULL;
+    return (thp_code)thp_c_check_reason(check, buffer != NULL ? buffer : &no_bytes, capacity, size);
 }
 
 thp_code thp_node_create(thp_node *node, uint32_t blocks, uint32_t order, uint32_t underused) {

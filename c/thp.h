@@ -10,10 +10,11 @@
  * What is checked: null pointers (THP_NULL), handles that lead to nothing, as before a create and behind a destroy
  * (THP_EMPTY), handles that are to be filled and are full (THP_IN_USE), callers' numbers, counts, pages, ranges and buffers.
  * A call that doesn't answer THP_OK leaves the node as it was, and what it would tell through its pointers, too. The exceptions
- * are thp_check_text, whose line is told but with THP_NULL, and the size that thp_node_journal tells with THP_TOO_SMALL.
+ * are thp_check_text, whose line is told but with THP_NULL, thp_check_finish, whose line is told with each verdict, and the size that
+ * thp_node_journal and thp_check_reason tell with THP_TOO_SMALL; and thp_check_read, which loses the check for want of memory.
  *
  * What a program owes, and nothing checks:
- *  - a handle is THP_NODE_INIT or THP_PASS_INIT (or zeros) before its first call; only these calls change it; of copies of it one is
+ *  - a handle is THP_NODE_INIT, THP_PASS_INIT or THP_CHECK_INIT (or zeros) before its first call; only these calls change it; of copies of it one is
  *    used;
  *  - a pointer is null or leads to what its type says, apart from all else that the call is given;
  *  - one call at a time has a handle, also a call that only reads. Different handles need no lock between them. A handle goes from
@@ -30,10 +31,10 @@
 #include <stdint.h>
 
 #define THP_VERSION_MAJOR 0 /**< the first number of THP_VERSION */
-#define THP_VERSION_MINOR 1 /**< its second number */
+#define THP_VERSION_MINOR 2 /**< its second number */
 #define THP_VERSION_PATCH 0 /**< its third number */
 /** @brief The version of this header; thp_version() tells that of the library. */
-#define THP_VERSION "0.1.0"
+#define THP_VERSION "0.2.0"
 
 #ifdef __cplusplus
 extern "C" {
@@ -61,7 +62,7 @@ typedef enum thp_code {
     THP_BAD_SIZE = 15,   /**< no node has this shape */
     THP_BAD_COUNT = 16,  /**< more than 128 pages were asked for */
     THP_NO_BATCH = 17,   /**< the caller has no batch open */
-    THP_BATCH_OPEN = 18, /**< a batch is open: on the node, or by the caller of a pass */
+    THP_BATCH_OPEN = 18, /**< the caller has a batch open */
     THP_TOO_SMALL = 19,  /**< the buffer is too small */
     THP_NULL = 20,       /**< a pointer is null */
     /* what the check of a text answers */
@@ -77,6 +78,9 @@ typedef enum thp_code {
     /* why the library didn't call a shared node */
     THP_BUSY = 30,    /**< another pass has the node: the call did nothing, and may be made again */
     THP_BAD_PASS = 31, /**< passes of two cells, or that don't adjoin; or the pass hasn't all callers, or isn't the last handle of its cell */
+    /* why the library didn't call a check */
+    THP_FINISHED = 32,  /**< the check is finished, and reads no more */
+    THP_NO_REASON = 33, /**< the check found no illegal event, or isn't finished */
     THP_NO_CODE = 0x7fffffff /**< never answered: it has the type hold each number of 31 bits, later codes too */
 } thp_code;
 
@@ -103,6 +107,15 @@ typedef struct thp_pass {
 
 /** @brief The handle of a pass that leads to nothing. */
 #define THP_PASS_INIT {NULL, 0}
+
+/** @brief The handle of a check of a text that comes in parts. Its fields are the library's. */
+typedef struct thp_check {
+    void *at;      /**< the library's */
+    uint32_t live; /**< the library's */
+} thp_check;
+
+/** @brief The handle of a check that leads to nothing. */
+#define THP_CHECK_INIT {NULL, 0}
 
 /** @brief As a threshold: the shrinker doesn't look for underused pages. */
 #define THP_UNDERUSED_OFF UINT32_MAX
@@ -198,6 +211,45 @@ thp_code thp_use_allocator(const thp_allocator *allocator);
 thp_code thp_check_text(const uint8_t *text, size_t length, uint32_t *line);
 
 /**
+ * @name The check of journals of any length
+ * The text comes in parts of any length, and of it no more is kept than what lives on the node at hand and the line begun. The verdict
+ * is that of thp_check_text, but of texts of any length, with lines of 64 bits and with the reason. Each call may also answer THP_NULL.
+ * @{
+ */
+/** @brief Makes a check to which nothing has come. @return THP_OK, THP_IN_USE, THP_OUT_OF_MEMORY */
+thp_code thp_check_create(thp_check *check);
+/** @brief Gives the check and all its memory back, and leaves the handle empty. @return THP_OK, THP_EMPTY */
+thp_code thp_check_destroy(thp_check *check);
+/**
+ * @brief Reads the next part of the text. Faults and illegal events are told by the finish alone.
+ * @param check the check
+ * @param part the part; it may be null where length is 0
+ * @param length its bytes
+ * @return THP_OK; THP_EMPTY; THP_FINISHED; THP_OUT_OF_MEMORY, and the check is lost: its memory was given back, and the handle is
+ *         empty
+ */
+thp_code thp_check_read(thp_check *check, const uint8_t *part, size_t length);
+/**
+ * @brief Tells the verdict on the text that came, which is the whole text: the check is finished then, if it isn't yet. It takes no
+ * memory, and answers the same each time.
+ * @param check the check
+ * @param[out] line with THP_ILLEGAL the line of the first event that doesn't fit, with THP_TEXT_.. that of the first fault, with THP_OK 0
+ * @return THP_OK, THP_ILLEGAL, THP_TEXT_.., THP_EMPTY
+ */
+thp_code thp_check_finish(thp_check *check, uint64_t *line);
+/**
+ * @brief Behind a finish that answered THP_ILLEGAL, why the event doesn't fit: the text that `thpcheck --explain` writes (docs/FORMATS.md,
+ * explanations). No byte is written behind it.
+ * @param check the check
+ * @param[out] buffer where the text goes, if it fits; it may be null where capacity is 0
+ * @param capacity the buffer's bytes; with 0 the call is the question how many are wanted
+ * @param[out] size the text's bytes, with THP_OK and THP_TOO_SMALL
+ * @return THP_OK, THP_EMPTY, THP_NO_REASON, THP_TOO_SMALL, THP_OUT_OF_MEMORY
+ */
+thp_code thp_check_reason(thp_check *check, uint8_t *buffer, size_t capacity, size_t *size);
+/** @} */
+
+/**
  * @brief Makes a node with no page.
  * @param[out] node an empty handle, which is filled
  * @param blocks 1 to 4,096: the most pages that live at a time
@@ -242,8 +294,8 @@ thp_code thp_node_close(thp_node *node, uint32_t caller);
 
 /**
  * @name The shrinker
- * A batch is what one take got, and the caller's that took it; one is open on a node at a time. Each call may also answer
- * THP_EMPTY and THP_NULL.
+ * A batch is what one take got, and the caller's that took it: each caller may have one open. Pages of it may be freed by calls on the
+ * node before they are tried, and are passed over then. Each call may also answer THP_EMPTY and THP_NULL.
  * @{
  */
 /**
@@ -252,17 +304,20 @@ thp_code thp_node_close(thp_node *node, uint32_t caller);
  */
 thp_code thp_node_scan(thp_node *node, uint32_t caller, uint32_t n, thp_scan *scan);
 /**
- * @brief Takes up to n pages, the oldest first, into a batch, which is open then.
+ * @brief Takes up to n pages, the oldest first, into a batch of the caller, which is open then.
  * @param node the node
  * @param caller the caller's number, below 64
  * @param n the most pages, at most 128
  * @param[out] count how many it got
- * @return THP_OK, THP_BAD_CALLER, THP_BAD_COUNT (n above 128), THP_BATCH_OPEN, THP_HAS_BATCH, THP_OUT_OF_MEMORY
+ * @return THP_OK, THP_BAD_CALLER, THP_BAD_COUNT (n above 128), THP_BATCH_OPEN (the caller has one), THP_HAS_BATCH, THP_OUT_OF_MEMORY
  */
 thp_code thp_node_take(thp_node *node, uint32_t caller, uint32_t n, uint32_t *count);
-/** @brief Tries the next page of the caller's open batch. @return THP_OK, THP_NO_BATCH, THP_OUT_OF_MEMORY */
+/** @brief Tries the next page of the caller's open batch that is still in flight. @return THP_OK, THP_NO_BATCH, THP_OUT_OF_MEMORY */
 thp_code thp_node_split_next(thp_node *node, uint32_t caller, thp_tried *tried);
-/** @brief Returns the pages that are left of the caller's open batch, and closes it. @return THP_OK, THP_NO_BATCH, THP_OUT_OF_MEMORY */
+/**
+ * @brief Returns the pages that are left of the caller's open batch, and closes it; with another code than THP_OK it stays open.
+ * @return THP_OK, THP_NO_BATCH, THP_OUT_OF_MEMORY
+ */
 thp_code thp_node_put_back(thp_node *node, uint32_t caller, thp_back *back);
 /**
  * @brief Closes the caller's open batch, and leaves its pages in flight, out of the queue: nothing takes them out of it any more
@@ -318,8 +373,8 @@ thp_code thp_node_journal(thp_node *node, uint8_t *buffer, size_t capacity, size
 thp_code thp_cell_create(thp_pass *pass, uint32_t blocks, uint32_t order, uint32_t underused, uint32_t callers);
 /**
  * @brief Takes the cell apart and gives its node to a node's handle, whose journal is the one legal history of all that the passes
- * did. The pass has all callers, as after the joins, none of which has a batch open, and every other handle of the cell leads to
- * nothing.
+ * did, and on which no caller has a batch open. The pass has all callers, as after the joins, none of which has a batch open, and every
+ * other handle of the cell leads to nothing.
  * @param pass the cell's one pass
  * @param[out] node an empty handle, which is filled; the pass's is emptied
  * @return THP_OK, THP_IN_USE, THP_BAD_PASS, THP_BATCH_OPEN, THP_OUT_OF_MEMORY

@@ -1,5 +1,7 @@
-"""Builds the archive of the library for C from the libraries that `rt ci` has proved and left: `rt ci` proves crates/thp_c, but
-builds nothing of it, and `rt lib` would prove all libraries below it once more.
+"""Builds the archive of the library for C from the libraries that `rt ci` has proved and left: `rt ci` proves crates/thp_c from
+nothing, but builds nothing of it, and `rt lib` would prove all libraries below it once more. The build begins with what `rt check`,
+or a build before, kept in the crate's folder: so where nothing changed since it proves nothing twice. The gate's word on the crate's
+proof is `rt ci`'s alone.
 
     python3 tests/archive.py TO
 """
@@ -37,6 +39,7 @@ def words(kit: Path, to: Path) -> list[str]:
     for path in (kit / "rlibs", *(path.parent for path in built.values())):
         found += ["-L", f"dependency={path}"]
     found += ["--antt-project", f"{kit}/rattle/logic/antt-project.json", "--logic-built", f"{kit}/logic_built"]
+    found += ["--incremental", str(ROOT / "crates" / NAME / "out/incremental")]
     found += ["--toolchain", f"{kit}/toolchain", "--links", f"{NAME}=", "--backend", "llvm"]
     return [*found, "--jobs", str(min(4, len(os.sched_getaffinity(0)))), "-o", str(to)]
 

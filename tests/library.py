@@ -18,7 +18,8 @@ from functools import cache
 from pathlib import Path
 from random import Random
 
-from random_texts import Script, joined, script_of_one
+from random_texts import Script, joined, likely_words, operands, random_shapes, script_of_one
+from script import Run
 from tally import Missing, Tally
 
 ROOT = Path(__file__).resolve().parent.parent
@@ -39,6 +40,7 @@ TYPES = {
     "thp_scan *": "scan", "thp_tried *": "tried", "thp_back *": "back", "thp_stats *": "stats", "const uint8_t *": "u8*",
     "uint8_t *": "u8*", "uint32_t": "u32", "uint64_t": "u64", "size_t": "usize", "thp_code": "u32", "const thp_allocator *": "allocator",
     "thp_pass *": "pass", "&mut ThpPass": "pass", "*mut PassHandle": "pass", "&mut ThpNode": "handle",
+    "thp_check *": "check", "&mut ThpCheck": "check", "*mut CheckHandle": "check",
     "&mut u32": "u32*", "&mut u64": "u64*", "&mut usize": "usize*", "&mut ThpDone": "done",
     "&mut ThpScan": "scan", "&mut ThpTried": "tried", "&mut ThpBack": "back", "&mut ThpStats": "stats", "u32": "u32", "u64": "u64",
     "usize": "usize", "*mut Handle": "handle", "*mut u32": "u32*", "*mut u64": "u64*", "*mut usize": "usize*",
@@ -47,7 +49,7 @@ TYPES = {
 }
 """A type in C, in Rattle or in Rust, and one word for it."""
 
-HANDLES = {"&mut ThpNode": "node", "&mut ThpPass": "pass"}
+HANDLES = {"&mut ThpNode": "node", "&mut ThpPass": "pass", "&mut ThpCheck": "check"}
 """What the header calls the handle that a proved function is about."""
 
 OWN = {"thp_cell_create": [("mark", "u64")]}
@@ -243,6 +245,16 @@ class Built:
         asked = {"THP_PROGRAM": str(program), "THP_CASES": str(cases), "THP_SEED": str(seed)}
         return called(words, ROOT / "rust", THP_LIB=str(self.folder), **asked)
 
+    def many_batches(self, cases: int, seed: int) -> str | None:
+        """Batches of several callers on one node, by nodes and by passes, do what a plain reading of the model says."""
+        replay = self.folder / "replay"
+        wrong = called(["cc", "-std=c11", "-O1", "-I.", "tests/replay.c", self.folder / "libthp.a", "-o", replay], C)
+        for case in range(cases if wrong is None else 0):
+            wrong = differs_on_batches(replay, Random(f"batches {seed} {case}"))
+            if wrong is not None:
+                return f"case {case} of seed {seed}: {wrong}"
+        return wrong
+
     def same_answers(self, program: Path, cases: int, seed: int) -> str | None:
         """The library answers random scripts as the program does, by nodes and by passes of shared ones, and has the same journals."""
         replay = self.folder / "replay"
@@ -277,6 +289,32 @@ def differs(replay: Path, program: Path, script: Script, options: list[str]) -> 
     return None
 
 
+def differs_on_batches(replay: Path, chance: Random) -> str | None:
+    """What the library does otherwise than the model where callers of one node take turns, each with its own open batch."""
+    shape = random_shapes(chance, 1)[0]
+    run, callers = Run([shape]), sorted(chance.sample(range(64), chance.choice((2, 3, 8))))
+    open_by: dict[int, dict[int, list[int]]] = {caller: {} for caller in callers}
+    lines: list[str] = []
+    for index in range(1, chance.randrange(300) + 1):
+        caller = chance.choice(callers)
+        run.batches = open_by[caller]
+        word = chance.choice(likely_words(run, 0))
+        line = " ".join((word, "0", *operands(chance, word, run.nodes[0])))
+        run.line(caller, index, line)
+        lines += [f"as {caller}", line]
+    for caller in callers:
+        run.batches = open_by[caller]
+        run.end(caller)
+    wanted = joined([*run.answers, *run.journal()])
+    told = f"{shape[1]},{'off' if shape[2] is None else shape[2]}"
+    for way in ("nodes", "passes"):
+        ended = subprocess.run([replay, way, str(shape[0]), told], input=joined(lines), capture_output=True, check=False)
+        if ended.returncode != 0 or ended.stdout != wanted:
+            pairs = zip(ended.stdout.splitlines() + [b"(end)"], wanted.splitlines() + [b"(end)"])
+            return f"by {way}: {next((pair for pair in pairs if pair[0] != pair[1]), ended.stderr)!r}"
+    return None
+
+
 ASKED = {"malloc", "realloc", "free", "memcpy", "memmove", "memset", "memcmp"}
 """What the library may ask of the C library."""
 
@@ -291,7 +329,10 @@ BUILDS = (
 )
 """How the tests in C are built."""
 
-TESTS = ("tests/calls.c", "tests/refused.c", "tests/interrupted.c", "tests/passes.c", "tests/busy.c", "demos/threads.c", "demos/cell.c")
+TESTS = (
+    "tests/calls.c", "tests/checks.c", "tests/refused.c", "tests/interrupted.c", "tests/passes.c", "tests/busy.c", "demos/threads.c",
+    "demos/cell.c",
+)
 
 RACING = ["-std=gnu11", "-fsanitize=thread"]
 """How what has threads is built to find what two of them do to one place."""
@@ -345,6 +386,7 @@ def main() -> None:
         with tempfile.TemporaryDirectory(prefix="thp-library-") as folder:
             built = Built(asked.archive.resolve(), Path(folder))
             builds(tally, built)
+            tally.run(f"{asked.cases} times batches of several callers", lambda: built.many_batches(asked.cases, asked.seed))
             if asked.program is not None:
                 program = asked.program.resolve()
                 tally.run(f"{asked.cases} random scripts", lambda: built.same_answers(program, asked.cases, asked.seed))

@@ -26,7 +26,7 @@ static uint64_t queued_page(thp_node *node, uint32_t caller) {
 
 static void words(void) {
     WANT(strcmp(thp_version(), THP_VERSION) == 0);
-    for (int code = THP_OK; code <= THP_BAD_PASS; code++) {
+    for (int code = THP_OK; code <= THP_NO_REASON; code++) {
         WANT(strcmp(thp_strerror((thp_code)code), thp_strerror((thp_code)99)) != 0);
         for (int other = THP_OK; other < code; other++) {
             WANT(strcmp(thp_strerror((thp_code)code), thp_strerror((thp_code)other)) != 0);
@@ -40,7 +40,8 @@ static void numbers(void) {
         THP_OK, THP_NO_PAGE, THP_BAD_RANGE, THP_IS_SPLIT, THP_NOT_MAPPED, THP_GONE, THP_NOT_PINNED, THP_TOO_MANY, THP_CLOSED,
         THP_NO_BLOCK, THP_HAS_BATCH, THP_OUT_OF_MEMORY, THP_EMPTY, THP_IN_USE, THP_BAD_CALLER, THP_BAD_SIZE, THP_BAD_COUNT,
         THP_NO_BATCH, THP_BATCH_OPEN, THP_TOO_SMALL, THP_NULL, THP_ILLEGAL, THP_TEXT_TOO_LONG, THP_TEXT_BAD_BYTE, THP_TEXT_CUT,
-        THP_TEXT_BAD_WORD, THP_TEXT_BAD_COUNT, THP_TEXT_BAD_NUMBER, THP_TEXT_BAD_SET, THP_TEXT_BAD_ORDER, THP_BUSY, THP_BAD_PASS};
+        THP_TEXT_BAD_WORD, THP_TEXT_BAD_COUNT, THP_TEXT_BAD_NUMBER, THP_TEXT_BAD_SET, THP_TEXT_BAD_ORDER, THP_BUSY, THP_BAD_PASS,
+        THP_FINISHED, THP_NO_REASON};
     for (int at = 0; at < (int)(sizeof codes / sizeof *codes); at++) WANT((int)codes[at] == at);
 }
 
@@ -254,6 +255,51 @@ static void batches(void) {
     ANSWERS(thp_node_destroy(&node), THP_OK);
 }
 
+/* batches of several callers on one node, each tried, returned and let go by its own; a page of one is freed by another's call */
+static void batches_of_callers(void) {
+    enum { CALLERS = 64 };
+    thp_node node = small_node(CALLERS);
+    uint32_t count, length;
+    thp_tried tried;
+    thp_back back;
+    thp_done done;
+    thp_scan scan;
+    for (uint64_t k = 0; k < CALLERS; k++) WANT(queued_page(&node, 0) == k);
+    ANSWERS(thp_node_pin(&node, 0, 3), THP_OK);
+    for (uint32_t c = 0; c < CALLERS; c++) {
+        ANSWERS(thp_node_take(&node, c, 1, &count), THP_OK);
+        WANT(count == 1);
+    }
+    ANSWERS(thp_node_queue_length(&node, &length), THP_OK);
+    WANT(length == 0);
+    for (uint32_t c = 0; c < CALLERS; c++) {
+        ANSWERS(thp_node_take(&node, c, 0, &count), THP_BATCH_OPEN);
+        ANSWERS(thp_node_scan(&node, c, 1, &scan), THP_HAS_BATCH);
+    }
+    ANSWERS(thp_node_unmap_sub(&node, 9, 5, 1, 3, &done), THP_OK);
+    WANT(done.outcome == THP_FREED);
+    ANSWERS(thp_node_put_back(&node, 7, &back), THP_OK);
+    WANT(back.back == 1 && back.dropped == 0);
+    ANSWERS(thp_node_put_back(&node, 7, &back), THP_NO_BATCH);
+    ANSWERS(thp_node_abandon(&node, 8), THP_OK);
+    ANSWERS(thp_node_abandon(&node, 8), THP_NO_BATCH);
+    ANSWERS(thp_node_take(&node, 8, 1, &count), THP_HAS_BATCH);
+    for (uint32_t c = CALLERS; c-- > 0;) {
+        if (c == 7 || c == 8) continue;
+        ANSWERS(thp_node_split_next(&node, c, &tried), THP_OK);
+        WANT(tried.kind == (c == 3 ? THP_TRY_PINNED : c == 5 ? THP_TRY_DONE : THP_TRY_SPLIT));
+        WANT(tried.page == (c == 5 ? 0 : c));
+        ANSWERS(thp_node_put_back(&node, c, &back), THP_OK);
+        WANT(back.back == (c == 3) && back.dropped == 0);
+    }
+    ANSWERS(thp_node_split_next(&node, CALLERS, &tried), THP_NO_BATCH);
+    ANSWERS(thp_node_put_back(&node, UINT32_MAX, &back), THP_NO_BATCH);
+    ANSWERS(thp_node_abandon(&node, CALLERS), THP_NO_BATCH);
+    ANSWERS(thp_node_take(&node, 7, 128, &count), THP_OK);
+    WANT(count == 2);
+    ANSWERS(thp_node_destroy(&node), THP_OK);
+}
+
 /* a page that is queued since it was allocated, and is found in use */
 static void underused(void) {
     thp_node node = EMPTY;
@@ -379,6 +425,7 @@ int main(void) {
     limits();
     pages();
     batches();
+    batches_of_callers();
     underused();
     journals();
     texts();

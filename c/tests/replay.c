@@ -4,7 +4,8 @@
  *     replay nodes|passes BLOCKS ORDER,UNDERUSED ..
  *
  * a word for each node, UNDERUSED a threshold or off. The script has no fault, and its sections are done one after the other. With
- * `passes` each node is shared by two, which are joined and divided elsewhere before each command. */
+ * `passes` each node is shared by two, which are joined and divided elsewhere before each command. Beside the script's own lines there
+ * may be `as CALLER`: what follows is that caller's, and the others keep their open batches. */
 #include <inttypes.h>
 #include <stdbool.h>
 #include <stdio.h>
@@ -20,7 +21,7 @@ typedef struct place {
     thp_pass lower, upper; /* the callers below `at`, and those from it on */
     uint32_t at;
     bool tells_used;
-    bool is_open; /* the section's caller has an open batch here */
+    bool is_open[CALLERS]; /* the caller has an open batch here */
 } place;
 
 static place places[NODES];
@@ -107,7 +108,7 @@ static void command(uint32_t caller, char *words[WORDS]) {
         if (code == THP_OK) printf("count %" PRIu32 "\n", pages);
     } else if (strcmp(word, "scan") == 0) {
         thp_scan scan;
-        code = at->is_open ? THP_HAS_BATCH : ASK(scan, caller, (uint32_t)number, &scan);
+        code = at->is_open[caller] ? THP_HAS_BATCH : ASK(scan, caller, (uint32_t)number, &scan);
         if (code == THP_OK) {
             printf("taken %" PRIu32 " split %" PRIu32 " pinned %" PRIu32 " back %" PRIu32 " dropped %" PRIu32, scan.taken,
                    scan.split, scan.pinned, scan.back, scan.dropped);
@@ -119,7 +120,7 @@ static void command(uint32_t caller, char *words[WORDS]) {
         code = ASK(take, caller, (uint32_t)number, &taken);
         if (code == THP_OK) {
             printf("taken %" PRIu32 "\n", taken);
-            at->is_open = true;
+            at->is_open[caller] = true;
         }
         if (code == THP_BATCH_OPEN) code = THP_HAS_BATCH;
     } else if (strcmp(word, "splitnext") == 0) {
@@ -131,7 +132,7 @@ static void command(uint32_t caller, char *words[WORDS]) {
         code = ASK(put_back, caller, &back);
         if (code == THP_OK) {
             printf("back %" PRIu32 " dropped %" PRIu32 "\n", back.back, back.dropped);
-            at->is_open = false;
+            at->is_open[caller] = false;
         }
     } else {
         if (strcmp(word, "mapwhole") == 0) code = ASK(map_whole, caller, number);
@@ -149,15 +150,15 @@ static void command(uint32_t caller, char *words[WORDS]) {
     else if (code != THP_OK) fail(thp_strerror(code));
 }
 
-/* at a section's end its open batches go back */
+/* the caller's open batches go back, as at a section's end */
 static void end_section(uint32_t caller) {
     for (size_t n = 0; n < nodes; n++) {
-        if (!places[n].is_open) continue;
+        if (!places[n].is_open[caller]) continue;
         thp_back back;
         thp_node *node = &places[n].node;
         thp_pass *pass = pass_of(&places[n], caller);
         if (ASK(put_back, caller, &back) != THP_OK) fail("no put-back");
-        places[n].is_open = false;
+        places[n].is_open[caller] = false;
     }
 }
 
@@ -213,10 +214,14 @@ int main(int argc, char **argv) {
             count = 0;
             continue;
         }
+        if (strcmp(words[0], "as") == 0) {
+            caller = found > 1 ? (uint32_t)strtoul(words[1], NULL, 10) : 0;
+            continue;
+        }
         printf("%" PRIu32 " %" PRIu32 " ", caller, ++count);
         command(caller, words);
     }
-    end_section(caller);
+    for (caller = 0; caller < CALLERS; caller++) end_section(caller);
     for (size_t n = 0; n < nodes; n++) {
         if (by_passes) finish(&places[n]);
         end_node(&places[n].node, nodes == 1);

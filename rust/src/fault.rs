@@ -39,7 +39,7 @@ pub enum Fault {
     BadCount = 16,
     /// The caller has no batch open.
     NoBatch = 17,
-    /// A batch is open: on the node, or by the caller of a pass.
+    /// The caller has a batch open.
     BatchOpen = 18,
     /// The text is longer than 16,777,216 bytes.
     TextTooLong = 22,
@@ -61,15 +61,19 @@ pub enum Fault {
     Busy = 30,
     /// The passes are of two nodes, or don't adjoin; or the pass hasn't all callers, or another is left.
     BadPass = 31,
+    /// The check is finished, and reads no more.
+    Finished = 32,
+    /// The check found no illegal event, or isn't finished.
+    NoReason = 33,
 }
 
 impl Fault {
-    const ALL: [Fault; 26] = [
+    const ALL: [Fault; 28] = [
         Fault::NoPage, Fault::BadRange, Fault::IsSplit, Fault::NotMapped, Fault::Gone, Fault::NotPinned,
         Fault::TooMany, Fault::Closed, Fault::NoBlock, Fault::HasBatch, Fault::OutOfMemory, Fault::BadCaller,
         Fault::BadSize, Fault::BadCount, Fault::NoBatch, Fault::BatchOpen, Fault::TextTooLong, Fault::TextBadByte,
         Fault::TextCut, Fault::TextBadWord, Fault::TextBadCount, Fault::TextBadNumber, Fault::TextBadSet, Fault::TextBadOrder,
-        Fault::Busy, Fault::BadPass,
+        Fault::Busy, Fault::BadPass, Fault::Finished, Fault::NoReason,
     ];
 
     /// The fault of a code that isn't 0. Other codes can't come: what they tell is ruled out by this crate's types.

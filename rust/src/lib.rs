@@ -22,6 +22,7 @@
 
 mod batch;
 mod cell;
+mod check;
 mod fault;
 mod node;
 mod pass;
@@ -30,6 +31,7 @@ mod sys;
 
 pub use batch::{Batch, HasBatches};
 pub use cell::Cell;
+pub use check::Check;
 pub use fault::Fault;
 pub use node::{Back, Done, Node, Outcome, Scan, Stats, SubSet, Tried};
 pub use pass::Pass;
@@ -44,15 +46,30 @@ pub enum Verdict {
     /// The event of this line doesn't.
     Illegal {
         /// The line, from 1 on.
-        line: u32,
+        line: u64,
     },
     /// The text isn't one of journals.
     Faulty {
         /// The line of the first fault, from 1 on; 0 where the text is too long.
-        line: u32,
+        line: u64,
         /// Its kind.
         fault: Fault,
     },
+}
+
+impl Verdict {
+    // The verdict of a code and its line. The error is want of memory.
+    pub(crate) fn of(code: u32, line: u64) -> Result<Verdict, Fault> {
+        const ILLEGAL: u32 = 21;
+        match code {
+            0 => Ok(Verdict::Legal),
+            ILLEGAL => Ok(Verdict::Illegal { line }),
+            code => match Fault::of(code) {
+                Fault::OutOfMemory => Err(Fault::OutOfMemory),
+                fault => Ok(Verdict::Faulty { line, fault }),
+            },
+        }
+    }
 }
 
 /// Whether the journals that a text tells are legal. The error is want of memory.
@@ -66,17 +83,10 @@ pub enum Verdict {
 /// # Ok::<(), Fault>(())
 /// ```
 pub fn check(text: &[u8]) -> Result<Verdict, Fault> {
-    const ILLEGAL: u32 = 21;
     let mut line = 0;
     // SAFETY: the pointer and the length are those of one slice, and the line is a local.
-    match unsafe { sys::thp_check_text(text.as_ptr(), text.len(), &mut line) } {
-        0 => Ok(Verdict::Legal),
-        ILLEGAL => Ok(Verdict::Illegal { line }),
-        code => match Fault::of(code) {
-            Fault::OutOfMemory => Err(Fault::OutOfMemory),
-            fault => Ok(Verdict::Faulty { line, fault }),
-        },
-    }
+    let code = unsafe { sys::thp_check_text(text.as_ptr(), text.len(), &mut line) };
+    Verdict::of(code, u64::from(line))
 }
 
 /// The version of the library that is linked.

@@ -25,6 +25,18 @@ impl PassHandle {
     pub const EMPTY: PassHandle = PassHandle { at: std::ptr::null_mut(), live: 0 };
 }
 
+/// A check's handle.
+#[repr(C)]
+pub struct CheckHandle {
+    at: *mut u8,
+    live: u32,
+}
+
+impl CheckHandle {
+    /// The handle that leads to nothing.
+    pub const EMPTY: CheckHandle = CheckHandle { at: std::ptr::null_mut(), live: 0 };
+}
+
 #[repr(C)]
 #[derive(Default)]
 pub struct Done {
@@ -74,6 +86,7 @@ pub struct Stats {
 
 const _: () = assert!(std::mem::size_of::<Handle>() == 2 * std::mem::size_of::<usize>());
 const _: () = assert!(std::mem::size_of::<PassHandle>() == 2 * std::mem::size_of::<usize>());
+const _: () = assert!(std::mem::size_of::<CheckHandle>() == 2 * std::mem::size_of::<usize>());
 const _: () = assert!(std::mem::size_of::<Done>() == 72);
 const _: () = assert!(std::mem::size_of::<Scan>() == 24);
 const _: () = assert!(std::mem::size_of::<Tried>() == 16);
@@ -84,6 +97,11 @@ extern "C" {
     pub fn thp_strerror(code: u32) -> *const c_char;
     pub fn thp_version() -> *const c_char;
     pub fn thp_check_text(text: *const u8, length: usize, line: *mut u32) -> u32;
+    pub fn thp_check_create(check: *mut CheckHandle) -> u32;
+    pub fn thp_check_destroy(check: *mut CheckHandle) -> u32;
+    pub fn thp_check_read(check: *mut CheckHandle, part: *const u8, length: usize) -> u32;
+    pub fn thp_check_finish(check: *mut CheckHandle, line: *mut u64) -> u32;
+    pub fn thp_check_reason(check: *mut CheckHandle, buffer: *mut u8, capacity: usize, size: *mut usize) -> u32;
     pub fn thp_node_create(node: *mut Handle, blocks: u32, order: u32, underused: u32) -> u32;
     pub fn thp_node_destroy(node: *mut Handle) -> u32;
     pub fn thp_node_alloc(node: *mut Handle, caller: u32, page: *mut u64) -> u32;

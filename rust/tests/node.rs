@@ -1,5 +1,5 @@
 //! Each call of the crate, and what it answers.
-use leversorrel::{check, version, Fault, Node, Outcome, Tried, Verdict};
+use leversorrel::{check, version, Back, Fault, Node, Outcome, Tried, Verdict};
 
 #[test]
 fn a_page_is_queued_and_split() -> Result<(), Fault> {
@@ -71,7 +71,7 @@ fn refusals_have_their_names() {
     assert_eq!(node.scan(0, 129), Err(Fault::BadCount));
     assert_eq!(node.abandon(0), Err(Fault::NoBatch));
     assert_eq!(Fault::NoPage.to_string(), "no such page");
-    assert_eq!(version(), "0.1.0");
+    assert_eq!(version(), "0.2.0");
 }
 
 #[test]
@@ -93,5 +93,30 @@ fn a_journal_is_legal() -> Result<(), Fault> {
     assert_eq!(check(&text)?, Verdict::Legal);
     assert_eq!(check(&text[..text.len() - 1])?, Verdict::Faulty { line: 5, fault: Fault::TextCut });
     assert_eq!(check(b"")?, Verdict::Faulty { line: 1, fault: Fault::TextCut });
+    Ok(())
+}
+
+#[test]
+fn each_caller_has_a_batch() -> Result<(), Fault> {
+    let mut node = Node::new(4, 2, None)?;
+    for caller in 0..4 {
+        let page = node.alloc(caller)?;
+        node.split_pmd(caller, page)?;
+        node.unmap_sub(caller, page, 0, 2)?;
+    }
+    for caller in 0..4 {
+        assert_eq!(node.take(caller, 1)?, 1);
+        assert_eq!(node.take(caller, 1), Err(Fault::BatchOpen));
+    }
+    node.unmap_sub(0, 2, 2, 2)?;
+    assert_eq!(node.split_next(3)?, Tried::Split(3));
+    assert_eq!(node.split_next(2)?, Tried::Done);
+    assert_eq!(node.put_back(1)?, Back { back: 1, dropped: 0 });
+    assert_eq!(node.put_back(1), Err(Fault::NoBatch));
+    node.abandon(0)?;
+    assert_eq!(node.batch(0, 1).err(), Some(Fault::HasBatch));
+    assert_eq!(node.batch(1, 1)?.taken(), 1);
+    assert_eq!(node.put_back(2)?, Back { back: 0, dropped: 0 });
+    assert_eq!(check(&node.journal()?)?, Verdict::Legal);
     Ok(())
 }

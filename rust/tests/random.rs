@@ -3,12 +3,12 @@
 //!
 //! A sequence is made call by call on nodes of this crate, or by passes of shared ones, and written down as a script. The program's
 //! answers to the script are to be the same, so are each node's numbers, and so is the journal where there is one node. The check
-//! finds each journal legal.
+//! finds each journal legal, and of journals that are spoilt it tells the same as the check of texts that come in parts.
 use std::env;
 use std::io::{self, Write};
 use std::process::{Command, Stdio};
 
-use leversorrel::{check, Done, Fault, Node, Outcome, Pass, SubSet, Tried, Verdict};
+use leversorrel::{check, Check, Done, Fault, Node, Outcome, Pass, SubSet, Tried, Verdict};
 
 /// Numbers that look random, the same ones for the same seed: SplitMix64.
 struct Chance(u64);
@@ -451,6 +451,7 @@ impl Sequence {
             if check(&journal) != Ok(Verdict::Legal) {
                 return Some(format!("the journal of node {number} isn't legal"));
             }
+            wrong = wrong.or_else(|| differing_in_parts(&mut Chance(self.calls as u64), &journal));
             if self.places.len() == 1 {
                 let journal = String::from_utf8(journal).unwrap();
                 wrong = wrong.or_else(|| differing(&journal, &self.report(program, "journal")));
@@ -458,6 +459,35 @@ impl Sequence {
         }
         wrong
     }
+}
+
+/// A journal with a line left out, twice there, or of another place: of it, and of its front, the two checks are to tell the same.
+fn differing_in_parts(chance: &mut Chance, journal: &[u8]) -> Option<String> {
+    let lines: Vec<&[u8]> = journal.split_inclusive(|&byte| byte == b'\n').collect();
+    let (at, other) = (chance.next() as usize % lines.len(), chance.next() as usize % lines.len());
+    let mut spoilt = lines.clone();
+    match chance.below(4) {
+        0 => drop(spoilt.remove(at)),
+        1 => spoilt.insert(other, lines[at]),
+        2 => spoilt.swap(at, other),
+        _ => {}
+    }
+    let text = spoilt.concat();
+    let text = &text[..if chance.below(4) == 0 { chance.next() as usize % (text.len() + 1) } else { text.len() }];
+    let mut by_parts = Check::new().unwrap();
+    let mut left = text;
+    while !left.is_empty() {
+        let (part, more) = left.split_at(left.len().min(1 + chance.below(200) as usize));
+        by_parts.read(part).unwrap();
+        left = more;
+    }
+    let (one, other) = (by_parts.finish(), check(text));
+    let reason = by_parts.reason();
+    let is_told = match one {
+        Ok(Verdict::Illegal { line }) => reason.as_ref().is_ok_and(|text| text.starts_with(&format!("line {line}: "))),
+        _ => reason == Err(Fault::NoReason),
+    };
+    (one != other || !is_told).then(|| format!("{one:?} in place of {other:?}, and {reason:?}, of {:?}", String::from_utf8_lossy(text)))
 }
 
 /// The first line that two texts have otherwise.

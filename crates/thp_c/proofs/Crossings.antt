@@ -36,7 +36,7 @@ use Rattle.thp_c.specs.contracts.node_handle.ThpNode.{the_row, the_type}
 table_send : IsSend PageTable.the_row
 table_send = view_send in_table.the_row _ _ _ _ (declared_send in_table.the_type (search (sendable, crosses) depth 30, (search (sendable, crosses) depth 30, (Vec-send _ descriptor.the_send, (search (sendable, crosses) depth 30, tt)))))
 
-places_send : IsSend Places.the_row
+pub places_send : IsSend Places.the_row
 places_send = view_send in_places.the_row _ _ _ _ (declared_send in_places.the_type (table_send, (search (sendable, crosses) depth 30, tt)))
 
 blocks_send : IsSend Blocks.the_row

@@ -10,7 +10,7 @@ use Rattle.thp_c.specs.Replies.{LoseCall, MasksSet, outcome_number}
 use Rattle.thp_c.specs.declared.replies.ThpDone.{ThpDone}
 
 pub lost : (caller : ℕ) (call : Call) (p : ℕ) (what : Outcome → List Bool → What) (old new : EngineState) (d : Done) (t : ThpDone)
-    → new.batch ≡ old.batch → Allowed old call → Loses caller what old new d → TellsOutcome p old new d → TellsReleased p old new d
+    → new.batches ≡ old.batches → Allowed old call → Loses caller what old new d → TellsOutcome p old new d → TellsReleased p old new d
     → t.outcome ≡ outcome_number d.outcome → MasksSet t.released d.released
     → LoseCall caller call p what old new (Ok t)
 lost caller call p what old new d t batch allowed did becomes gives number mask =

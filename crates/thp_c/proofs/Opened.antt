@@ -1,9 +1,8 @@
 -- Passes and the open batches of their callers: what calls keep, and where a caller's batch is found.
-use Rattle.std.proofs.Common.{◌≡◌, ◌∙◌, ◌≢◌, ◌++◌, ◌+◌, ◌-◌, ◌<◌, ◌≤◌, ◌==◌, ap, ℕ, Bool, true, false, List, length, refl, sym, subst, arith, length-append, length-drop, Option, Some, None, Ok, Err, set, get_or, take, drop, unwrap_or}
+use Rattle.std.proofs.Common.{◌≡◌, ◌∙◌, ◌≢◌, ◌++◌, ◌+◌, ◌-◌, ◌<◌, ◌≤◌, ap, ℕ, Bool, true, false, length, refl, sym, subst, arith, length-append, length-drop, Option, Some, None, Ok, Err, set, get_or, take, drop}
 use Rattle.std.specs.Prelude.{nat_le}
-use Rattle.std.proofs.lemmas.Bool.{eqb-true, eqb-false}
 use Rattle.std.proofs.lemmas.Bool.Decides.{nat_tests}
-use Rattle.std.proofs.lemmas.List.{set-set, length-take, length-set, get_or-take, get_or-drop, get_or-set_same, get_or-set_other, get_or_append_left, get_or-append-add, set-get_or}
+use Rattle.std.proofs.lemmas.List.{set-set, length-take, length-set, get_or-take, get_or-drop, get_or-set_same, get_or-set_other, get_or_append_left, get_or-append-add}
 use Rattle.atomic_table.specs.Seated.{TableId}
 use Rattle.thp_node.specs.Batches.{BatchState, IsInFront, rest}
 use Rattle.thp_model.specs.Runs.{put_back_events, split_next_events}
@@ -16,9 +15,7 @@ use Rattle.thp_cell.specs.declared.fault.CellFault.{CellFault}
 use Rattle.thp_cell.specs.declared.fault.CellFault.TheVariants.{Busy, Refused}
 use Rattle.thp_c.specs.PassBatches.{PassNext, PassBack, PassFailsOnBatch, fault_in}
 use Rattle.thp_c.specs.Sharing.{IsShared, OnlyOf, batch_of}
-
-abbrev Batches : Type 0
-Batches = List (Option BatchState)
+use Rattle.thp_c.proofs.Places.{Batches, IsFor, each_set, for_none, for_some, same_again}
 
 -- ---- calls that leave the open batches alone
 
@@ -46,11 +43,7 @@ others_stay p q c stay b has other front = stay b has front
 
 -- ---- calls that change one
 
--- no batch, or one of caller c in front of its flight
-abbrev pub IsFor : PassState → ℕ → Option BatchState → Type 0
-IsFor q c x = (b : BatchState) → x ≡ Some b → (b.caller ≡ c) × IsInFront q.front b
-
-pub shared_set : (t : TableId) (n m : ℕ) (p q : PassState) (bs : Batches) (c place : ℕ) (x : Option BatchState) → IsShared t n m p bs → q ≡ at_front p q.front → OtherBatchesStay c p q → place + p.first ≡ c → place < length bs → IsFor q c x → IsShared t n m q (set bs place x)
+pub shared_set : (t : TableId) (n m : ℕ) (p q : PassState) (bs : Batches) (c place : ℕ) (x : Option BatchState) → IsShared t n m p bs → q ≡ at_front p q.front → OtherBatchesStay c p q → place + p.first ≡ c → place < length bs → IsFor q.front c x → IsShared t n m q (set bs place x)
 shared_set t n m p q bs c place x shared same stay at lt for =
     let first : q.first ≡ p.first = ap (λ (x : PassState). x.first) same in
     let end : q.end ≡ p.end = ap (λ (x : PassState). x.end) same in
@@ -59,46 +52,21 @@ shared_set t n m p q bs c place x shared same stay at lt for =
       callers = ap (λ (x : PassState). x.callers) same ∙ shared.callers;
       places = rw (first, end, length-set bs place x) shared.places;
       room_is = rw first shared.room_is;
-      each = λ k b within is. by_place k b (subst (λ l. k < l) (length-set bs place x) within) is (k == place) refl;
+      each = rw first (each_set p.front q.front p.first place c bs x shared.each (λ i b within is other front. stay b (own_at t n m p bs shared i b within is) other front) (omega (arith, at)) lt for);
     }
-  where
-    by_place : (k : ℕ) (b : BatchState) → k < length bs → get_or (set bs place x) k None ≡ Some b → (test : Bool) → (k == place) ≡ test → (b.caller ≡ q.first + k) × IsInFront q.front b
-    by_place k b within is true e =
-        let here : k ≡ place = eqb-true k place e in
-        let first : q.first ≡ p.first = ap (λ (x : PassState). x.first) same in
-        let mine = for b (sym (get_or-set_same bs place x None lt) ∙ (rw here at is)) in
-        (omega (arith, mine.0, at, first, here), mine.1)
-    by_place k b within is false e =
-        let other : (k ≡ place → ⊥) = eqb-false k place e in
-        let first : q.first ≡ p.first = ap (λ (x : PassState). x.first) same in
-        let was = shared.each k b within (sym (get_or-set_other bs place k x None other) ∙ is) in
-        (rw first was.0, stay b (own_at t n m p bs shared k b within was.0) (λ e. other (omega (arith, was.0, at, e))) was.1)
-
-inner : (a b : BatchState) → Some a ≡ Some b → a ≡ b
-inner a b e = ap (λ o. unwrap_or o a) e
-
-for_some : (q : PassState) (c : ℕ) (a : BatchState) → a.caller ≡ c → IsInFront q.front a → IsFor q c (Some a)
-for_some q c a own front b is = subst (λ x. (x.caller ≡ c) × IsInFront q.front x) (inner a b is) (own, front)
-
-for_none : (q : PassState) (c : ℕ) → IsFor q c None
-for_none q c b is = absurd (cc)
 
 module _ (t : TableId) (n m room : ℕ) (p q : PassState) (bs new : Batches) (c place : ℕ) (shared : IsShared t n m p bs) (same : q ≡ at_front p q.front) (at : place + p.first ≡ c) (lt : place < length bs) (kept : room ≡ m) where
   -- after a take
   pub shared_took : (b : BatchState) → OtherBatchesStay c p q → b.caller ≡ c → IsInFront q.front b → new ≡ set bs place (Some b) → IsShared t n room q new
-  shared_took b stay own front now = rw (now, kept) (shared_set t n m p q bs c place (Some b) shared same stay at lt (for_some q c b own front))
+  shared_took b stay own front now = rw (now, kept) (shared_set t n m p q bs c place (Some b) shared same stay at lt (for_some q.front c b own front))
 
   -- after the batch was closed
   pub shared_closed : BatchesStay p q → new ≡ set bs place None → IsShared t n room q new
-  shared_closed stay now = rw (now, kept) (shared_set t n m p q bs c place None shared same (others_stay p q c stay) at lt (for_none q c))
+  shared_closed stay now = rw (now, kept) (shared_set t n m p q bs c place None shared same (others_stay p q c stay) at lt (for_none q.front c))
 
   -- after it was taken out and one was put there
   pub shared_again : (mid : Batches) (b : BatchState) → BatchesStay p q → b.caller ≡ c → IsInFront q.front b → mid ≡ set bs place None → new ≡ set mid place (Some b) → IsShared t n room q new
   shared_again mid b stay own front out now = shared_took b (others_stay p q c stay) own front (now ∙ ap (λ xs. set xs place (Some b)) out ∙ set-set bs place None (Some b))
-
--- what stands there, written again, changes nothing
-pub same_again : (bs : Batches) (place : ℕ) (x : Option BatchState) → get_or bs place None ≡ x → set bs place x ≡ bs
-same_again bs place x is = ap (λ y. set bs place y) (sym is) ∙ set-get_or bs place None
 
 -- where the caller's batch is found
 pub found_at : (mark c place : ℕ) (p : PassState) (bs : Batches) → place + p.first ≡ c → batch_of (record { mark = mark; pass = p; batches = bs }) c ≡ get_or bs place None

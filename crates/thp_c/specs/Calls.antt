@@ -19,7 +19,7 @@ use Rattle.thp_node.specs.Batches.{BatchState, rest, tried, back_reply, scan_rep
 use Rattle.thp_node.specs.Calls.{Did, DidAlloc, Refused}
 use Rattle.thp_node.specs.NodeState.{NodeState}
 use Rattle.thp_c.specs.Codes.{Answer}
-use Rattle.thp_c.specs.Engines.{EngineState}
+use Rattle.thp_c.specs.Engines.{EngineState, OthersOpen, open_of}
 use Rattle.thp_c.specs.declared.codes.Fault.{Fault}
 use Rattle.thp_c.specs.declared.codes.Fault.TheVariants.{Refused as RefusedWith, BadCaller, BadCount, BatchOpen, NoBatch, TooSmall}
 
@@ -38,17 +38,13 @@ FailsAsking n caller why m old new f = Fails caller why m old new f
 
 -- the same of a take
 abbrev pub FailsTaking : ℕ → ℕ → Option Refusal → ℕ → EngineState → EngineState → Fault → Type 0
-FailsTaking n caller why m old new BatchOpen = IsSome old.batch × (new ≡ old)
+FailsTaking n caller why m old new BatchOpen = IsSome (open_of old caller) × (new ≡ old)
 FailsTaking n caller why m old new f = FailsAsking n caller why m old new f
-
--- the batch is this caller's
-abbrev pub IsOf : ℕ → BatchState → Type 0
-IsOf caller b = b.caller ≡ caller
 
 -- the same of a call on the caller's open batch, which records as many events as m says of it
 abbrev pub FailsOnBatch : ℕ → (BatchState → ℕ) → EngineState → EngineState → Fault → Type 0
-FailsOnBatch caller m old new NoBatch = IfSome old.batch (λ b. IsOf caller b → ⊥) × (new ≡ old)
-FailsOnBatch caller m old new (RefusedWith r) = (new ≡ old) × IsSome old.batch × IfSome old.batch (λ b. IsOf caller b × Refused old.node new.node None (m b) r)
+FailsOnBatch caller m old new NoBatch = (open_of old caller ≡ None) × (new ≡ old)
+FailsOnBatch caller m old new (RefusedWith r) = (new ≡ old) × IsSome (open_of old caller) × IfSome (open_of old caller) (λ b. Refused old.node new.node None (m b) r)
 FailsOnBatch caller m old new _ = ⊥
 
 -- ---- calls about pages
@@ -56,14 +52,14 @@ FailsOnBatch caller m old new _ = ⊥
 -- a call that records one event
 abbrev pub OneCall : ℕ → Call → What → EngineState → EngineState → Answer → Type 0
 OneCall caller call what old new answer =
-    (new.batch ≡ old.batch)
+    (new.batches ≡ old.batches)
     × OnOk answer ((refusal old.node.shape old.node.journal call ≡ None) × Did old.node new.node caller (by caller what ∷ []))
     × IfErr answer (Fails caller (refusal old.node.shape old.node.journal call) 1 old new)
 
 -- an allocation, which answers the page's number
 abbrev pub AllocCall : ℕ → EngineState → EngineState → Result ℕ Fault → Type 0
 AllocCall caller old new answer =
-    (new.batch ≡ old.batch)
+    (new.batches ≡ old.batches)
     × OnOk answer (refusal old.node.shape old.node.journal alloc_page ≡ None)
     × IfOk answer (λ p. p ≡ allocations old.node.journal)
     × IfOk answer (DidAlloc old.node new.node caller)
@@ -91,17 +87,19 @@ FailsAt caller call old new f = Fails caller (refusal old.node.shape old.node.jo
 abbrev pub ScanCall : ℕ → ℕ → EngineState → EngineState → Result ScanReply Fault → Type 0
 ScanCall caller n old new answer =
     let s = old.node.shape in let h = old.node.journal in
-    (new.batch ≡ old.batch)
+    (new.batches ≡ old.batches)
     × OnOk answer ((refusal s h (scan caller) ≡ None) × Did old.node new.node caller (scan_events s h caller n))
     × IfOk answer (λ r. r ≡ scan_reply (scan_events s h caller n))
     × IfErr answer (FailsAsking n caller (refusal s h (scan caller)) (3 * length (take_events s h caller n)) old new)
 
--- a take, which answers how many pages the batch has that is open then
+-- a take, which answers how many pages the caller's batch has that is open then
 abbrev pub TakeCall : ℕ → ℕ → EngineState → EngineState → Result ℕ Fault → Type 0
 TakeCall caller n old new answer =
     let s = old.node.shape in let h = old.node.journal in let ps = take n (queue s h) in
     OnOk answer ((refusal s h (take_call caller) ≡ None) × Did old.node new.node caller (take_events s h caller n))
-    × OnOk answer (new.batch ≡ Some (record { caller = caller; pages = ps; place = 0 }))
+    × OnOk answer (open_of old caller ≡ None)
+    × OnOk answer (open_of new caller ≡ Some (record { caller = caller; pages = ps; place = 0 }))
+    × OthersOpen caller old new
     × IfOk answer (λ k. k ≡ length ps)
     × IfErr answer (FailsTaking n caller (refusal s h (take_call caller)) (length (take_events s h caller n)) old new)
 
@@ -118,14 +116,15 @@ Batched _ _ P = ⊥
 abbrev pub NextCall : ℕ → EngineState → EngineState → Result Tried Fault → Type 0
 NextCall caller old new answer =
     let s = old.node.shape in let h = old.node.journal in
-    IfOk answer (λ t. Batched old.batch new.batch (λ b c. IsOf caller b × Advanced old.node b c × (t ≡ tried s h (next_page h caller (rest b))) × Did old.node new.node caller (split_next_events s h caller (rest b))))
+    IfOk answer (λ t. Batched (open_of old caller) (open_of new caller) (λ b c. Advanced old.node b c × (t ≡ tried s h (next_page h caller (rest b))) × Did old.node new.node caller (split_next_events s h caller (rest b))))
+    × OthersOpen caller old new
     × IfErr answer (FailsOnBatch caller (λ b. length (split_next_events s h caller (rest b))) old new)
 
 abbrev pub BackReplies : ℕ → EngineState → BackReply → Type 0
-BackReplies caller old r = IfSome old.batch (λ b. r ≡ back_reply old.node.shape old.node.journal (still_flying old.node.journal caller b.pages))
+BackReplies caller old r = IfSome (open_of old caller) (λ b. r ≡ back_reply old.node.shape old.node.journal (still_flying old.node.journal caller b.pages))
 
 abbrev pub BackRecords : ℕ → EngineState → EngineState → Type 0
-BackRecords caller old new = IfSome old.batch (λ b. Did old.node new.node caller (put_back_events old.node.shape old.node.journal caller b.pages))
+BackRecords caller old new = IfSome (open_of old caller) (λ b. Did old.node new.node caller (put_back_events old.node.shape old.node.journal caller b.pages))
 
 abbrev pub BackFails : ℕ → EngineState → EngineState → Fault → Type 0
 BackFails caller old new f = FailsOnBatch caller (λ b. length (put_back_events old.node.shape old.node.journal caller b.pages)) old new f
@@ -133,9 +132,9 @@ BackFails caller old new f = FailsOnBatch caller (λ b. length (put_back_events 
 -- the return of the pages of the caller's open batch, which is closed then
 abbrev pub BackCall : ℕ → EngineState → EngineState → Result BackReply Fault → Type 0
 BackCall caller old new answer =
-    OnOk answer (IsSome old.batch)
-    × OnOk answer (IfSome old.batch (IsOf caller))
-    × OnOk answer (new.batch ≡ None)
+    OnOk answer (IsSome (open_of old caller))
+    × OnOk answer (open_of new caller ≡ None)
+    × OthersOpen caller old new
     × IfOk answer (BackReplies caller old)
     × OnOk answer (BackRecords caller old new)
     × IfErr answer (BackFails caller old new)
@@ -143,17 +142,18 @@ BackCall caller old new answer =
 -- the caller's open batch is closed, and nothing becomes of its pages
 abbrev pub AbandonCall : ℕ → EngineState → EngineState → Answer → Type 0
 AbandonCall caller old new answer =
-    OnOk answer (IsSome old.batch)
-    × OnOk answer (IfSome old.batch (IsOf caller))
-    × OnOk answer (new ≡ record old { batch = None })
-    × IfErr answer (λ f. (f ≡ NoBatch) × FailsOnBatch caller (λ b. 0) old new f)
+    (new.node ≡ old.node)
+    × OnOk answer (IsSome (open_of old caller))
+    × OnOk answer (open_of new caller ≡ None)
+    × OthersOpen caller old new
+    × IfErr answer (λ f. (f ≡ NoBatch) × (open_of old caller ≡ None) × (new ≡ old))
 
 -- ---- the node's memory, and its journal as text
 
 -- there is room for k events; or the memory for it wasn't there, and nothing changed
 abbrev pub ReserveCall : ℕ → EngineState → EngineState → Answer → Type 0
 ReserveCall k old new answer =
-    (new.batch ≡ old.batch)
+    (new.batches ≡ old.batches)
     × (new.node ≡ record old.node { room = new.node.room })
     × OnOk answer (k ≤ new.node.room)
     × (old.node.room ≤ new.node.room)

@@ -1,22 +1,36 @@
 -- What contracts see of what a node's handle leads to.
-use Rattle.std.specs.Prelude.{◌≡◌, ℕ, [], Option, None, Some, IfSome, Ok, Err, ◌⊎◌, if◌then◌else◌, nat_lt}
+use Rattle.std.specs.Prelude.{◌≡◌, ◌≢◌, ℕ, [], List, Option, None, Some, length, get_or, Ok, Err, ◌⊎◌, if◌then◌else◌, nat_lt}
 use Rattle.thp_model.specs.declared.refusal.Refusal.TheVariants.{OutOfMemory}
 use Rattle.thp_model.specs.declared.shape.Shape.{Shape}
-use Rattle.thp_model.specs.Limits.{max_subpages}
+use Rattle.thp_model.specs.Limits.{max_callers, max_subpages}
 use Rattle.thp_model.specs.Shapes.{IsShape}
-use Rattle.thp_node.specs.Batches.{BatchState, IsInFront}
+use Rattle.thp_node.specs.Batches.{BatchState}
 use Rattle.thp_node.specs.NodeState.{NodeState}
 use Rattle.thp_c.specs.Codes.{Answer}
+use Rattle.thp_c.specs.OpenBatches.{EachOpen}
 use Rattle.thp_c.specs.declared.codes.Fault.TheVariants.{Refused, BadSize, Empty, InUse}
 
--- the node, and the batch that is open
+-- the node, and the open batch of each caller
 pub record EngineState : Type 0 where
   pub node : NodeState
-  pub batch : Option BatchState
+  pub batches : List (Option BatchState)
 
--- the pages of the open batch that are still in flight come first in the flight of its caller
-abbrev pub IsEngine : EngineState → Type 0
-IsEngine e = IfSome e.batch (IsInFront e.node.journal)
+-- each caller has its place, and what is left of its open batch comes first in its flight
+pub record IsEngine (e : EngineState) : Type 0 where
+  pub places : length e.batches ≡ max_callers
+  pub each : EachOpen e.node.journal 0 e.batches
+
+-- the open batch of caller c, if it has one
+abbrev pub open_of : EngineState → ℕ → Option BatchState
+open_of e c = get_or e.batches c None
+
+-- no caller has a batch open
+abbrev pub NoneOpen : EngineState → Type 0
+NoneOpen e = (c : ℕ) → open_of e c ≡ None
+
+-- the open batches of all callers but c are as they were
+abbrev pub OthersOpen : ℕ → EngineState → EngineState → Type 0
+OthersOpen c old new = (d : ℕ) → d ≢ c → open_of new d ≡ open_of old d
 
 -- a call on a handle that leads to something did what P says, and else answered that it leads to nothing
 abbrev pub Does : Option EngineState → Option EngineState → Answer → (EngineState → EngineState → Answer → Type 0) → Type 0
@@ -26,7 +40,7 @@ Does _ _ answer P = ⊥
 
 -- a node of this shape was made, with no page and no batch; or why the handle stays empty; or it leads to something already
 abbrev pub Made : Option EngineState → Option EngineState → Shape → Answer → Type 0
-Made None (Some new) s answer = (answer ≡ Ok tt) × (new.node.shape ≡ s) × (new.node.journal ≡ []) × (new.batch ≡ None) × IsShape s
+Made None (Some new) s answer = (answer ≡ Ok tt) × (new.node.shape ≡ s) × (new.node.journal ≡ []) × NoneOpen new × IsShape s
 Made None None s answer = ((answer ≡ Err BadSize) × (IsShape s → ⊥)) ⊎ (answer ≡ Err (Refused OutOfMemory))
 Made (Some old) (Some new) s answer = (new ≡ old) × (answer ≡ Err InUse)
 Made (Some old) None s answer = ⊥

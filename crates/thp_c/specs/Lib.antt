@@ -1,5 +1,6 @@
 pub mod Codes
 pub mod Checks
+pub mod OpenBatches
 pub mod Engines
 pub mod Calls
 pub mod Replies
@@ -9,3 +10,6 @@ pub mod Sharing
 pub mod Passes
 pub mod PassBatches
 pub mod PassHandle
+pub mod CheckCodes
+pub mod LongChecks
+pub mod CheckHandle

@@ -16,7 +16,7 @@ use Rattle.thp_cell.specs.Calls.{Called, Follows, IsBusy, IsRefused, IsJoined, b
 use Rattle.thp_cell.specs.Says.{DidOne, DidAlloc, DidLose, DidScan}
 use Rattle.thp_cell.specs.Views.{PassState, HasCaller, HasAll}
 use Rattle.thp_c.specs.PassCodes.{PassAnswer}
-use Rattle.thp_c.specs.Engines.{EngineState}
+use Rattle.thp_c.specs.Engines.{EngineState, NoneOpen}
 use Rattle.thp_c.specs.Replies.{MasksSet, outcome_number}
 use Rattle.thp_c.specs.Sharing.{SharedState, OnlyFront, IsPart, IsShut, HasOpen, OpenStay}
 use Rattle.thp_c.specs.declared.codes.Fault.TheVariants.{Refused as RefusedWith, BadCaller, BadCount, BadSize, BatchOpen, Empty, InUse}
@@ -155,7 +155,7 @@ OneCellHeld left right = IfSome left (λ l. IfSome right (OneCell l))
 
 -- the cell's node, with the history that the pass of all callers knows of, which had no open batch
 abbrev pub Finished : Option SharedState → Option EngineState → Type 0
-Finished (Some s) (Some e) = HasAll s.pass × IsShut s × (e.node.shape ≡ s.pass.shape) × (e.node.journal ≡ s.pass.front) × (e.batch ≡ None)
+Finished (Some s) (Some e) = HasAll s.pass × IsShut s × (e.node.shape ≡ s.pass.shape) × (e.node.journal ≡ s.pass.front) × NoneOpen e
 Finished _ _ = ⊥
 
 -- why a cell was not taken apart

@@ -41,7 +41,7 @@ MasksSet words set = (i : ℕ) → i < max_subpages → in_words words i ≡ has
 abbrev pub LoseCall : ℕ → Call → ℕ → (Outcome → List Bool → What) → EngineState → EngineState → Result ThpDone Fault → Type 0
 LoseCall caller call p what old new answer =
     let s = old.node.shape in let h = old.node.journal in let k = new.node.journal in
-    (new.batch ≡ old.batch)
+    (new.batches ≡ old.batches)
     × OnOk answer (Allowed old call)
     × OnOk answer (Did old.node new.node caller (by caller (what (outcome s h k p) (released s h k p)) ∷ []))
     × IfOk answer (λ d. d.outcome ≡ outcome_number (outcome s h k p))

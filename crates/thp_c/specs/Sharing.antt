@@ -1,9 +1,10 @@
 -- What contracts see of what a pass's handle leads to: a pass, and the batches that its callers have open.
-use Rattle.std.specs.Prelude.{◌≡◌, ◌≢◌, ℕ, ◌<◌, ◌≤◌, ◌+◌, ◌-◌, nat_le, List, Option, None, Some, IsSome, length, get_or, if◌then◌else◌}
+use Rattle.std.specs.Prelude.{◌≡◌, ◌≢◌, ℕ, ◌≤◌, ◌+◌, ◌-◌, nat_le, List, Option, None, IsSome, length, get_or, if◌then◌else◌}
 use Rattle.atomic_table.specs.Seated.{TableId}
-use Rattle.thp_node.specs.Batches.{BatchState, IsInFront}
+use Rattle.thp_node.specs.Batches.{BatchState}
 use Rattle.thp_cell.specs.Calls.{at_front}
 use Rattle.thp_cell.specs.Views.{PassState, HasCaller}
+use Rattle.thp_c.specs.OpenBatches.{EachOpen}
 
 -- a pass, the mark of its cell, and of each of its callers the open batch
 pub record SharedState : Type 0 where
@@ -18,7 +19,7 @@ pub record IsShared (cell : TableId) (n room : ℕ) (pass : PassState) (batches 
   pub callers : pass.callers ≡ n
   pub places : pass.first + length batches ≡ pass.end
   pub room_is : n ≤ pass.first + room
-  pub each : (k : ℕ) (b : BatchState) → k < length batches → get_or batches k None ≡ Some b → (b.caller ≡ pass.first + k) × IsInFront pass.front b
+  pub each : EachOpen pass.front pass.first batches
 
 -- the open batch of caller c, if it is one of the pass's and has one
 abbrev pub batch_of : SharedState → ℕ → Option BatchState

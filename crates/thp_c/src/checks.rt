@@ -7,7 +7,7 @@ use thp_journal_reader::check_text;
 use thp_text::{ReadFault, TextKind};
 
 // The code of a kind of fault.
-fn code_of_kind(kind: TextKind) -> u32
+pub(crate) fn code_of_kind(kind: TextKind) -> u32
     ensures { result ≡ text_code kind }
 {
     match kind {

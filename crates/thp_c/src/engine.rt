@@ -1,12 +1,13 @@
-//! What a node's handle leads to: a node, and the batch that is open on it.
-ghost use Rattle.std.specs.Prelude.{◌≡◌, None, Some, IsSome, IfSome, IfOk, IfErr, OnOk, OnErr, length};
+//! What a node's handle leads to: a node, and the batches that its callers have open.
+ghost use Rattle.std.specs.Prelude.{◌≡◌, ◌<◌, None, IsSome, IfSome, IfNone, IfOk, IfErr, OnOk, length};
 ghost use Rattle.thp_model.specs.Places.{queue};
 ghost use Rattle.thp_model.specs.Refusals as call;
-ghost use Rattle.thp_node.specs.Batches.{IsInFront};
-ghost use Rattle.thp_c.specs.Calls.{OneCall, Allowed, Loses, TellsOutcome, TellsReleased, FailsAt, AllocCall, ScanCall, TakeCall, NextCall, IsOf, BackReplies, BackRecords, BackFails, ReserveCall, AbandonCall};
+ghost use Rattle.thp_c.specs.Calls.{OneCall, Allowed, Loses, TellsOutcome, TellsReleased, FailsAt, AllocCall, ScanCall, TakeCall, NextCall, BackReplies, BackRecords, BackFails, ReserveCall, AbandonCall};
+ghost use Rattle.thp_c.specs.Engines.{NoneOpen, OthersOpen, open_of};
 ghost use Rattle.thp_c.specs.Replies.{stats_of};
 
 use crate::codes::Fault;
+use crate::open_batches::{is_open, none_open, put_at, take_at};
 use crate::stats::{ThpStats, narrow};
 use std::alloc::{AllocError, Global};
 use std::marker::Model;
@@ -14,11 +15,12 @@ use thp_journal_writer::{NodeHistory, journal_text};
 use thp_model::{Done, MAX_BATCH, MAX_CALLERS, PageId, Shape, What};
 use thp_node::{BackReply, Batch, NewFault, Node, ScanReply, Tried};
 
-/// A node, and the batch that is open on it, whose pages come first in their caller's flight.
+/// A node, and the open batches of its callers, each of whose pages come first in their caller's flight.
 #[derive(Drop)]
 pub struct Engine {
     node: Node,
-    batch: Option<Batch>,
+    // the open batches by caller
+    batches: Vec<Option<Batch>>,
 }
 
 impl Model for Engine {
@@ -26,9 +28,9 @@ impl Model for Engine {
 
     ghost Value = { EngineState };
 
-    ghost view = { λ e. record { node = e.node; batch = e.batch } };
+    ghost view = { λ e. record { node = e.node; batches = e.batches.items } };
 
-    ghost invariant = { λ e. IsEngine (record { node = e.node; batch = e.batch }) };
+    ghost invariant = { λ e. IsEngine (record { node = e.node; batches = e.batches.items }) };
 }
 
 impl Engine {
@@ -41,20 +43,25 @@ impl Engine {
         ensures bad_size { (result ≡ Err NewFault.BadSize) ↔ ¬ IsShape shape }
         ensures shape { IfOk result (λ e. e.node.shape ≡ shape) }
         ensures journal { IfOk result (λ e. e.node.journal ≡ []) }
-        ensures batch { IfOk result (λ e. e.batch ≡ None) }
+        ensures none_open { IfOk result NoneOpen }
     {
-        match Node::new(alloc, shape) {
-            Ok(node) => Ok(Engine { node, batch: None }),
-            Err(fault) => Err(fault),
+        let node = match Node::new(alloc, shape) {
+            Ok(node) => node,
+            Err(fault) => return Err(fault),
+        };
+        match none_open(alloc, MAX_CALLERS) {
+            Some(batches) => Ok(Engine { node, batches }),
+            None => Err(NewFault::OutOfMemory),
         }
     }
 
-    /// A node that was made elsewhere, with no open batch.
-    pub fn of(node: Node) -> Engine
-        ensures node { result.node ≡ node }
-        ensures batch { result.batch ≡ None }
+    /// Has another node, which was made elsewhere, in place of its own.
+    pub fn replace(&mut self, node: Node)
+        requires none_open { NoneOpen self.old }
+        ensures node { self.new.node ≡ node }
+        ensures none_open { NoneOpen self.new }
     {
-        Engine { node, batch: None }
+        self.node = node;
     }
 
     /// A new page, mapped whole once.
@@ -169,7 +176,7 @@ impl Engine {
 
     /// One mapping of the whole page less.
     pub fn unmap_whole(&mut self, caller: u32, page: PageId) -> Result<Done, Fault>
-        ensures batch { self.new.batch ≡ self.old.batch }
+        ensures batches { self.new.batches ≡ self.old.batches }
         ensures allowed { OnOk result (Allowed self.old (call.unmap_whole page)) }
         ensures recorded { IfOk result (Loses caller (λ o released. What.UnmapWhole o page released) self.old self.new) }
         ensures outcome { IfOk result (TellsOutcome page self.old self.new) }
@@ -193,7 +200,7 @@ impl Engine {
         first: u32,
         count: u32,
     ) -> Result<Done, Fault>
-        ensures batch { self.new.batch ≡ self.old.batch }
+        ensures batches { self.new.batches ≡ self.old.batches }
         ensures allowed { OnOk result (Allowed self.old (call.unmap_sub page first count)) }
         ensures recorded { IfOk result (Loses caller (λ o released. What.UnmapSub o page first count released) self.old self.new) }
         ensures outcome { IfOk result (TellsOutcome page self.old self.new) }
@@ -211,7 +218,7 @@ impl Engine {
 
     /// One pin of the page less.
     pub fn unpin(&mut self, caller: u32, page: PageId) -> Result<Done, Fault>
-        ensures batch { self.new.batch ≡ self.old.batch }
+        ensures batches { self.new.batches ≡ self.old.batches }
         ensures allowed { OnOk result (Allowed self.old (call.unpin page)) }
         ensures recorded { IfOk result (Loses caller (λ o released. What.Unpin o page released) self.old self.new) }
         ensures outcome { IfOk result (TellsOutcome page self.old self.new) }
@@ -243,7 +250,7 @@ impl Engine {
         }
     }
 
-    /// Takes up to `n` pages, the oldest first, into the batch that is open from then on. Answers how many.
+    /// Takes up to `n` pages, the oldest first, into the caller's batch, which is open from then on. Answers how many.
     pub fn take(&mut self, caller: u32, n: u32) -> Result<u32, Fault>
         ensures { TakeCall caller n self.old self.new result }
     {
@@ -253,16 +260,30 @@ impl Engine {
         if n as usize > MAX_BATCH {
             return Err(Fault::BadCount);
         }
-        if self.batch.is_some() {
+        if is_open(&self.batches, caller as usize) {
             return Err(Fault::BatchOpen);
         }
         match self.node.take(caller, n) {
             Ok(batch) => {
                 let count = batch.pages().len() as u32;
-                self.batch = Some(batch);
+                put_at(&mut self.batches, caller as usize, batch);
                 Ok(count)
             }
             Err(refusal) => Err(Fault::Refused(refusal)),
+        }
+    }
+
+    // The place of the caller's batch, if it is a caller.
+    fn place(&self, caller: u32) -> Option<usize>
+        ensures at { IfSome result (λ place. place ≡ caller) }
+        ensures inside { IfSome result (λ place. place < length self.now.batches) }
+        ensures none { IfNone result (open_of self.now caller ≡ None) }
+    {
+        let place = caller as usize;
+        if place < self.batches.len() {
+            Some(place)
+        } else {
+            None
         }
     }
 
@@ -270,10 +291,13 @@ impl Engine {
     pub fn split_next(&mut self, caller: u32) -> Result<Tried, Fault>
         ensures { NextCall caller self.old self.new result }
     {
-        let mut batch = self.open_batch(caller)?;
-        let answer = self.node.split_next(&mut batch);
-        self.batch = Some(batch);
-        match answer {
+        let Some(place) = self.place(caller) else {
+            return Err(Fault::NoBatch);
+        };
+        let Some(batch) = &mut self.batches[place] else {
+            return Err(Fault::NoBatch);
+        };
+        match self.node.split_next(batch) {
             Ok(tried) => Ok(tried),
             Err(refusal) => Err(Fault::Refused(refusal)),
         }
@@ -281,18 +305,23 @@ impl Engine {
 
     /// Returns the pages of the caller's open batch, which is closed then.
     pub fn put_back(&mut self, caller: u32) -> Result<BackReply, Fault>
-        ensures open { OnOk result (IsSome self.old.batch) }
-        ensures own { OnOk result (IfSome self.old.batch (IsOf caller)) }
-        ensures shut { OnOk result (self.new.batch ≡ None) }
+        ensures open { OnOk result (IsSome (open_of self.old caller)) }
+        ensures shut { OnOk result (open_of self.new caller ≡ None) }
+        ensures others { OthersOpen caller self.old self.new }
         ensures reply { IfOk result (BackReplies caller self.old) }
         ensures recorded { OnOk result (BackRecords caller self.old self.new) }
         ensures failed { IfErr result (BackFails caller self.old self.new) }
     {
-        let batch = self.open_batch(caller)?;
+        let Some(place) = self.place(caller) else {
+            return Err(Fault::NoBatch);
+        };
+        let Some(batch) = take_at(&mut self.batches, place) else {
+            return Err(Fault::NoBatch);
+        };
         match self.node.put_back(batch) {
             Ok(reply) => Ok(reply),
             Err((batch, refusal)) => {
-                self.batch = Some(batch);
+                put_at(&mut self.batches, place, batch);
                 Err(Fault::Refused(refusal))
             }
         }
@@ -302,33 +331,14 @@ impl Engine {
     pub fn abandon(&mut self, caller: u32) -> Result<(), Fault>
         ensures { AbandonCall caller self.old self.new result }
     {
-        let batch = self.open_batch(caller)?;
+        let Some(place) = self.place(caller) else {
+            return Err(Fault::NoBatch);
+        };
+        let Some(batch) = take_at(&mut self.batches, place) else {
+            return Err(Fault::NoBatch);
+        };
         batch.abandon();
         Ok(())
-    }
-
-    // Takes the open batch out, if it is the caller's.
-    fn open_batch(&mut self, caller: u32) -> Result<Batch, Fault>
-        ensures node { self.new.node ≡ self.old.node }
-        ensures open { IfOk result (λ b. self.old.batch ≡ Some b) }
-        ensures own { IfOk result (IsOf caller) }
-        ensures front { IfOk result (IsInFront self.old.node.journal) }
-        ensures out { OnOk result (self.new.batch ≡ None) }
-        ensures none { IfErr result (λ f. f ≡ Fault.NoBatch) }
-        ensures other { OnErr result (IfSome self.old.batch (λ b. IsOf caller b → ⊥)) }
-        ensures same { OnErr result (self.new ≡ self.old) }
-    {
-        match self.batch.take() {
-            None => Err(Fault::NoBatch),
-            Some(batch) => {
-                if batch.caller() == caller {
-                    Ok(batch)
-                } else {
-                    self.batch = Some(batch);
-                    Err(Fault::NoBatch)
-                }
-            }
-        }
     }
 
     /// Makes room in the journal for this many events.

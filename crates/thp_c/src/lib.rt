@@ -5,6 +5,10 @@
 //! The header is `c/thp.h`; docs/C.md tells, call by call, what is proved and what a C program owes.
 #![tactic(auto)]
 
+mod check_calls;
+mod check_codes;
+mod check_handle;
+mod check_room;
 mod checks;
 mod codes;
 mod engine;
@@ -21,6 +25,8 @@ mod replies;
 mod shared_pass;
 mod stats;
 
+pub use check_codes::CheckFault;
+pub use check_handle::ThpCheck;
 pub use checks::thp_c_check_text;
 pub use codes::Fault;
 pub use engine::Engine;

@@ -338,7 +338,7 @@ pub extern "C" fn thp_c_node_scan(
     }
 }
 
-/// Takes up to `n` pages, the oldest first, into the batch that is open from then on.
+/// Takes up to `n` pages, the oldest first, into the caller's batch, which is open from then on.
 #[unsafe(no_mangle)]
 pub extern "C" fn thp_c_node_take(
     handle: &mut ThpNode,
@@ -507,7 +507,7 @@ pub extern "C" fn thp_c_node_journal(
 }
 
 // Writes the text to the front of the buffer, if it fits there.
-fn put(buffer: &mut [u8], text: &[u8]) -> Result<(), Fault>
+pub(crate) fn put(buffer: &mut [u8], text: &[u8]) -> Result<(), Fault>
     ensures written { OnOk result (buffer.new ≡ text.now ++ drop (length text.now) buffer.old) }
     ensures same { IfErr result (λ fault. buffer.new ≡ buffer.old) }
     ensures small { IfErr result (λ fault. length buffer.old < length text.now) }

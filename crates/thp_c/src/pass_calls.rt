@@ -1,7 +1,7 @@
 //! The calls of a shared node, for C: its cell, and passes to it.
-ghost use Rattle.std.specs.Prelude.{◌≡◌, None, OnOk, OnErr, IfErr, Ok};
+ghost use Rattle.std.specs.Prelude.{◌≡◌, None, OnOk, OnErr, IfErr, IfSome, Ok};
 ghost use Rattle.thp_model.specs.Refusals as call;
-ghost use Rattle.thp_c.specs.Engines.{shape_of};
+ghost use Rattle.thp_c.specs.Engines.{NoneOpen, shape_of};
 ghost use Rattle.thp_c.specs.PassCodes.{pass_answer_of, pass_answer_with, IsPassCode};
 ghost use Rattle.thp_c.specs.PassHandle.{pass_of};
 ghost use Rattle.thp_c.specs.Passes.{PassDoes, PassOne, PassAlloc, PassLost, PassScan, PassCount, CellMade, PassEmptied, Divided, WhyUndivided, Joined, WhyApart, OneCellHeld, Finished, WhyUnfinished};
@@ -156,7 +156,7 @@ pub extern "C" fn thp_c_cell_finish(handle: &mut ThpPass, alloc: Global, node: &
     };
     match shared.finish() {
         Ok(found) => {
-            *engine = Engine::of(found);
+            engine.replace(found);
             *node = ThpNode::full(engine);
             pass_code(Ok(()))
         }
@@ -168,13 +168,22 @@ pub extern "C" fn thp_c_cell_finish(handle: &mut ThpPass, alloc: Global, node: &
 }
 
 // An engine of the smallest node, whose memory serves another: so nothing is lost where there is none.
-fn spare(alloc: Global) -> Option<Box<Engine>> {
+fn spare(alloc: Global) -> Option<Box<Engine>>
+    ensures { IfSome result (λ engine. NoneOpen engine.value) }
+{
     let shape = Shape {
         blocks: 1,
         order: 2,
         underused: None,
     };
-    Box::new(alloc, Engine::new(alloc, shape).ok()?).ok()
+    let engine = match Engine::new(alloc, shape) {
+        Ok(engine) => engine,
+        Err(_) => return None,
+    };
+    match Box::new(alloc, engine) {
+        Ok(engine) => Some(engine),
+        Err(_) => None,
+    }
 }
 
 /// A new page, mapped whole once. Its number is the count of allocations before it.

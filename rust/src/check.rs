@@ -1,0 +1,96 @@
+//! The check of journals of any length.
+use std::fmt;
+
+use crate::fault::{done, Fault};
+use crate::sys;
+use crate::Verdict;
+
+/// A check of journals whose text comes in parts, of any length: of it no more is kept than what lives on the node at hand and the line
+/// begun.
+///
+/// ```
+/// use leversorrel::{Check, Fault, Verdict};
+///
+/// let mut check = Check::new()?;
+/// for part in [&b"thp-journal 1\nnode 0 blo"[..], b"cks 1\n0 alloc 1\nend\n"] {
+///     check.read(part)?;
+/// }
+/// assert_eq!(check.finish()?, Verdict::Illegal { line: 3 });
+/// assert_eq!(check.reason()?, "line 3: 0 alloc 1\nexpected: 0 alloc 0\nwhy: the next page has the number 0\n");
+/// assert_eq!(check.read(b"0 alloc 2\n"), Err(Fault::Finished));
+/// # Ok::<(), Fault>(())
+/// ```
+pub struct Check {
+    handle: sys::CheckHandle,
+}
+
+// SAFETY: what a handle leads to is plain data and memory of its own: proved, `check_handle_send` in
+// crates/thp_c/proofs/CheckCrossings.antt. The allocator that the handle's memory goes back to, the C library's, takes memory of any
+// thread.
+unsafe impl Send for Check {}
+
+impl Check {
+    /// A check to which nothing has come. The error is want of memory.
+    pub fn new() -> Result<Check, Fault> {
+        let mut handle = sys::CheckHandle::EMPTY;
+        // SAFETY: the handle is a local that leads to nothing.
+        done(unsafe { sys::thp_check_create(&mut handle) })?;
+        Ok(Check { handle })
+    }
+
+    /// Reads the next part of the text. [`Fault::Finished`] behind a finish. Where memory is refused the check is lost, and this and
+    /// each call behind it answers [`Fault::OutOfMemory`].
+    pub fn read(&mut self, part: &[u8]) -> Result<(), Fault> {
+        // SAFETY: the handle is this check's own, and the pointer and the length are those of one slice.
+        match unsafe { sys::thp_check_read(&mut self.handle, part.as_ptr(), part.len()) } {
+            LOST => Err(Fault::OutOfMemory),
+            code => done(code),
+        }
+    }
+
+    /// The verdict on the text that came, which is the whole text: no more is read then.
+    pub fn finish(&mut self) -> Result<Verdict, Fault> {
+        let mut line = 0;
+        // SAFETY: the handle is this check's own, and the line is a local.
+        match unsafe { sys::thp_check_finish(&mut self.handle, &mut line) } {
+            LOST => Err(Fault::OutOfMemory),
+            code => Verdict::of(code, line),
+        }
+    }
+
+    /// Behind a finish that found an illegal event, why it doesn't fit: the text that `thpcheck --explain` writes. Else
+    /// [`Fault::NoReason`].
+    pub fn reason(&mut self) -> Result<String, Fault> {
+        const TOO_SMALL: u32 = 19;
+        let mut text = Vec::new();
+        let mut size = 0;
+        loop {
+            // SAFETY: the handle is this check's own, the buffer is the vector's, and the size is a local.
+            match unsafe { sys::thp_check_reason(&mut self.handle, text.as_mut_ptr(), text.len(), &mut size) } {
+                0 => return Ok(String::from_utf8(text).expect("a reason is ASCII")),
+                LOST => return Err(Fault::OutOfMemory),
+                TOO_SMALL => {
+                    text.try_reserve_exact(size).map_err(|_| Fault::OutOfMemory)?;
+                    text.resize(size, 0);
+                }
+                code => return Err(Fault::of(code)),
+            }
+        }
+    }
+}
+
+// THP_EMPTY: a read found no memory, and gave the check back
+const LOST: u32 = 12;
+
+impl Drop for Check {
+    fn drop(&mut self) {
+        // SAFETY: the handle is this check's own, and nothing uses it later. One that leads to nothing stays so.
+        unsafe { sys::thp_check_destroy(&mut self.handle) };
+    }
+}
+
+impl fmt::Debug for Check {
+    fn fmt(&self, f: &mut fmt::Formatter<'_>) -> fmt::Result {
+        f.debug_struct("Check").finish_non_exhaustive()
+    }
+}
