@@ -1,15 +1,13 @@
 -- How the check of a journal ends, from what its parts did.
-use Rattle.std.proofs.Common.{◌≡◌, ◌∙◌, ◌++◌, ℕ, Bool, true, false, List, [], Option, Some, None, Ok, Err, ap, refl, subst, sym}
+use Rattle.std.proofs.Common.{◌≡◌, ◌∙◌, ◌++◌, ℕ, Bool, true, false, List, Option, Some, None, Ok, Err, refl, subst, sym}
 use Rattle.std.specs.Prelude.{IfErr, IfNone, IfSome, IsErrAnd, Result, ok_or}
 use Rattle.std.specs.Io.KnownBytes.{Appends}
-use Rattle.std.proofs.lemmas.List.{append-nil}
 use Rattle.thp_text.specs.Limits.{max_counted}
 use Rattle.thp_text.specs.declared.fault.ReadFault.TheVariants as reading
 use Rattle.thp_text.specs.declared.fault.TextKind.{TextKind}
 use Rattle.thp_text.specs.Scripts.{Fault}
 use Rattle.thp_totals.specs.Totals.{lines_from}
 use Rattle.thp_journal_reader.specs.declared.illegal.Illegal.{Illegal}
-use Rattle.thp_journal_reader.specs.declared.journals.Journals.{Journals}
 use Rattle.thp_journal_reader.specs.declared.journals.NodeJournal.{NodeJournal}
 use Rattle.thp_journal_reader.specs.declared.summed.SummaryFault.{SummaryFault}
 use Rattle.thp_journal_reader.specs.declared.summed.SummaryFault.TheVariants as summary

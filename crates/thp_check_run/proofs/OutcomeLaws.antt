@@ -1,5 +1,5 @@
 -- From what each part of the program did to what the whole of it did.
-use Rattle.std.proofs.Common.{◌≡◌, ℕ, List, Option, Ok, Err, None, inl, inr}
+use Rattle.std.proofs.Common.{ℕ, List, Option, Ok, Err, inl, inr}
 use Rattle.std.specs.Prelude.{Result}
 use Rattle.thp_text.specs.declared.fault.TextKind.{TextKind}
 use Rattle.thp_streams.specs.declared.ending.ProgramFault.{ProgramFault}

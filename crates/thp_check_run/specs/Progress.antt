@@ -1,5 +1,5 @@
 -- What a screen takes while a journal is read: lines that show how far that is (this project's profile).
-use Rattle.std.specs.Prelude.{◌≡◌, ◌+◌, ◌*◌, ◌/◌, ◌%◌, ◌++◌, ◌∷◌, [], ℕ, Bool, true, false, ◌||◌, All, List, Option, IfSome, MatchBool, codes, length, map}
+use Rattle.std.specs.Prelude.{◌≡◌, ◌*◌, ◌/◌, ◌%◌, ◌++◌, ◌∷◌, [], ℕ, Bool, true, false, ◌||◌, All, List, Option, IfSome, MatchBool, codes, length, map}
 use Rattle.std.specs.Fmt.{decimal}
 use Rattle.std.specs.Io.KnownBytes.{Appends}
 use Rattle.std.specs.List.{concat}

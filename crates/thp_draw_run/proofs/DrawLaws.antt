@@ -1,5 +1,5 @@
 -- How the drawing of a journal ends, from what its parts did.
-use Rattle.std.proofs.Common.{◌≡◌, ◌∙◌, ℕ, List, Ok, Err, refl, sym}
+use Rattle.std.proofs.Common.{◌≡◌, ◌∙◌, ℕ, List, sym}
 use Rattle.thp_drawing.specs.declared.node.DrawnNode.{DrawnNode}
 use Rattle.thp_streams.proofs.PassageLaws.{same_journals}
 use Rattle.thp_streams.specs.declared.ending.Ending.{Ending}

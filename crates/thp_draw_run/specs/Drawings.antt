@@ -1,5 +1,5 @@
 -- What is written of a journal of any length.
-use Rattle.std.specs.Prelude.{◌≡◌, ℕ, Bool, ◌||◌, true, false, is_some, List, [], ◌∷◌, Option, Result, Ok, if◌then◌else◌}
+use Rattle.std.specs.Prelude.{◌≡◌, ℕ, Bool, ◌||◌, false, is_some, List, [], ◌∷◌, Option, Result, Ok, if◌then◌else◌}
 use Rattle.thp_check_run.specs.Checks.{LongEnds}
 use Rattle.thp_drawing.specs.Pictures.{picture_text}
 use Rattle.thp_drawing.specs.Tables.{table_text}

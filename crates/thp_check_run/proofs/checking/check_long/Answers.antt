@@ -1,4 +1,4 @@
-use Rattle.std.proofs.Common.{◌≡◌, ◌∙◌, ap, sym, Err, Ok}
+use Rattle.std.proofs.Common.{◌∙◌, ap, sym, Err}
 use Rattle.std.specs.Prelude.{Result}
 use Rattle.std.proofs.lemmas.Result.{err_from_is_err_and}
 use Rattle.thp_streams.specs.RunFaults.{seen_fault}

@@ -1,4 +1,4 @@
-use Rattle.std.proofs.Common.{◌≡◌, ◌∙◌, ◌++◌, [], ap, subst, sym, Result}
+use Rattle.std.proofs.Common.{◌∙◌, ◌++◌, [], ap, subst, sym, Result}
 use Rattle.std.proofs.lemmas.List.{append-nil}
 use Rattle.thp_text.specs.Limits.{max_counted}
 use Rattle.thp_text.specs.Scripts.{Fault}

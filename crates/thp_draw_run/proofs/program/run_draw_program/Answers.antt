@@ -1,4 +1,4 @@
-use Rattle.std.proofs.Common.{refl, Err, Ok}
+use Rattle.std.proofs.Common.{Err}
 use Rattle.thp_streams.specs.Outcomes.{device_of, given_words, source_of}
 use Rattle.thp_streams.specs.RunFaults.{seen_fault}
 use Rattle.thp_streams.specs.declared.ending.ProgramFault.TheVariants.{Run}

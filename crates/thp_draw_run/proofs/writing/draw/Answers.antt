@@ -1,4 +1,4 @@
-use Rattle.std.proofs.Common.{◌≡◌, ◌∙◌, ap, sym, Err}
+use Rattle.std.proofs.Common.{◌∙◌, ap, sym, Err}
 use Rattle.std.specs.Prelude.{Result}
 use Rattle.std.proofs.lemmas.Result.{err_from_is_err_and}
 use Rattle.thp_check_run.proofs.CheckLaws.{cut_from, ends_at_find, ends_at_write, ends_told, none_at_find}
