@@ -163,9 +163,12 @@ static void refused(void) {
         }
         ANSWERS(thp_check_finish(&check, &line), THP_ILLEGAL);
         WANT(line == 8);
-        while (thp_check_reason(&check, reason, sizeof reason, &size) == THP_OUT_OF_MEMORY) WANT(lost++ == 0);
-        ANSWERS(thp_check_reason(&check, reason, sizeof reason, &size), THP_OK);
-        WANT(size > 0 && memcmp(reason, "line 8: 7 unpin 0 stays -\n", 26) == 0);
+        thp_code told = thp_check_reason(&check, reason, sizeof reason, &size);
+        if (told == THP_OUT_OF_MEMORY) {
+            WANT(lost++ == 0);
+            told = thp_check_reason(&check, reason, sizeof reason, &size);
+        }
+        WANT(told == THP_OK && size > 0 && memcmp(reason, "line 8: 7 unpin 0 stays -\n", 26) == 0);
         ANSWERS(thp_check_destroy(&check), THP_OK);
         WANT(blocks == 0);
         WANT(lost == (k > 0));

@@ -29,7 +29,7 @@ fn a_batch_is_tried_and_put_back() -> Result<(), Fault> {
     node.pin(0, page)?;
     assert_eq!(node.split_next(1), Err(Fault::NoBatch));
     assert_eq!(node.take(1, 128)?, 1);
-    assert_eq!(node.take(2, 128), Err(Fault::BatchOpen));
+    assert_eq!(node.take(1, 128), Err(Fault::BatchOpen));
     assert_eq!(node.split_next(2), Err(Fault::NoBatch));
     assert_eq!(node.split_next(1)?, Tried::Pinned(page));
     assert_eq!(node.split_next(1)?, Tried::Done);
