@@ -1,5 +1,5 @@
 -- Events at the front of a text: what was read of its bytes in one walk is what its first line says.
-use Rattle.std.proofs.Common.{◌≡◌, ◌∙◌, ◌==◌, ◌<◌, ◌+◌, ◌-◌, ℕ, Bool, true, false, cond, List, [], ◌∷◌, ◌++◌, length, Option, Some, None, Result, Ok, Err, ap, arith, codes, refl, sym}
+use Rattle.std.proofs.Common.{◌≡◌, ◌∙◌, ℕ, Bool, true, false, List, [], ◌∷◌, ◌++◌, Option, Some, None, Result, Ok, Err, ap, arith, codes, refl, sym}
 use Rattle.std.specs.Prelude.{IfSome}
 use Rattle.std.specs.Result.{result_ok}
 use Rattle.std.specs.Str.{bytes_eq}
@@ -11,10 +11,9 @@ use Rattle.thp_model.specs.declared.events.Outcome.TheVariants.{Stays, Queued, F
 use Rattle.thp_model.specs.declared.events.What.TheVariants as what
 use Rattle.thp_model.specs.History.{by}
 use Rattle.thp_text.specs.declared.fault.TextKind.{TextKind}
-use Rattle.thp_text.specs.Words.{Text, lines_of, number_of, pieces_at, pieces_left, words_of}
+use Rattle.thp_text.specs.Words.{Text, number_of, pieces_at}
 use Rattle.thp_text.specs.WordsAhead.{NumberAhead}
 use Rattle.thp_text.proofs.AheadLaws.{number_whole, of_some, whole_front}
-use Rattle.thp_text.proofs.LineLaws.{IsPlain, word_cases}
 use Rattle.thp_text.proofs.TextLaws.{pieces-append}
 use Rattle.thp_journal_reader.specs.declared.event_word.EventWord.{EventWord}
 use Rattle.thp_journal_reader.specs.declared.event_word.EventWord.TheVariants.{OfPage, OfRange, OfLoss, UnmapSub, Split}
@@ -30,7 +29,7 @@ use Rattle.thp_journal_reader.specs.declared.version.Version.TheVariants.{Plain,
 use Rattle.thp_journal_reader.specs.Ahead.{EventAhead, LineAhead, OperandsAhead, OutcomeAhead}
 use Rattle.thp_journal_reader.specs.EventLines.{event_by, event_of, loss_event, page_event, range_event, split_event, unmap_event, outcome_and_word}
 use Rattle.thp_journal_reader.specs.EventWords.{event_word, common_word, later_word, loss_what, outcome_of, page_what, range_what}
-use Rattle.thp_journal_reader.specs.JournalLines.{by_words, event_line, line_by}
+use Rattle.thp_journal_reader.specs.JournalLines.{by_words, line_by}
 use Rattle.thp_journal_reader.specs.SetTexts.{set_of_text}
 use Rattle.thp_journal_reader.proofs.PlainLines.{line_of-read}
 

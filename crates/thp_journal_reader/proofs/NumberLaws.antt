@@ -1,6 +1,6 @@
 -- What a check that keeps the numbers of nodes knows of them, as one more node begins and as one more event is read.
-use Rattle.std.proofs.Common.{◌≡◌, ◌∙◌, ◌⊎◌, ℕ, suc, ◌+◌, ◌<◌, ◌≤◌, List, [], ◌∷◌, ◌++◌, length, take, Option, Some, None, refl, sym, ap, ap₂, subst, arith, inl, inr, length-append}
-use Rattle.std.specs.Prelude.{All, IfSome, slice_get}
+use Rattle.std.proofs.Common.{◌≡◌, ◌∙◌, ℕ, ◌+◌, ◌≤◌, List, [], ◌∷◌, ◌++◌, length, Option, Some, None, refl, sym, ap, ap₂, subst, arith, inl, inr, length-append}
+use Rattle.std.specs.Prelude.{All, IfSome}
 use Rattle.std.proofs.lemmas.List.{take_at}
 use Rattle.std.proofs.lemmas.List.Elements.{All-nil}
 use Rattle.thp_model.specs.declared.events.Event.{Event}
@@ -14,7 +14,6 @@ use Rattle.thp_check.specs.Reasons.{Explains}
 use Rattle.thp_check.specs.Replays.{Replayed}
 use Rattle.thp_check.specs.Replays.{with_event as replayed}
 use Rattle.thp_series.specs.Series.{numbers_at, series}
-use Rattle.thp_series.specs.declared.numbers.Numbers.{Numbers}
 use Rattle.thp_text.specs.Limits.{max_counted}
 use Rattle.thp_journal_reader.specs.declared.illegal.Illegal.{Illegal}
 use Rattle.thp_journal_reader.specs.declared.journals.NodeJournal.{NodeJournal}
@@ -22,13 +21,12 @@ use Rattle.thp_journal_reader.specs.declared.line.Line.{Line}
 use Rattle.thp_journal_reader.specs.declared.numbered.NumberedNode.{NumberedNode}
 use Rattle.thp_journal_reader.specs.declared.numbering.FollowedNode.{FollowedNode}
 use Rattle.thp_journal_reader.specs.declared.numbering.NumberedNodes.{NumberedNodes}
-use Rattle.thp_journal_reader.specs.Answers.{AreLegalBefore, IsLegalNode, TellsFirst}
-use Rattle.thp_journal_reader.specs.Checking.{nodes_told, AreLegal}
+use Rattle.thp_journal_reader.specs.Answers.{IsLegalNode, TellsFirst}
+use Rattle.thp_journal_reader.specs.Checking.{nodes_told}
 use Rattle.thp_journal_reader.specs.LineRanges.{IsInRange}
 use Rattle.thp_journal_reader.specs.Numbered.{AreNumbered, IsNumbered}
-use Rattle.thp_journal_reader.specs.Numbering.{EndsFollowed, GoesNumbered, HasRoomIn, IsFollowed, NumbersBy}
+use Rattle.thp_journal_reader.specs.Numbering.{EndsFollowed, GoesNumbered, HasRoomIn, NumbersBy}
 use Rattle.thp_journal_reader.specs.Reading.{began, on_last, with_event, with_line, IsNodeBefore}
-use Rattle.thp_journal_reader.specs.Summaries.{IsFrontAt}
 use Rattle.thp_journal_reader.specs.Summing.{LastIsIllegal}
 use Rattle.thp_journal_reader.proofs.AnswerLaws.{found_has, legal_more, legal_none, misfit_inside, misfit_is_illegal}
 use Rattle.thp_journal_reader.proofs.CheckLaws.{front_stays, illegal_grows, last_misfit, misfit_stays, no_events_legal, told_none, told_push, turns_illegal}

@@ -1,5 +1,5 @@
 -- What a check that sums nodes up knows of them, as one more node begins and as one more event is read.
-use Rattle.std.proofs.Common.{◌≡◌, ◌∙◌, ◌⊎◌, ℕ, suc, ◌+◌, ◌<◌, ◌≤◌, List, [], ◌∷◌, ◌++◌, length, take, get_or, Option, Some, None, refl, sym, ap, ap₂, subst, arith, inl, inr, length-append}
+use Rattle.std.proofs.Common.{◌≡◌, ◌∙◌, ℕ, suc, ◌+◌, ◌≤◌, List, [], ◌∷◌, ◌++◌, length, get_or, Option, Some, None, refl, sym, ap, ap₂, subst, arith, inl, inr, length-append}
 use Rattle.std.specs.Prelude.{All, IfSome, slice_get}
 use Rattle.std.proofs.lemmas.List.{take_at}
 use Rattle.std.proofs.lemmas.List.Elements.{All-nil}
@@ -23,12 +23,12 @@ use Rattle.thp_journal_reader.specs.declared.line.Line.{Line}
 use Rattle.thp_journal_reader.specs.declared.summary.LegalNode.{LegalNode}
 use Rattle.thp_journal_reader.specs.declared.summary.SummedNodes.{SummedNodes}
 use Rattle.thp_journal_reader.specs.declared.summary.Summary.{Summary}
-use Rattle.thp_journal_reader.specs.Answers.{AreLegalBefore, IsLegalNode, TellsFirst}
+use Rattle.thp_journal_reader.specs.Answers.{IsLegalNode, TellsFirst}
 use Rattle.thp_journal_reader.specs.Checking.{nodes_told, AreLegal}
 use Rattle.thp_journal_reader.specs.LineRanges.{IsInRange}
 use Rattle.thp_journal_reader.specs.Reading.{began, on_last, with_event, with_line, IsNodeBefore}
-use Rattle.thp_journal_reader.specs.Summaries.{AreSummaries, IsFrontAt, IsSummary}
-use Rattle.thp_journal_reader.specs.Summing.{first_of, EndsAtHand, GoesSummed, HasRoomForOne, HasRoomIn, IsAtHand, IsEnded, LastIsIllegal, Sums, SumsBy}
+use Rattle.thp_journal_reader.specs.Summaries.{AreSummaries, IsSummary}
+use Rattle.thp_journal_reader.specs.Summing.{first_of, EndsAtHand, GoesSummed, HasRoomIn, LastIsIllegal, Sums, SumsBy}
 use Rattle.thp_journal_reader.proofs.AnswerLaws.{found_has, misfit_inside, misfit_is_illegal}
 use Rattle.thp_journal_reader.proofs.CheckLaws.{front_stays, illegal_begins, illegal_grows, last_misfit, legal_grows, misfit_stays, no_events_legal, tells_legal, told_none, told_push, turns_illegal}
 use Rattle.thp_journal_reader.proofs.NodeLaws.{each_step, on_last-push}

@@ -1,4 +1,4 @@
-use Rattle.std.proofs.Common.{codes, sym, subst}
+use Rattle.std.proofs.Common.{codes}
 use Rattle.thp_journal_reader.specs.declared.event_word.EventWord.TheVariants.{OfRange}
 use Rattle.thp_journal_reader.specs.declared.event_word.RangeWord.TheVariants.{Write, Zero}
 use Rattle.thp_journal_reader.specs.declared.version.Version.TheVariants.{Underused}

@@ -1,6 +1,5 @@
 use Rattle.std.proofs.Common.{codes}
-use Rattle.thp_journal_reader.specs.declared.event_word.EventWord.TheVariants.{OfPage, OfRange, OfLoss, UnmapSub, Split}
-use Rattle.thp_journal_reader.specs.declared.event_word.LossWord.TheVariants as loss
+use Rattle.thp_journal_reader.specs.declared.event_word.EventWord.TheVariants.{OfPage, OfRange}
 use Rattle.thp_journal_reader.specs.declared.event_word.PageWord.TheVariants as page
 use Rattle.thp_journal_reader.specs.declared.event_word.RangeWord.TheVariants as range
 use Rattle.thp_journal_reader.proofs.AheadLaws.{mapsub_is, mapwhole_is, named}

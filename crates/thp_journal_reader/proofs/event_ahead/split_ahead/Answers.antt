@@ -1,8 +1,6 @@
 use Rattle.std.proofs.Common.{codes}
-use Rattle.thp_journal_reader.specs.declared.event_word.EventWord.TheVariants.{OfPage, OfRange, OfLoss, UnmapSub, Split}
-use Rattle.thp_journal_reader.specs.declared.event_word.LossWord.TheVariants as loss
+use Rattle.thp_journal_reader.specs.declared.event_word.EventWord.TheVariants.{OfPage, Split}
 use Rattle.thp_journal_reader.specs.declared.event_word.PageWord.TheVariants as page
-use Rattle.thp_journal_reader.specs.declared.event_word.RangeWord.TheVariants as range
 use Rattle.thp_journal_reader.proofs.AheadLaws.{splitpmd_is, split_is, named}
 use Rattle.thp_journal_reader.proofs.event_ahead.split_ahead.Goals as goal
 

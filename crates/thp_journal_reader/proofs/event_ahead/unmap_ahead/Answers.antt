@@ -1,8 +1,6 @@
 use Rattle.std.proofs.Common.{codes}
-use Rattle.thp_journal_reader.specs.declared.event_word.EventWord.TheVariants.{OfPage, OfRange, OfLoss, UnmapSub, Split}
+use Rattle.thp_journal_reader.specs.declared.event_word.EventWord.TheVariants.{OfLoss, UnmapSub}
 use Rattle.thp_journal_reader.specs.declared.event_word.LossWord.TheVariants as loss
-use Rattle.thp_journal_reader.specs.declared.event_word.PageWord.TheVariants as page
-use Rattle.thp_journal_reader.specs.declared.event_word.RangeWord.TheVariants as range
 use Rattle.thp_journal_reader.proofs.AheadLaws.{unmapsub_is, unpin_is, unmapwhole_is, named}
 use Rattle.thp_journal_reader.proofs.event_ahead.unmap_ahead.Goals as goal
 

@@ -1,4 +1,4 @@
-use Rattle.std.proofs.Common.{◌≡◌, ◌∙◌, None, Option, refl, subst, sym}
+use Rattle.std.proofs.Common.{◌≡◌, ◌∙◌, None, Option, subst, sym}
 use Rattle.thp_model.proofs.Options.{not_there}
 use Rattle.thp_journal_reader.specs.Checking.{SaysBy}
 use Rattle.thp_journal_reader.specs.Reading.{on_last, with_event}

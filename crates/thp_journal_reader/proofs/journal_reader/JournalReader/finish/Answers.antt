@@ -1,4 +1,4 @@
-use Rattle.std.proofs.Common.{◌≡◌, ◌∙◌, [], ap, arith, sym, List, Ok}
+use Rattle.std.proofs.Common.{◌∙◌, [], ap, arith, sym, List, Ok}
 use Rattle.std.specs.Prelude.{All}
 use Rattle.thp_journal_reader.specs.declared.journals.NodeJournal.{NodeJournal}
 use Rattle.thp_journal_reader.specs.Journals.{IsNodeJournal}

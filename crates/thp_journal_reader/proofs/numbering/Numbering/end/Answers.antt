@@ -1,4 +1,4 @@
-use Rattle.std.proofs.Common.{◌≡◌, ◌∙◌, None, sym}
+use Rattle.std.proofs.Common.{◌∙◌, sym}
 use Rattle.std.proofs.lemmas.Result.{IfOk-weaker}
 use Rattle.thp_model.proofs.Options.{not_there}
 use Rattle.thp_journal_reader.proofs.NumberLaws.{at_hand_is, ends, none_is}

@@ -1,4 +1,3 @@
-use Rattle.std.specs.Prelude.{Option}
 use Rattle.thp_journal_reader.specs.declared.line.Line.TheVariants.{Happened}
 use Rattle.thp_journal_reader.specs.Reading.{nodes_in}
 use Rattle.thp_journal_reader.proofs.NodeLaws.{each_step}

@@ -1,4 +1,4 @@
-use Rattle.std.proofs.Common.{◌≡◌, ◌∙◌, ◌++◌, [], ap, sym, Err, None}
+use Rattle.std.proofs.Common.{◌≡◌, ◌∙◌, ◌++◌, [], sym, None}
 use Rattle.thp_text.specs.TextInParts.{fault_with}
 use Rattle.thp_text.proofs.TextLaws.{told_end}
 use Rattle.thp_journal_reader.specs.Parts.{lines_tell}

@@ -1,4 +1,4 @@
-use Rattle.std.proofs.Common.{◌≡◌, ◌∙◌, ◌++◌, ◌∷◌, ◌+◌, ℕ, ap, arith, refl, rules, subst, sym, Ok}
+use Rattle.std.proofs.Common.{◌≡◌, ◌∙◌, ◌++◌, ◌∷◌, ℕ, ap, arith, rules, subst, sym, Ok}
 use Rattle.thp_text.specs.TextInParts.{after_line, told_behind, with_begun, with_fault, TextSoFar}
 use Rattle.thp_text.specs.Words.{Text, lines_of}
 use Rattle.thp_text.proofs.PartReadLaws.{part_begins}
