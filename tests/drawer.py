@@ -3,7 +3,7 @@
     tests/drawer.py PROGRAM
 
 Tables are those that tests/tables.py makes by a plain reading of the model. Of pictures it is looked at that they are well-formed, of
-elements and letters that are known, and name each illegal event.
+elements and letters that are known, and name each illegal event; those in docs/pictures are compared byte for byte.
 """
 
 from __future__ import annotations
@@ -73,8 +73,8 @@ WIDE = 7200
 
 
 def shortened(event: str) -> str:
-    """An event as a picture says it: of one that is longer than 80 letters the front."""
-    return event if len(event) <= 80 else f"{event[:77]} .."
+    """An event as a picture says it: of one that is longer than 70 letters the front."""
+    return event if len(event) <= 70 else f"{event[:67]} .."
 
 
 @dataclass(frozen=True)
@@ -122,6 +122,14 @@ def pictures() -> Iterator[Picture]:
         yield Picture(name, text)
     for text, _ in faulty_texts.ILLEGAL:
         yield Picture(repr(text[-60:]), text + b"end\n")
+
+
+def stored() -> Iterator[Row]:
+    """The pictures in docs/, byte for byte, of the journals that they are of."""
+    for path in sorted((ROOT / "docs/pictures").glob("*.svg")):
+        example = ROOT / "examples" / f"{path.stem}.journal"
+        text = example.read_bytes() if example.exists() else FIRST_JOURNAL
+        yield Row("stored pictures", path.name, Call((), text), Ended(0, path.read_bytes()))
 
 
 def faults() -> Iterator[Row]:
@@ -195,7 +203,7 @@ def main() -> None:
         # its name is what it is called by, whatever its file's is
         path = Path(name) / "thpdraw"
         path.symlink_to(program.resolve())
-        for part in (drawn, pictures, faults, requests, failures, shown):
+        for part in (drawn, pictures, stored, faults, requests, failures, shown):
             rows, failed = list(part()), tally.failed
             for row in rows:
                 tally.run(f"{row.group}: {row.name}", lambda row=row: row.wrong(path))
