@@ -6,24 +6,18 @@ use denote.Param.SendFields.{as_row_send, declared_send}
 use mir.Syntax.{Dict}
 use Rattle.std.proofs.Crossing.{Vec-send}
 use Rattle.std.proofs.option.Option.TheSendSync as option
+use Rattle.thp_model.proofs.page_call.Done.TheSendSync as done
 use Rattle.thp_node.specs.declared.recorder.Recorder.{Ghosts}
-use Rattle.thp_sections.proofs.reply.Reply.TheSendSync as reply
-use Rattle.thp_sections.specs.contracts.blank.Blank as Blank
-use Rattle.thp_sections.specs.contracts.blank.Blank.TheInside as in_blank
 use Rattle.thp_sections.specs.contracts.node_pass.NodePass as NodePass
 use Rattle.thp_sections.specs.contracts.node_pass.NodePass.TheInside as in_node_pass
 use Rattle.thp_sections.specs.contracts.node_passes.NodePasses as NodePasses
 use Rattle.thp_sections.specs.contracts.node_passes.NodePasses.TheInside as in_passes
 use Rattle.thp_cell.proofs.Crossings.{batch_send, cell_sync, pass_send}
 
--- a blank reply may go to another thread
-blank_send : IsSend Blank.the_row
-blank_send = view_send in_blank.the_row _ _ _ _ (declared_send in_blank.the_type (search (sendable, reply.the_send), tt))
-
 module _ (d e : Dict) (T : RattleType) (R : Ghosts T.Denot) (recorder_send : IsSend T) where
   -- a pass of one node may go to another thread
   node_pass_send : (k : NamedLft) → IsSend (NodePass.the_row k T R)
-  node_pass_send k = view_send (in_node_pass.the_row k T R) _ _ _ _ (declared_send (in_node_pass.the_type k T R) (search (sendable, as_row_send, cell_sync d e T R recorder_send), (pass_send d e T R recorder_send, (Vec-send _ (option.the_send _ batch_send), (blank_send, tt)))))
+  node_pass_send k = view_send (in_node_pass.the_row k T R) _ _ _ _ (declared_send (in_node_pass.the_type k T R) (search (sendable, as_row_send, cell_sync d e T R recorder_send), (pass_send d e T R recorder_send, (Vec-send _ (option.the_send _ batch_send), (search (sendable, done.the_send), tt)))))
 
   -- passes of all nodes may go to another thread
   pub node_passes_send : (k : NamedLft) → IsSend (NodePasses.the_row k T R)

@@ -4,7 +4,6 @@ use Rattle.atomic_table.specs.Seated.{TableId}
 use Rattle.thp_model.specs.declared.events.Event.{Event}
 use Rattle.thp_model.specs.declared.refusal.Refusal.TheVariants.{OutOfMemory}
 use Rattle.thp_model.specs.Legal.{IsLegal}
-use Rattle.thp_model.specs.declared.page_call.Done.{Done}
 use Rattle.thp_node.specs.Batches.{BatchState, IsInFront}
 use Rattle.thp_cell.specs.declared.fault.CellFault.{CellFault}
 use Rattle.thp_cell.specs.declared.fault.CellFault.TheVariants.{Busy, Refused}
@@ -81,10 +80,6 @@ page_reply (Err fault) = Err fault
 abbrev pub unit_reply : Result (Unit {0}) CellFault → Result Reply CellFault
 unit_reply (Ok x) = Ok reply.Unit
 unit_reply (Err fault) = Err fault
-
--- it tells what a loss did
-abbrev pub IsLossReply : Reply → Type 0
-IsLossReply r = (done : Done) × (r ≡ reply.Done done)
 
 -- there is an open batch
 abbrev pub IsSomeBatch : Option (Option BatchState) → Type 0

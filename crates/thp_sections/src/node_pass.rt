@@ -6,14 +6,13 @@ ghost use Rattle.thp_cell.specs.Views.{HasCaller};
 ghost use Rattle.thp_sections.specs.Does.{answer_of, IsStep};
 ghost use Rattle.thp_sections.specs.Holdings.{batch_of, lower_part, page_reply, unit_reply, upper_part, HeldDone, IsShut, IsSomeBatch, OpenStay};
 
-use crate::blank::Blank;
 use crate::reply::Reply;
 use crate::steps::{NodeCall, Step};
 use std::alloc::{AllocError, Global};
 use std::marker::Model;
 use thp_cell::{CellFault, NodeCell, Pass};
 use thp_model::{PageCall, PageId, Refusal};
-use thp_node::{Batch, Kept, Recorder};
+use thp_node::{Batch, Done, Kept, Recorder};
 
 /// A pass of one node, and for each of its callers at most one open batch.
 #[derive(Drop)]
@@ -22,7 +21,8 @@ pub struct NodePass<'a, R: Recorder = Kept> {
     pass: Pass<R>,
     // by caller, from the pass's first on
     batches: Vec<Option<Batch>>,
-    blank: Blank,
+    // what the answer of a loss begins as: copied from here, since one that is made anew is copied twice
+    blank: Done,
 }
 
 impl<'a, R: Recorder> Model for NodePass<'a, R> {
@@ -56,7 +56,7 @@ impl<'a, R: Recorder> NodePass<'a, R> {
             cell,
             pass,
             batches,
-            blank: Blank::new(),
+            blank: Done::none(),
         })
     }
 
@@ -121,7 +121,7 @@ impl<'a, R: Recorder> NodePass<'a, R> {
                 cell,
                 pass: right,
                 batches: rest,
-                blank: Blank::new(),
+                blank: Done::none(),
             },
         ))
     }
@@ -189,7 +189,7 @@ impl<'a, R: Recorder> NodePass<'a, R> {
         match call {
             PageCall::Gain(gain) => unit(self.cell.gain(&mut self.pass, caller, page, gain), reply),
             PageCall::Loss(kind) => {
-                self.blank.write_to(reply);
+                *reply = Reply::Done(self.blank);
                 let Reply::Done(done) = reply else {
                     unreachable!()
                 };
