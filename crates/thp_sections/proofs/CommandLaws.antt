@@ -1,5 +1,5 @@
 -- A command, step after step.
-use Rattle.std.proofs.Common.{◌≡◌, ◌++◌, ℕ, [], ◌∷◌, refl, sym, ap, ◌∙◌, subst, append_assoc, true, false, Result, Ok, Err, Some}
+use Rattle.std.proofs.Common.{◌≡◌, ◌++◌, ℕ, [], ◌∷◌, refl, sym, ap, ◌∙◌, subst, append_assoc, true, false, Result, Ok, Err}
 use Rattle.std.specs.Result.{IsErrAnd}
 use Rattle.std.proofs.lemmas.List.{append-nil, map-append}
 use Rattle.std.proofs.lemmas.List.Elements.{All-nil, All-push}
@@ -12,15 +12,10 @@ use Rattle.thp_model.specs.declared.refusal.Refusal.TheVariants as why
 use Rattle.thp_text.specs.declared.script.Op.{Op}
 use Rattle.thp_text.specs.declared.script.Op.TheVariants as op
 use Rattle.thp_sections.specs.declared.reply.Reply.{Reply}
-use Rattle.thp_model.specs.declared.page_call.PageCall.{PageCall}
-use Rattle.thp_text.specs.PageCommands.{page_call_of}
-use Rattle.thp_sections.specs.declared.steps.NodeCall.TheVariants as node
 use Rattle.thp_sections.specs.declared.steps.Step.{Step}
-use Rattle.thp_sections.specs.declared.steps.Step.TheVariants as steps
-use Rattle.thp_sections.specs.declared.steps.Step.TheVariants.{PutBack}
 use Rattle.thp_sections.specs.Does.{Reaction, IsFit, answer_of}
 use Rattle.thp_sections.specs.Fronts.{Fronts, HasCaller, Goes, SameHolding, Answered, StepDone}
-use Rattle.thp_sections.specs.Turns.{Progress, On, Ended, Comes, by_cell, IsReady, IsShared, is_scan, next_step, page_step, goes_on, scan_goes_on}
+use Rattle.thp_sections.specs.Turns.{Progress, On, Ended, Comes, by_cell, IsReady, IsShared, is_scan, next_step, goes_on, scan_goes_on}
 use Rattle.thp_sections.specs.Sections.{Made, Proceeds, told_by}
 use Rattle.thp_sections.proofs.TurnLaws.{turned, fares}
 use Rattle.thp_sections.proofs.StepLaws.{made_by, steps_none, steps_one, steps_then, moves_goes, goes_grows}
@@ -141,17 +136,3 @@ ended_comes begun P (Err (Refused r)) reply free room p = (Err r, refused_comes 
 pub cell_comes : (begun : Begun) (P : Progress → Type 0) (called : Result (Unit {0}) CellFault) (said : Result (Unit {0}) Refusal) (reply : Reply) → called ≡ by_cell said → (called ≡ Err (Refused why.OutOfMemory) → ⊥) → Comes begun (answer_of called reply) P → P (Ended (answer_of said reply))
 cell_comes begun P called (Ok x) reply is room p = subst (λ r. Comes begun (answer_of r reply) P) is p
 cell_comes begun P called (Err refusal) reply is room p = refused_comes begun P refusal (λ e. room (is ∙ ap (λ x. Err (Refused x)) e)) (subst (λ r. Comes begun (answer_of r reply) P) is p)
-
--- a command about one page has one step, the call of the page
-pub step_on_page : (o : Op) (begun : Begun) (page : ℕ) (call : PageCall) → page_call_of o ≡ Some (page, call) → next_step o begun ≡ steps.One (node.Page page call)
-step_on_page op.Alloc begun page call is = absurd (cc)
-step_on_page op.Close begun page call is = absurd (cc)
-step_on_page op.Count begun page call is = absurd (cc)
-step_on_page (op.Scan n) begun page call is = absurd (cc)
-step_on_page (op.Take n) begun page call is = absurd (cc)
-step_on_page op.SplitNext begun page call is = absurd (cc)
-step_on_page o begun page call is = ap (λ x. page_step x PutBack) is
-
-pub page_is_one : (o : Op) (page : ℕ) (call : PageCall) → page_call_of o ≡ Some (page, call) → is_scan o ≡ false
-page_is_one (op.Scan n) page call is = absurd (cc)
-page_is_one o page call is = refl

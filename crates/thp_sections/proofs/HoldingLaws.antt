@@ -36,8 +36,8 @@ use Rattle.thp_sections.specs.declared.steps.Step.TheVariants as steps
 use Rattle.thp_sections.specs.declared.steps.Step.TheVariants.{Take, SplitNext, PutBack}
 use Rattle.thp_sections.specs.declared.reply.Reply.{Reply}
 use Rattle.thp_sections.specs.declared.reply.Reply.TheVariants as reply
-use Rattle.thp_sections.specs.Does.{answer_of, Open, Reaction, Does, DoesCall, leaves, open_of, refusal_of, refusal_of_call}
-use Rattle.thp_sections.specs.Holdings.{IsHeld, Acts, HeldAnswered, HeldDone, batch_of, open_in, unit_reply, page_reply}
+use Rattle.thp_sections.specs.Does.{Open, Reaction, Does, DoesCall, leaves, open_of, refusal_of, refusal_of_call}
+use Rattle.thp_sections.specs.Holdings.{IsHeld, Acts, HeldAnswered, HeldDone, batch_of, open_in, unit_reply, loss_reply, page_reply}
 
 -- a call is never refused at a history for want of memory
 memory_last : (b : Bool) (why : Refusal) (rest : Option Refusal) → (why ≡ OutOfMemory → ⊥) → (rest ≡ Some OutOfMemory → ⊥) → cond b (Some why) rest ≡ Some OutOfMemory → ⊥
@@ -202,12 +202,12 @@ unit_done p q bs c k w (Ok x) call same called failed is does =
 unit_done p q bs c k w (Err fault) call same called failed is does = call_failed p q bs c k fault same failed
 
 -- a call that may give frames back
-pub loss_done : (p q : PassState) (bs : List (Option BatchState)) (c page : ℕ) (k : NodeCall) (w : Outcome → List Bool → What) (r : Result (Unit {0}) CellFault) (done : Done) (call : Call) → q ≡ at_front p q.front → OnOk r (Called p q c (DidLose p.shape call c page w done)) → IfErr r (Failed p q (refusal_of_call q.shape q.front k) (leaves q.shape q.front c (batch_of (record { pass = p; batches = bs }) c) (steps.One k)))
-    → ((s : Shape) (h : History) → refusal_of_call s h k ≡ refusal s h call) → ((s : Shape) (h : History) (own : List Event) → own ≡ by c (w done.outcome done.released) ∷ [] → DoesCall s h c k own (Ok (reply.Done done)))
-    → HeldDone c (steps.One k) (record { pass = p; batches = bs }) (record { pass = q; batches = bs }) (answer_of r (reply.Done done))
-loss_done p q bs c page k w (Ok x) done call same called failed is does =
-    held_called p q bs c same (steps.One k) (reply.Done done) (DidLose p.shape call c page w done) called (λ h own d. does_call p.shape h c k _ own (reply.Done done) (is p.shape h ∙ d.allowed) (does p.shape h own d.recorded))
-loss_done p q bs c page k w (Err fault) done call same called failed is does = call_failed p q bs c k fault same failed
+pub loss_done : (p q : PassState) (bs : List (Option BatchState)) (c page : ℕ) (k : NodeCall) (w : Outcome → List Bool → What) (r : Result Done CellFault) (call : Call) → q ≡ at_front p q.front → IfOk r (λ d. Called p q c (DidLose p.shape call c page w d)) → IfErr r (Failed p q (refusal_of_call q.shape q.front k) (leaves q.shape q.front c (batch_of (record { pass = p; batches = bs }) c) (steps.One k)))
+    → ((s : Shape) (h : History) → refusal_of_call s h k ≡ refusal s h call) → ((s : Shape) (h : History) (own : List Event) (d : Done) → own ≡ by c (w d.outcome d.released) ∷ [] → DoesCall s h c k own (Ok (reply.Done d)))
+    → HeldDone c (steps.One k) (record { pass = p; batches = bs }) (record { pass = q; batches = bs }) (loss_reply r)
+loss_done p q bs c page k w (Ok done) call same called failed is does =
+    held_called p q bs c same (steps.One k) (reply.Done done) (DidLose p.shape call c page w done) called (λ h own d. does_call p.shape h c k _ own (reply.Done done) (is p.shape h ∙ d.allowed) (does p.shape h own done d.recorded))
+loss_done p q bs c page k w (Err fault) call same called failed is does = call_failed p q bs c k fault same failed
 
 -- ---- calls that change an open batch
 

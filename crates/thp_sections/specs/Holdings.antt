@@ -4,6 +4,7 @@ use Rattle.atomic_table.specs.Seated.{TableId}
 use Rattle.thp_model.specs.declared.events.Event.{Event}
 use Rattle.thp_model.specs.declared.refusal.Refusal.TheVariants.{OutOfMemory}
 use Rattle.thp_model.specs.Legal.{IsLegal}
+use Rattle.thp_model.specs.declared.page_call.Done.{Done}
 use Rattle.thp_node.specs.Batches.{BatchState, IsInFront}
 use Rattle.thp_cell.specs.declared.fault.CellFault.{CellFault}
 use Rattle.thp_cell.specs.declared.fault.CellFault.TheVariants.{Busy, Refused}
@@ -80,6 +81,11 @@ page_reply (Err fault) = Err fault
 abbrev pub unit_reply : Result (Unit {0}) CellFault → Result Reply CellFault
 unit_reply (Ok x) = Ok reply.Unit
 unit_reply (Err fault) = Err fault
+
+-- what a call that may give frames back is answered
+abbrev pub loss_reply : Result Done CellFault → Result Reply CellFault
+loss_reply (Ok done) = Ok (reply.Done done)
+loss_reply (Err fault) = Err fault
 
 -- there is an open batch
 abbrev pub IsSomeBatch : Option (Option BatchState) → Type 0

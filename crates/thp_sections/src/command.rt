@@ -1,6 +1,5 @@
 //! The steps of one command.
-ghost use Rattle.std.specs.Prelude.{◌≡◌, true, false, Some};
-ghost use Rattle.thp_text.specs.PageCommands.{page_call_of};
+ghost use Rattle.std.specs.Prelude.{◌≡◌, true, false};
 ghost use Rattle.thp_sections.specs.Does.{answer_of};
 ghost use Rattle.thp_sections.specs.Fronts.{Fronts, Goes, HasCaller};
 ghost use Rattle.thp_sections.specs.Sections.{IsCommandFor, Proceeds};
@@ -8,9 +7,8 @@ ghost use Rattle.thp_sections.specs.Turns.{Comes, is_scan, IsReady, IsShared};
 
 use crate::reply::Reply;
 use crate::scanning::{Begun, count_reply, is_scan, next_step};
-use crate::steps::{NodeCall, Step, Steps, try_step};
+use crate::steps::{Steps, try_step};
 use thp_cell::CellFault;
-use thp_model::PageCall;
 use thp_text::Command;
 
 /// Makes the steps of a command that are left, up to its answer, which then stands in `reply`, or to one that stays busy,
@@ -30,36 +28,11 @@ pub(crate) fn do_command<S: Steps>(
     ensures proceeds { Comes begun.new (answer_of result reply.new) (Proceeds caller command begun.old (S.fronts steps.old) (S.fronts steps.new)) }
     ensures shared { Comes begun.new (answer_of result reply.new) (IsShared (S.fronts steps.old)) }
 {
-    if let Some((page, call)) = command.op.page_call() {
-        do_page_call(command, page, call, caller, begun, steps, reply)
-    } else if is_scan(command.op) {
+    if is_scan(command.op) {
         do_scan(command, caller, begun, steps, reply)
     } else {
         do_one(command, caller, begun, steps, reply)
     }
-}
-
-/// The one step of a command about one page. Most commands are: so it is made with no choice among steps.
-#[inline(always)]
-fn do_page_call<S: Steps>(
-    command: Command,
-    page: u64,
-    call: PageCall,
-    caller: u32,
-    begun: &Begun,
-    steps: &mut S,
-    reply: &mut Reply,
-) -> Result<(), CellFault>
-    requires call { page_call_of command.op ≡ Some (page, call) }
-    requires caller { HasCaller (S.fronts steps.old) caller }
-    requires command { IsCommandFor (S.fronts steps.old).nodes command }
-    requires ready { IsReady ((S.fronts steps.old).batches caller command.node) begun.now }
-    ensures goes { Goes caller (S.fronts steps.old) (S.fronts steps.new) }
-    ensures proceeds { Comes begun.now (answer_of result reply.new) (Proceeds caller command begun.now (S.fronts steps.old) (S.fronts steps.new)) }
-    ensures shared { Comes begun.now (answer_of result reply.new) (IsShared (S.fronts steps.old)) }
-{
-    let step = Step::One(NodeCall::Page { page, call });
-    try_step(steps, caller, command.node, step, reply)
 }
 
 /// The one step of a command that isn't a scan.
@@ -84,7 +57,6 @@ fn do_one<S: Steps>(
 }
 
 /// The steps of a scan: a take, tries until there is no page left, and a put-back.
-#[inline(never)]
 fn do_scan<S: Steps>(
     command: Command,
     caller: u32,

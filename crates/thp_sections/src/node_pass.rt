@@ -4,7 +4,7 @@ ghost use Rattle.thp_model.specs.Legal.{IsLegal};
 ghost use Rattle.thp_cell.specs.Calls.{IsJoined, PartsStay};
 ghost use Rattle.thp_cell.specs.Views.{HasCaller};
 ghost use Rattle.thp_sections.specs.Does.{answer_of, IsStep};
-ghost use Rattle.thp_sections.specs.Holdings.{batch_of, lower_part, page_reply, unit_reply, upper_part, HeldDone, IsShut, IsSomeBatch, OpenStay};
+ghost use Rattle.thp_sections.specs.Holdings.{batch_of, lower_part, loss_reply, page_reply, unit_reply, upper_part, HeldDone, IsShut, IsSomeBatch, OpenStay};
 
 use crate::reply::Reply;
 use crate::steps::{NodeCall, Step};
@@ -21,8 +21,6 @@ pub struct NodePass<'a, R: Recorder = Kept> {
     pass: Pass<R>,
     // by caller, from the pass's first on
     batches: Vec<Option<Batch>>,
-    // what the answer of a loss begins as: copied from here, since one that is made anew is copied twice
-    blank: Done,
 }
 
 impl<'a, R: Recorder> Model for NodePass<'a, R> {
@@ -56,7 +54,6 @@ impl<'a, R: Recorder> NodePass<'a, R> {
             cell,
             pass,
             batches,
-            blank: Done::none(),
         })
     }
 
@@ -68,13 +65,11 @@ impl<'a, R: Recorder> NodePass<'a, R> {
             cell: _,
             pass,
             batches: _,
-            blank: _,
         } = self;
         pass
     }
 
     /// One step of a caller. What it is replied stands in `reply`, which after a fault says nothing.
-    #[inline(always)]
     pub(crate) fn step(
         &mut self,
         caller: u32,
@@ -104,7 +99,6 @@ impl<'a, R: Recorder> NodePass<'a, R> {
             cell,
             pass,
             batches,
-            blank,
         } = self;
         let mut batches = batches;
         let (first, _) = pass.callers();
@@ -115,13 +109,11 @@ impl<'a, R: Recorder> NodePass<'a, R> {
                 cell,
                 pass: left,
                 batches,
-                blank,
             },
             NodePass {
                 cell,
                 pass: right,
                 batches: rest,
-                blank: Done::none(),
             },
         ))
     }
@@ -141,13 +133,11 @@ impl<'a, R: Recorder> NodePass<'a, R> {
             cell,
             pass,
             batches,
-            blank,
         } = self;
         let NodePass {
             cell: _,
             pass: right,
             batches: more,
-            blank: _,
         } = other;
         let mut batches = batches;
         let mut more = more;
@@ -157,11 +147,9 @@ impl<'a, R: Recorder> NodePass<'a, R> {
             cell,
             pass,
             batches,
-            blank,
         })
     }
 
-    #[inline(always)]
     fn call(&mut self, caller: u32, call: NodeCall, reply: &mut Reply) -> Result<(), CellFault>
         requires caller { HasCaller self.old.pass caller }
         ensures { HeldDone caller (Step.One call) self.old self.new (answer_of result reply.new) }
@@ -174,7 +162,6 @@ impl<'a, R: Recorder> NodePass<'a, R> {
         }
     }
 
-    #[inline(always)]
     fn page_call(
         &mut self,
         caller: u32,
@@ -188,18 +175,10 @@ impl<'a, R: Recorder> NodePass<'a, R> {
         let page = PageId(page);
         match call {
             PageCall::Gain(gain) => unit(self.cell.gain(&mut self.pass, caller, page, gain), reply),
-            PageCall::Loss(kind) => {
-                *reply = Reply::Done(self.blank);
-                let Reply::Done(done) = reply else {
-                    unreachable!()
-                };
-                self.cell
-                    .lose_into(&mut self.pass, caller, page, kind, done)
-            }
+            PageCall::Loss(kind) => loss(self.cell.lose(&mut self.pass, caller, page, kind), reply),
         }
     }
 
-    #[inline(never)]
     fn take(&mut self, caller: u32, count: u32, reply: &mut Reply) -> Result<(), CellFault>
         requires caller { HasCaller self.old.pass caller }
         requires step { IsStep (Step.Take count) }
@@ -221,7 +200,6 @@ impl<'a, R: Recorder> NodePass<'a, R> {
         }
     }
 
-    #[inline(never)]
     fn split_next(&mut self, caller: u32, reply: &mut Reply) -> Result<(), CellFault>
         requires caller { HasCaller self.old.pass caller }
         ensures { HeldDone caller Step.SplitNext self.old self.new (answer_of result reply.new) }
@@ -241,7 +219,6 @@ impl<'a, R: Recorder> NodePass<'a, R> {
         }
     }
 
-    #[inline(never)]
     fn put_back(&mut self, caller: u32, reply: &mut Reply) -> Result<(), CellFault>
         requires caller { HasCaller self.old.pass caller }
         ensures { HeldDone caller Step.PutBack self.old self.new (answer_of result reply.new) }
@@ -291,7 +268,6 @@ fn put_at(batches: &mut Vec<Option<Batch>>, place: usize, batch: Batch)
 }
 
 // What calls are replied, each kind in a function of its own, so that no step makes room for another's.
-#[inline(always)]
 fn page(called: Result<PageId, CellFault>, reply: &mut Reply) -> Result<(), CellFault>
     ensures { answer_of result reply.new ≡ page_reply called }
 {
@@ -299,7 +275,6 @@ fn page(called: Result<PageId, CellFault>, reply: &mut Reply) -> Result<(), Cell
     Ok(())
 }
 
-#[inline(always)]
 fn count(queued: u32, reply: &mut Reply) -> Result<(), CellFault>
     ensures { answer_of result reply.new ≡ Ok (Reply.Count queued) }
 {
@@ -307,11 +282,17 @@ fn count(queued: u32, reply: &mut Reply) -> Result<(), CellFault>
     Ok(())
 }
 
-#[inline(always)]
 fn unit(called: Result<(), CellFault>, reply: &mut Reply) -> Result<(), CellFault>
     ensures { answer_of result reply.new ≡ unit_reply called }
 {
     called?;
     *reply = Reply::Unit;
+    Ok(())
+}
+
+fn loss(called: Result<Done, CellFault>, reply: &mut Reply) -> Result<(), CellFault>
+    ensures { answer_of result reply.new ≡ loss_reply called }
+{
+    *reply = Reply::Done(called?);
     Ok(())
 }

@@ -49,7 +49,6 @@ impl<'a, R: Recorder> Steps for NodePasses<'a, R> {
         }
     }
 
-    #[inline(always)]
     fn step_into(
         &mut self,
         caller: u32,

@@ -75,7 +75,6 @@ pub trait Steps {
 }
 
 /// A step, tried again at once where the node is busy, `MAX_TRIES` times in all.
-#[inline(always)]
 pub(crate) fn try_step<S: Steps>(
     steps: &mut S,
     caller: u32,
@@ -89,39 +88,13 @@ pub(crate) fn try_step<S: Steps>(
     ensures goes { Goes caller (S.fronts steps.old) (S.fronts steps.new) }
     ensures done { StepDone caller node step (S.fronts steps.old) (S.fronts steps.new) (answer_of result reply.new) }
 {
-    let called = steps.step_into(caller, node, step, reply);
-    if is_busy(called) {
-        try_again(steps, caller, node, step, reply)
-    } else {
-        called
-    }
-}
-
-/// The further tries of a step whose node was busy. They stand apart, so that a step that is made at once is all that a runner's
-/// loop has.
-#[cold]
-#[inline(never)]
-fn try_again<S: Steps>(
-    steps: &mut S,
-    caller: u32,
-    node: u32,
-    step: Step,
-    reply: &mut Reply,
-) -> Result<(), CellFault>
-    requires caller { HasCaller (S.fronts steps.old) caller }
-    requires node { node < (S.fronts steps.old).nodes }
-    requires step { IsStep step }
-    ensures goes { Goes caller (S.fronts steps.old) (S.fronts steps.new) }
-    ensures done { StepDone caller node step (S.fronts steps.old) (S.fronts steps.new) (answer_of result reply.new) }
-{
-    for _ in 0..MAX_TRIES - 2 {
-        spin_loop();
+    for _ in 0..MAX_TRIES - 1 {
         let called = steps.step_into(caller, node, step, reply);
         if !is_busy(called) {
             return called;
         }
+        spin_loop();
     }
-    spin_loop();
     steps.step_into(caller, node, step, reply)
 }
 

@@ -1,5 +1,5 @@
 use Rattle.std.proofs.Common.{◌≡◌}
-use Rattle.thp_sections.proofs.steps.try_again.Given as goal
+use Rattle.thp_sections.proofs.steps.try_step.Given as goal
 
 abbrev pub invariant-loop : goal.invariant-loop
 invariant-loop g l =

@@ -9,7 +9,7 @@ pub invariant_of-self : goal.invariant_of-self
 invariant_of-self g c = held_stays _ c.self.inside.pass c.gain.new.pass _ c.self.invariant c.gain.ensures.same c.gain.ensures.batches
 
 pub invariant_of-self-in-Loss : goal.invariant_of-self-in-Loss
-invariant_of-self-in-Loss g c = held_stays _ c.self.inside.pass c.lose_into.new.pass _ c.self.invariant c.lose_into.ensures.same c.lose_into.ensures.batches
+invariant_of-self-in-Loss g c = held_stays _ c.self.inside.pass c.lose.new.pass _ c.self.invariant c.lose.ensures.same c.lose.ensures.batches
 
 pub returns-in-Gain : goal.returns-in-Gain
 returns-in-Gain g c =
@@ -18,9 +18,9 @@ returns-in-Gain g c =
     rw (c.in-Gain.is, ← c.self.view_is, c.unit.ensures)
     (unit_done c.self.inside.pass c.gain.new.pass c.self.inside.batches.items c.args.caller (node.Page page (either.Gain gain)) (gain_what gain page) c.gain.result (gain_call gain page) c.gain.ensures.same c.gain.ensures.recorded c.gain.ensures.failed (λ s h. refl) (λ s h own e. (e, refl)))
 
-pub returns-in-Done : goal.returns-in-Done
-returns-in-Done g c =
+pub returns-in-Loss : goal.returns-in-Loss
+returns-in-Loss g c =
     let page = c.args.page in
     let loss = c.in-Loss.kind in
-    rw (c.in-Loss.is, ← c.self.view_is)
-    (loss_done c.self.inside.pass c.lose_into.new.pass c.self.inside.batches.items c.args.caller page (node.Page page (either.Loss loss)) (loss_what loss page) c.lose_into.result c.lose_into.new.done (loss_call loss page) c.lose_into.ensures.same c.lose_into.ensures.recorded c.lose_into.ensures.failed (λ s h. refl) (λ s h own e. (c.lose_into.new.done, e, refl)))
+    rw (c.in-Loss.is, ← c.self.view_is, c.loss.ensures)
+    (loss_done c.self.inside.pass c.lose.new.pass c.self.inside.batches.items c.args.caller page (node.Page page (either.Loss loss)) (loss_what loss page) c.lose.result (loss_call loss page) c.lose.ensures.same c.lose.ensures.recorded c.lose.ensures.failed (λ s h. refl) (λ s h own d e. (d, e, refl)))
