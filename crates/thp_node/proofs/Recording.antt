@@ -1,13 +1,10 @@
 -- What a journal keeps: with no event, and with one more.
-use Rattle.std.proofs.Common.{◌≡◌, ℕ, zero, suc, ◌+◌, ◌^◌, ◌<◌, ◌≤◌, Bool, true, false, cond, not, if◌then◌else◌, ◌||◌, List, [], ◌∷◌, ◌++◌, length, replicate, Option, Some, None, IfSome, slice_index_or, refl, ap, sym, ◌∙◌, subst, arith}
+use Rattle.std.proofs.Common.{◌≡◌, ℕ, zero, suc, ◌+◌, ◌^◌, ◌<◌, ◌≤◌, Bool, true, false, cond, not, if◌then◌else◌, ◌||◌, List, [], ◌∷◌, ◌++◌, length, replicate, Option, Some, None, IfSome, slice_index_or, refl, ap, sym, ◌∙◌, arith}
 use Rattle.std.specs.Int.{from_bool}
 use Rattle.std.proofs.lemmas.List.{length_push}
 use Rattle.thp_model.specs.declared.events.Event.{Event}
 use Rattle.thp_model.specs.declared.events.What.{What}
 use Rattle.thp_model.specs.declared.events.What.TheVariants.{UnmapWhole, UnmapSub, SplitPmd, Unpin, Taken, Split, Used, Back, Dropped}
-use Rattle.thp_model.specs.declared.events.Outcome.{Outcome}
-use Rattle.thp_model.specs.declared.page_call.Loss.{Loss}
-use Rattle.thp_model.specs.declared.page_call.Loss.TheVariants as loss
 use Rattle.thp_model.specs.declared.shape.Shape.{Shape}
 use Rattle.thp_model.specs.History.{History, by, count_of, some_event}
 use Rattle.thp_model.specs.Shapes.{IsShape}
@@ -17,15 +14,13 @@ use Rattle.thp_model.specs.Counters.{splits_pmds, is_page_split, is_failed_try, 
 use Rattle.thp_model.specs.Frames.{given, frames_given, gives_back}
 use Rattle.thp_model.specs.Places.{flights, flight}
 use Rattle.thp_model.specs.Legal.{IsLegal, Fits}
-use Rattle.thp_model.specs.PageCalls.{loss_what}
 use Rattle.thp_model.proofs.Kept.{frames_given_push, size_given}
 use Rattle.thp_model.proofs.LegalSteps.{legal_none, legal_push}
 use Rattle.thp_model.proofs.Pushes.{count_of_push, some_event_push, thp_split_pmd_push, thp_underused_split_page_push}
 use Rattle.thp_node.specs.declared.answers.Counters.{Counters}
 use Rattle.thp_node.specs.declared.journal.Tally.{Tally}
 use Rattle.thp_node.specs.declared.journal.Unsaid.{Unsaid}
-use Rattle.thp_node.specs.declared.journal.Unsaid.TheVariants.{FreedFrom}
-use Rattle.thp_node.specs.Journals.{JournalState, HasFlightRoom, IsJournal, leaves_of, unsaid_of, leaves_by, pmds_by, splits_as_underused, joins_of, one_for, frames_of, CanJoin, CanLeave, HasCountRoom, Counts}
+use Rattle.thp_node.specs.Journals.{HasFlightRoom, IsJournal, leaves_of, unsaid_of, leaves_by, pmds_by, splits_as_underused, joins_of, one_for, frames_of, CanJoin, CanLeave, HasCountRoom, Counts}
 use Rattle.thp_node.proofs.JournalLemmas.{few_frames_given, flight_moves, leaves_one}
 use Rattle.thp_live_pages.proofs.Starting.{few_events}
 
@@ -162,16 +157,3 @@ journal_push shape h c w u old new j f said a =
       few_split_pmds = omega (arith, j.few_split_pmds, a.few_split_pmds, pmds, thp_split_pmd_push h e, length_push h e);
       few_underused = omega (arith, j.few_underused, under, few_one (splits_as_underused w u), thp_underused_split_page_push shape h e, length_push h e);
     }
-
--- what is required of the journal's value, of its fields
-pub fits_inside : (v u : JournalState) (c : ℕ) (w : What) → v ≡ u → Fits u.shape u.events (by c w) → Fits v.shape v.events (by c w)
-fits_inside v u c w e f = let F : JournalState → Type 0 = λ s. Fits s.shape s.events (by c w) in subst F (sym e) f
-
-pub unsaid_inside : (v u : JournalState) (w : What) (o : Unsaid) → v ≡ u → o ≡ unsaid_of u.shape u.events w → o ≡ unsaid_of v.shape v.events w
-unsaid_inside v u w o e f = f ∙ ap (λ (s : JournalState). unsaid_of s.shape s.events w) (sym e)
-
--- what a loss leaves unsaid tells out of which flight its page goes
-pub loss_leaves : (c p : ℕ) (l : Loss) (o : Outcome) (set : List Bool) (left : Option ℕ) → leaves_by c (loss_what l p o set) (FreedFrom left) ≡ left
-loss_leaves c p loss.UnmapWhole o set left = refl
-loss_leaves c p (loss.UnmapSub first count) o set left = refl
-loss_leaves c p loss.Unpin o set left = refl

@@ -9,14 +9,13 @@ ghost use Rattle.thp_model.specs.Counts.{allocations, is_closed, is_queued};
 ghost use Rattle.thp_model.specs.Frames.{frames_given, frames_held};
 ghost use Rattle.thp_model.specs.Places.{flight};
 ghost use Rattle.thp_model.specs.Legal.{IsLegal, Fits};
-ghost use Rattle.thp_model.specs.PageCalls.{loss_what};
 ghost use Rattle.thp_node.specs.Journals.{HasFlightRoom, unsaid_of, leaves_by, joins_of, counters_of, HasCountRoom, CanJoin, CanLeave, Moves, Counts, freed_from, mappings_of, is_underused};
 
 use crate::answers::Counters;
 use crate::recorder::{Kept, Recorder};
 use std::alloc::{AllocError, Global};
 use std::marker::Model;
-use thp_model::{Done, Event, Loss, MAX_CALLERS, Outcome, PageId, Shape, SubSet, What};
+use thp_model::{Event, MAX_CALLERS, Outcome, Shape, SubSet, What};
 
 // What an event does that it doesn't say itself.
 #[derive(Clone, Copy)]
@@ -128,32 +127,6 @@ impl<R: Recorder> Journal<R> {
         self.tally.count(caller, &what, unsaid);
     }
 
-    // Records that a page lost mappings or a pin, which fits, with what became of the page, and out of whose flight it was freed.
-    // The same as `record`, but what is counted is read where it lies: an event that isn't kept isn't made.
-    #[inline(always)]
-    pub(crate) fn record_loss(
-        &mut self,
-        caller: u32,
-        page: PageId,
-        loss: Loss,
-        done: &Done,
-        left: Option<u32>,
-    )
-        requires caller { caller < max_callers }
-        requires room { 0 < self.old.room }
-        requires fits { Fits self.old.shape self.old.events (by caller (loss_what loss page done.now.outcome done.now.released)) }
-        requires unsaid { Unsaid.FreedFrom left ≡ unsaid_of self.old.shape self.old.events (loss_what loss page done.now.outcome done.now.released) }
-        ensures shape { self.new.shape ≡ self.old.shape }
-        ensures events { self.new.events ≡ self.old.events ++ by caller (loss_what loss page done.now.outcome done.now.released) ∷ [] }
-        ensures room { self.new.room + 1 ≡ self.old.room }
-        ensures legal { IsLegal self.new.shape self.new.events }
-    {
-        self.events.record(caller, loss.what(page, done));
-        // Tells the proof that the number of events, and with it each of the numbers of the tally, is bounded.
-        let _events = self.events.count();
-        self.tally.count_done(caller, page, loss, done, left);
-    }
-
     // The shape of the node.
     pub(crate) fn shape(&self) -> Shape
         ensures value { result ≡ self.now.shape }
@@ -258,16 +231,6 @@ impl Tally {
             What::Close => self.closed = true,
             _ => {}
         }
-    }
-
-    // Counts that a page lost mappings or a pin, by what became of it. It is inlined with `record_loss`.
-    #[inline(always)]
-    fn count_done(&mut self, caller: u32, page: PageId, loss: Loss, done: &Done, left: Option<u32>)
-        requires room { HasCountRoom self.old }
-        requires leaves { IfSome left (CanLeave self.old.flying) }
-        ensures { Counts self.old self.new caller (loss_what loss page done.now.outcome done.now.released) (Unsaid.FreedFrom left) }
-    {
-        self.count_loss(done.outcome, &done.released, Unsaid::FreedFrom(left));
     }
 
     // Counts an unmap or an unpin.

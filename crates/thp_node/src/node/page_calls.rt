@@ -181,38 +181,16 @@ impl<R: Recorder> Node<R> {
         ensures refused { IfErr result (Refused self.old self.new (refusal self.old.shape self.old.journal (loss_call loss page)) 1) }
         ensures fronts { FrontsStay self.old.journal self.new.journal }
     {
-        let mut done = Done::none();
-        match self.lose_into(caller, page, loss, &mut done) {
-            Ok(()) => Ok(done),
-            Err(refusal) => Err(refusal),
-        }
-    }
-
-    /// The same, with what it did written where it stays. After a refusal that says nothing.
-    #[inline(always)]
-    pub fn lose_into(
-        &mut self,
-        caller: u32,
-        page: PageId,
-        loss: Loss,
-        done: &mut Done,
-    ) -> Result<(), Refusal>
-        requires { caller < max_callers }
-        ensures allowed { OnOk result (refusal self.old.shape self.old.journal (loss_call loss page) ≡ None) }
-        ensures recorded { OnOk result (Did self.old self.new caller (by caller (loss_what loss page done.new.outcome done.new.released) ∷ [])) }
-        ensures outcome { OnOk result (done.new.outcome ≡ outcome self.old.shape self.old.journal self.new.journal page) }
-        ensures released { OnOk result (done.new.released ≡ released self.old.shape self.old.journal self.new.journal page) }
-        ensures refused { IfErr result (Refused self.old self.new (refusal self.old.shape self.old.journal (loss_call loss page)) 1) }
-        ensures fronts { FrontsStay self.old.journal self.new.journal }
-    {
         let block = self.admit(page, PageCall::Loss(loss))?;
         let closed = self.journal.is_closed();
-        let left = match self.blocks.lose(block, loss, closed, done) {
+        let mut done = Done::none();
+        let left = match self.blocks.lose(block, loss, closed, &mut done) {
             Ok(left) => left,
             Err(refusal) => return Err(refusal),
         };
-        self.journal.record_loss(caller, page, loss, done, left);
-        Ok(())
+        self.journal
+            .record(caller, loss.what(page, &done), Unsaid::FreedFrom(left));
+        Ok(done)
     }
 
     // The operands of a range as a page call keeps them.
