@@ -1,5 +1,5 @@
 //! What a node holds after the events of a history so far.
-ghost use Rattle.std.specs.Prelude.{◌≡◌, ◌<◌, ◌≤◌, ◌+◌, ◌^◌, ℕ, [], ◌||◌, not, slice_get, Some, ◌≢◌, IfErr, IfNone, IfOk, IfSome, IsSome, if◌then◌else◌, IsTrue, ◌↔◌};
+ghost use Rattle.std.specs.Prelude.{◌≡◌, ◌<◌, ◌≤◌, ◌+◌, ◌^◌, ℕ, [], ◌||◌, not, slice_get, Some, ◌≢◌, IfErr, IfNone, IfOk, IfSome, IsSome, if◌then◌else◌, Err, IsTrue, ◌↔◌};
 ghost use Rattle.thp_model.specs.Counts.{is_live};
 ghost use Rattle.thp_model.specs.History.{History};
 ghost use Rattle.thp_model.specs.Limits.{max_order, min_order};
@@ -70,66 +70,78 @@ impl NodeState {
         requires small { self.old.next + 1 < 2 ^ 64 }
         ensures { Follows self.old self.new caller what.now result }
     {
-        match *what {
-            What::Alloc { page, block } => self.alloc(page, block),
-            What::MapWhole { page } => self.gain(page, Gain::MapWhole),
+        match what {
+            What::Alloc { page, block } => self.alloc(*page, *block),
+            What::MapWhole { page } => self.gain(*page, Gain::MapWhole),
             What::UnmapWhole {
                 outcome,
                 page,
                 released,
-            } => self.lose(page, Loss::UnmapWhole, outcome, released),
-            What::MapSub { page, first, count } => match short(first, count) {
-                Some((first, count)) => self.gain(page, Gain::MapSub { first, count }),
-                None => Err(self.bad_range(page)),
-            },
+            } => self.lose(*page, Loss::UnmapWhole, *outcome, released),
+            What::MapSub { page, first, count } => {
+                let (first, count) = match short(*first, *count) {
+                    Some(range) => range,
+                    None => return self.refuse_range(*page),
+                };
+                self.gain(*page, Gain::MapSub { first, count })
+            }
             What::UnmapSub {
                 outcome,
                 page,
                 first,
                 count,
                 released,
-            } => match short(first, count) {
-                Some((first, count)) => {
-                    self.lose(page, Loss::UnmapSub { first, count }, outcome, released)
-                }
-                None => Err(self.bad_range(page)),
-            },
-            What::SplitPmd { page } => self.gain(page, Gain::SplitPmd),
-            What::Pin { page } => self.gain(page, Gain::Pin),
+            } => {
+                let (first, count) = match short(*first, *count) {
+                    Some(range) => range,
+                    None => return self.refuse_range(*page),
+                };
+                self.lose(*page, Loss::UnmapSub { first, count }, *outcome, released)
+            }
+            What::SplitPmd { page } => self.gain(*page, Gain::SplitPmd),
+            What::Pin { page } => self.gain(*page, Gain::Pin),
             What::Unpin {
                 outcome,
                 page,
                 released,
-            } => self.lose(page, Loss::Unpin, outcome, released),
-            What::Write { page, first, count } => match short(first, count) {
-                Some((first, count)) => self.gain(page, Gain::Write { first, count }),
-                None => Err(self.bad_range(page)),
-            },
-            What::Zero { page, first, count } => match short(first, count) {
-                Some((first, count)) => self.gain(page, Gain::Zero { first, count }),
-                None => Err(self.bad_range(page)),
-            },
-            What::Taken { page } => self.take(caller, page),
-            What::Split { page, released } => self.split(caller, page, released),
-            What::Pinned { page } => self.find_pinned(caller, page),
-            What::Used { page } => self.leave_used(caller, page),
-            What::Back { page } => self.put_back(caller, page),
-            What::Dropped { page } => self.drop_page(caller, page),
+            } => self.lose(*page, Loss::Unpin, *outcome, released),
+            What::Write { page, first, count } => {
+                let (first, count) = match short(*first, *count) {
+                    Some(range) => range,
+                    None => return self.refuse_range(*page),
+                };
+                self.gain(*page, Gain::Write { first, count })
+            }
+            What::Zero { page, first, count } => {
+                let (first, count) = match short(*first, *count) {
+                    Some(range) => range,
+                    None => return self.refuse_range(*page),
+                };
+                self.gain(*page, Gain::Zero { first, count })
+            }
+            What::Taken { page } => self.take(caller, *page),
+            What::Split { page, released } => self.split(caller, *page, released),
+            What::Pinned { page } => self.find_pinned(caller, *page),
+            What::Used { page } => self.leave_used(caller, *page),
+            What::Back { page } => self.put_back(caller, *page),
+            What::Dropped { page } => self.drop_page(caller, *page),
             What::Close => self.close(),
         }
     }
 
-    // Why a call of a page with a range of numbers that are too large for any page is refused.
-    fn bad_range(&self, page: PageId) -> Misfit
-        ensures { (s : Shape) (h : History) → Means s h self.now → result ≡ Misfit.Refused (if is_live h page then Refusal.BadRange else Refusal.NoPage) }
+    // A call of a page with a range of numbers that are too large for any page is refused.
+    #[inline(never)]
+    fn refuse_range(&self, page: PageId) -> Result<(), Misfit>
+        ensures { (s : Shape) (h : History) → Means s h self.now → result ≡ Err (Misfit.Refused (if is_live h page then Refusal.BadRange else Refusal.NoPage)) }
     {
         match self.places.find(page) {
-            Some(_) => Misfit::Refused(Refusal::BadRange),
-            None => Misfit::Refused(Refusal::NoPage),
+            Some(_) => refused(Refusal::BadRange),
+            None => refused(Refusal::NoPage),
         }
     }
 
     // A new page.
+    #[inline(never)]
     fn alloc(&mut self, page: PageId, block: u32) -> Result<(), Misfit>
         requires known { IsKnown self.old }
         requires small { self.old.next + 1 < 2 ^ 64 }
@@ -156,12 +168,12 @@ impl NodeState {
     {
         let block = match self.places.find(page) {
             Some(block) => block,
-            None => return Err(Misfit::Refused(Refusal::NoPage)),
+            None => return refused(Refusal::NoPage),
         };
-        match self.places.gain(block, gain) {
-            Ok(()) => Ok(()),
-            Err(refusal) => Err(Misfit::Refused(refusal)),
+        if let Err(refusal) = self.places.gain(block, gain) {
+            return refused(refusal);
         }
+        Ok(())
     }
 
     // A page that loses mappings or a pin, with the outcome and the frames that the event tells.
@@ -170,31 +182,29 @@ impl NodeState {
         page: PageId,
         loss: Loss,
         outcome: Outcome,
-        released: SubSet,
+        released: &SubSet,
     ) -> Result<(), Misfit>
         requires { IsKnown self.old }
-        ensures { (c : ℕ) → Follows self.old self.new c (loss_what loss page outcome released) result }
+        ensures { (c : ℕ) → Follows self.old self.new c (loss_what loss page outcome released.now) result }
     {
         let block = match self.places.find(page) {
             Some(block) => block,
-            None => return Err(Misfit::Refused(Refusal::NoPage)),
+            None => return refused(Refusal::NoPage),
         };
         let mut done = Done::none();
         let left = match self.places.lose(block, loss, self.closed, &mut done) {
             Ok(left) => left,
-            Err(refusal) => return Err(Misfit::Refused(refusal)),
+            Err(refusal) => return refused(refusal),
         };
         self.flights.leave(left, block);
         if !is_told(&done, outcome, released) {
-            return Err(Misfit::Outcome {
-                outcome: done.outcome,
-                released: done.released,
-            });
+            return other_outcome(&done);
         }
         Ok(())
     }
 
     // A take of the oldest page.
+    #[inline(never)]
     fn take(&mut self, caller: u32, page: PageId) -> Result<(), Misfit>
         requires { IsKnown self.old }
         ensures { Follows self.old self.new caller (What.Taken page) result }
@@ -228,9 +238,10 @@ impl NodeState {
     }
 
     // A try that splits a page of the caller's flight, with the frames that the event tells.
-    fn split(&mut self, caller: u32, page: PageId, released: SubSet) -> Result<(), Misfit>
+    #[inline(never)]
+    fn split(&mut self, caller: u32, page: PageId, released: &SubSet) -> Result<(), Misfit>
         requires { IsKnown self.old }
-        ensures { Follows self.old self.new caller (What.Split page released) result }
+        ensures { Follows self.old self.new caller (What.Split page released.now) result }
     {
         let block = match self.places.find_in_batch(page, caller) {
             Some(block) => block,
@@ -244,13 +255,14 @@ impl NodeState {
         }
         let given = self.places.split(block, self.shape.shrinks_underused());
         self.flights.leave(Some(caller), block);
-        if given != released {
+        if given != *released {
             return Err(Misfit::Released(given));
         }
         Ok(())
     }
 
     // A try that finds a page of the caller's flight pinned.
+    #[inline(never)]
     fn find_pinned(&self, caller: u32, page: PageId) -> Result<(), Misfit>
         ensures { Follows self.now self.now caller (What.Pinned page) result }
     {
@@ -268,6 +280,7 @@ impl NodeState {
     }
 
     // A try that finds a page of the caller's flight in use, which leaves the flight and goes nowhere.
+    #[inline(never)]
     fn leave_used(&mut self, caller: u32, page: PageId) -> Result<(), Misfit>
         requires { IsKnown self.old }
         ensures { Follows self.old self.new caller (What.Used page) result }
@@ -293,6 +306,7 @@ impl NodeState {
     }
 
     // A put-back of the first page of the caller's flight.
+    #[inline(never)]
     fn put_back(&mut self, caller: u32, page: PageId) -> Result<(), Misfit>
         requires { IsKnown self.old }
         ensures { Follows self.old self.new caller (What.Back page) result }
@@ -310,6 +324,7 @@ impl NodeState {
     }
 
     // The first page of the caller's flight, which goes nowhere.
+    #[inline(never)]
     fn drop_page(&mut self, caller: u32, page: PageId) -> Result<(), Misfit>
         requires { IsKnown self.old }
         ensures { Follows self.old self.new caller (What.Dropped page) result }
@@ -354,6 +369,7 @@ impl NodeState {
     }
 
     // The close of the node.
+    #[inline(never)]
     fn close(&mut self) -> Result<(), Misfit>
         ensures { (c : ℕ) → Follows self.old self.new c What.Close result }
     {
@@ -363,6 +379,28 @@ impl NodeState {
         self.closed = true;
         Ok(())
     }
+}
+
+// A misfit takes 72 bytes, which the code of a function that makes one clears at its start; so those of calls that are made often
+// are made apart.
+
+// A call that is refused.
+#[inline(never)]
+fn refused(refusal: Refusal) -> Result<(), Misfit>
+    ensures { result ≡ Err (Misfit.Refused refusal) }
+{
+    Err(Misfit::Refused(refusal))
+}
+
+// An unmap or an unpin that had another outcome than was told, or gave other frames back.
+#[inline(never)]
+fn other_outcome(done: &Done) -> Result<(), Misfit>
+    ensures { result ≡ Err (Misfit.Outcome done.now.outcome done.now.released) }
+{
+    Err(Misfit::Outcome {
+        outcome: done.outcome,
+        released: done.released,
+    })
 }
 
 // The caller of an event that is a take.
@@ -376,10 +414,10 @@ fn taker_of(event: &Event) -> Option<u32>
 }
 
 // Whether an event tells the outcome and the frames that there were.
-fn is_told(done: &Done, outcome: Outcome, released: SubSet) -> bool
-    ensures { IsTrue result ↔ ((done.now.outcome ≡ outcome) × (done.now.released ≡ released)) }
+fn is_told(done: &Done, outcome: Outcome, released: &SubSet) -> bool
+    ensures { IsTrue result ↔ ((done.now.outcome ≡ outcome) × (done.now.released ≡ released.now)) }
 {
-    done.outcome == outcome && done.released == released
+    done.outcome == outcome && done.released == *released
 }
 
 // The operands of a range as a page call has them, where they aren't too large for any page.

@@ -4,6 +4,6 @@ use Rattle.thp_check.proofs.node_state.is_told.Goals as goal
 
 pub returns-then-eq : goal.returns-then-eq
 returns-then-eq c = (
-  λ e. (search rules, (same_set-Decides c.args.done.now.released c.args.released).0 (sym c.eq-then-eq.ensures ∙ e)),
-  λ w. c.eq-then-eq.ensures ∙ (same_set-Decides c.args.done.now.released c.args.released).1 w.1,
+  λ e. (search rules, (same_set-Decides c.args.done.now.released c.args.released.now).0 (sym c.eq-then-eq.ensures ∙ e)),
+  λ w. c.eq-then-eq.ensures ∙ (same_set-Decides c.args.done.now.released c.args.released.now).1 w.1,
 )
