@@ -8,6 +8,7 @@ the built program get what `rt ci` has just built, by each of its compilers; whe
 
 from __future__ import annotations
 
+import os
 import re
 import subprocess
 import sys
@@ -75,6 +76,12 @@ def run(command: list[str], failures: list[str]) -> tuple[int, int, int]:
     return passed, failed, child.wait()
 
 
+def spent() -> float:
+    """The processor time of all that has run so far, in seconds."""
+    times = os.times()
+    return times.children_user + times.children_system
+
+
 class Gate(Tally):
     """The parts of the gate, and what failed in them."""
 
@@ -83,20 +90,23 @@ class Gate(Tally):
         self.failures: list[str] = []
 
     def add(self, name: str, command: list[str]) -> None:
-        """Runs a command and adds its count. One that ends wrong and counts nothing failed counts as one failed."""
+        """Runs a command and adds its count, and says what processor time it took. One that ends wrong and counts nothing failed
+        counts as one failed."""
         lines: list[str] = []
+        began = spent()
         passed, failed, status = run(command, lines)
         if status not in (0, SKIPPED) and failed == 0:
             lines.append(f"{name}: ended with status {status}")
             failed = 1
-        print(f"{name}: {passed} of {passed + failed}", flush=True)
+        print(f"{name}: {passed} of {passed + failed}, in {spent() - began:.0f} s of processor time", flush=True)
         self.passed += passed
         self.failed += failed
         if failed:
             self.failures += [f"failed in {name}: {line}" for line in lines or ["no line names it"]]
 
     def end(self) -> None:
-        """Names what failed again, tells the count and ends."""
+        """Names what failed again, tells the processor time of all and the count, and ends."""
+        print(f"processor minutes: {spent() / 60:.1f}", flush=True)
         for line in self.failures:
             print(line, flush=True)
         super().end()

@@ -30,6 +30,7 @@ struct Options {
     report: Report,
     orders: Vec<u32>,
     underused: Vec<Option<u32>>,
+    tries: Option<u32>,
     check: bool,
 }
 
@@ -80,7 +81,7 @@ fn serve() -> Result<bool, Fault> {
         underused: options.underused[at as usize],
     };
     let nodes = (0..options.nodes).map(|at| Node::new(shape(at))).collect();
-    let (nodes, answers) = run::run(nodes, &sections, options.report == Report::Answers);
+    let (nodes, answers) = run::run(nodes, &sections, options.report == Report::Answers, options.tries);
     let text = match options.report {
         Report::Totals => report::totals(&nodes),
         Report::Journal => report::journals(&nodes),
@@ -111,7 +112,7 @@ fn write_output(text: &[u8]) -> Result<(), Fault> {
 
 fn options() -> Option<Options> {
     let (mut nodes, mut blocks, mut workers, mut report) = (1, 16, 1, Report::Totals);
-    let (mut orders, mut underused, mut check) = (None, None, false);
+    let (mut orders, mut underused, mut tries, mut check) = (None, None, None, false);
     let mut words = std::env::args().skip(1);
     while let Some(word) = words.next() {
         match word.as_str() {
@@ -131,13 +132,14 @@ fn options() -> Option<Options> {
                     _ => return None,
                 }
             }
+            "--tries" => tries = Some(words.next()?.parse().ok()?),
             "--check" => check = true,
             _ => return None,
         }
     }
     let orders = orders.unwrap_or(vec![9; nodes as usize]);
     let underused = underused.unwrap_or(vec![None; nodes as usize]);
-    let options = Options { nodes, blocks, workers, report, orders, underused, check };
+    let options = Options { nodes, blocks, workers, report, orders, underused, tries, check };
     are_within_limits(&options).then_some(options)
 }
 
@@ -157,4 +159,5 @@ fn are_within_limits(options: &Options) -> bool {
         && (1..=8).contains(nodes)
         && (1..=4096).contains(blocks)
         && (1..=63).contains(workers)
+        && options.tries != Some(0)
 }

@@ -6,7 +6,7 @@ use Rattle.thp_text.specs.Limits.{max_counted}
 use Rattle.thp_text.specs.declared.fault.ReadFault.TheVariants as reading
 use Rattle.thp_text.specs.declared.fault.TextKind.{TextKind}
 use Rattle.thp_text.specs.Scripts.{Fault}
-use Rattle.thp_totals.specs.Totals.{lines_from}
+use Rattle.thp_journal_writer.specs.Totals.{lines_from}
 use Rattle.thp_journal_reader.specs.declared.illegal.Illegal.{Illegal}
 use Rattle.thp_journal_reader.specs.declared.journals.NodeJournal.{NodeJournal}
 use Rattle.thp_journal_reader.specs.declared.summed.SummaryFault.{SummaryFault}

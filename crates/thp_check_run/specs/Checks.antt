@@ -8,8 +8,8 @@ use Rattle.thp_journal_reader.specs.declared.journals.NodeJournal.{NodeJournal}
 use Rattle.thp_journal_reader.specs.Answers.{TellsFirst}
 use Rattle.thp_journal_reader.specs.Journals.{journals_within}
 use Rattle.thp_journal_reader.specs.Summaries.{AreSummaries}
-use Rattle.thp_totals.specs.Totals.{lines_from}
-use Rattle.thp_totals.specs.declared.numbers.Totals.{Totals}
+use Rattle.thp_journal_writer.specs.Totals.{lines_from}
+use Rattle.thp_journal_writer.specs.declared.totals.Totals.{Totals}
 use Rattle.thp_streams.specs.declared.fault.RunFault.{RunFault}
 use Rattle.thp_streams.specs.declared.fault.RunFault.TheVariants.{Text, OutOfMemory, Read, Write}
 use Rattle.thp_streams.specs.declared.long_fault.LongRunFault.{LongRunFault}

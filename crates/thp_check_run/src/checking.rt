@@ -5,7 +5,7 @@ ghost use Rattle.thp_streams.specs.declared.ending.Program.TheVariants.{Thpcheck
 ghost use Rattle.thp_streams.specs.Outcomes.{device_of};
 ghost use Rattle.thp_streams.specs.Passages.{WritesAnswer};
 ghost use Rattle.thp_streams.specs.Verdicts.{verdict_text};
-ghost use Rattle.thp_totals.specs.Totals.{lines_from};
+ghost use Rattle.thp_journal_writer.specs.Totals.{lines_from};
 ghost use Rattle.thp_check_run.specs.Checks.{explanation_of, found_in, line_of, CheckEnds};
 ghost use Rattle.thp_check_run.specs.Progress.{may_show, ShowsProgress};
 
@@ -17,9 +17,8 @@ use std::io::{Read, Write};
 use std::time::Clock;
 use thp_explanations::put_explanation;
 use thp_journal_reader::Illegal;
-use thp_journal_writer::put;
+use thp_journal_writer::{put, put_totals_of_each};
 use thp_streams::{LongRunFault, Watched, verdict, write_text};
-use thp_totals::put_each;
 
 /// What the check of a journal found.
 #[derive(Drop)]
@@ -66,7 +65,7 @@ fn text_of(alloc: Global, found: &Found) -> Result<Vec<u8>, AllocError>
     let verdict = verdict(alloc, line_of(&found.illegal))?;
     let mut text = Vec::new(alloc);
     put(&mut text, verdict.as_bytes())?;
-    put_each(&mut text, found.totals.as_slice())?;
+    put_totals_of_each(&mut text, found.totals.as_slice())?;
     Ok(text)
 }
 

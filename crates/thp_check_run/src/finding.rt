@@ -19,7 +19,7 @@ use thp_check::Misfit;
 use thp_journal_reader::{Illegal, LongCheck, SummedCheck};
 use thp_model::{Outcome, Refusal, What};
 use thp_streams::{LongRunFault, Program, Watched};
-use thp_totals::Totals;
+use thp_journal_writer::Totals;
 
 /// What a journal tells.
 #[derive(Drop)]

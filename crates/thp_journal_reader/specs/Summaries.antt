@@ -3,8 +3,8 @@ use Rattle.std.specs.Prelude.{◌≡◌, ◌⊎◌, ⊤, ℕ, List, [], ◌∷�
 use Rattle.thp_model.specs.History.{History}
 use Rattle.thp_model.specs.Legal.{IsFirstMisfit}
 use Rattle.thp_text.specs.Scripts.{Fault}
-use Rattle.thp_totals.specs.Totals.{totals_of}
-use Rattle.thp_totals.specs.declared.numbers.Totals.{Totals}
+use Rattle.thp_journal_writer.specs.Totals.{totals_of}
+use Rattle.thp_journal_writer.specs.declared.totals.Totals.{Totals}
 use Rattle.thp_journal_reader.specs.declared.journals.Journals.{Journals}
 use Rattle.thp_journal_reader.specs.declared.journals.NodeJournal.{NodeJournal}
 use Rattle.thp_journal_reader.specs.declared.summed.SummaryFault.{SummaryFault}

@@ -2,7 +2,7 @@
 use Rattle.std.specs.Prelude.{◌≡◌, ◌≤◌, ◌+◌, ⊤, ℕ, All, List, [], ◌∷◌, ◌++◌, length, Option, Some, None, IfSome}
 use Rattle.thp_model.specs.Legal.{IsFirstMisfit}
 use Rattle.thp_text.specs.Limits.{max_counted}
-use Rattle.thp_totals.specs.declared.numbers.Totals.{Totals}
+use Rattle.thp_journal_writer.specs.declared.totals.Totals.{Totals}
 use Rattle.thp_journal_reader.specs.declared.illegal.Illegal.{Illegal}
 use Rattle.thp_journal_reader.specs.declared.journals.NodeJournal.{NodeJournal}
 use Rattle.thp_journal_reader.specs.declared.summary.LegalNode.{LegalNode}

@@ -11,7 +11,7 @@ ghost use Rattle.thp_model.specs.BlockLaws.{event_with, least_free};
 ghost use Rattle.thp_model.specs.Shapes.{IsShape};
 ghost use Rattle.thp_model.specs.declared.events.Event.{Event};
 ghost use Rattle.thp_text.specs.Limits.{max_counted};
-ghost use Rattle.thp_totals.specs.Totals.{totals_of};
+ghost use Rattle.thp_journal_writer.specs.Totals.{totals_of};
 
 use crate::illegal::Illegal;
 use crate::keeps_nodes::KeepsNodes;
@@ -21,7 +21,7 @@ use crate::summed::Summed;
 use std::alloc::{AllocError, Global};
 use thp_check::Replay;
 use thp_model::{Event, Shape, What};
-use thp_totals::Totals;
+use thp_journal_writer::Totals;
 
 /// A node whose events so far are legal.
 #[derive(Drop)]

@@ -1,7 +1,7 @@
 //! What a check finds that also sums nodes up.
 use crate::illegal::{Illegal, TextFault};
 use std::alloc::AllocError;
-use thp_totals::Totals;
+use thp_journal_writer::Totals;
 
 /// What a check finds that also sums nodes up.
 #[derive(Drop)]

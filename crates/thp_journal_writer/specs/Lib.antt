@@ -3,3 +3,4 @@ pub mod EventLines
 pub mod Journals
 pub mod Streams
 pub mod Histories
+pub mod Totals

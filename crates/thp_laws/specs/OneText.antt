@@ -2,7 +2,7 @@
 use Rattle.std.specs.Prelude.{◌≡◌, List}
 use Rattle.thp_journal_writer.specs.Journals.{Journal, journal_text}
 use Rattle.thp_laws.specs.ReadBack.{AreTellable}
-use Rattle.thp_totals.specs.Totals.{totals_text}
+use Rattle.thp_journal_writer.specs.Totals.{totals_text}
 
 -- nodes whose journals have one text have one text of totals
 abbrev pub OneJournalHasOneTotals : Type 0

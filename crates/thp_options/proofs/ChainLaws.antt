@@ -21,7 +21,7 @@ use Rattle.clap.specs.declared.builder.value_parser.ValueParser.{ValueParser}
 use Rattle.clap.specs.declared.parser.matches.ArgMatches.{ArgMatches}
 use Rattle.clap.proofs.CallerLemmas.{added_plain}
 use Rattle.thp_options.specs.CommandLine.{with_rules}
-use Rattle.thp_command_line.specs.Options.{IsOption}
+use Rattle.thp_options.specs.Flags.{IsOption}
 use Rattle.thp_options.specs.Options.{HasValue}
 use Rattle.thp_options.proofs.OptionLaws.{valued}
 

@@ -17,7 +17,7 @@ use Rattle.clap.specs.declared.parser.matches.Found.{Found}
 use Rattle.clap.proofs.OnLiterals.{clap_on_literals}
 use Rattle.clap.proofs.WalkLemmas.{first_value-rows, one_text-rows}
 use Rattle.std.proofs.lemmas.List.Elements.{All-nil}
-use Rattle.thp_command_line.specs.Options.{TellsFlag}
+use Rattle.thp_options.specs.Flags.{TellsFlag}
 use Rattle.thp_model.specs.Limits.{max_blocks}
 use Rattle.thp_text.specs.Limits.{max_nodes, max_workers}
 use Rattle.thp_options.specs.CommandLine.{FailsAsWords, HoldsWords, WritesNumber, bare, blocks_rule, nodes_rule, own_rules, report_name, report_names, report_rule, with_rules, workers_rule}

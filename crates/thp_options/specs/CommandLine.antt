@@ -6,7 +6,7 @@ use Rattle.clap.specs.Words.{App, FailsBy, Row, Rule, fault_of, first_of, matche
 use Rattle.clap.specs.declared.builder.action.ArgAction.TheVariants.{Set}
 use Rattle.clap.specs.declared.builder.value_parser.ValueParser.TheVariants.{Names, Signed}
 use Rattle.clap.specs.declared.error.Error.{Error}
-use Rattle.thp_command_line.specs.Options.{flag_rule, TellsFlag}
+use Rattle.thp_options.specs.Flags.{flag_rule, TellsFlag}
 use Rattle.thp_model.specs.Limits.{max_blocks}
 use Rattle.thp_options.specs.declared.line.Line.{Line}
 use Rattle.thp_text.specs.declared.settings.Report.{Report}

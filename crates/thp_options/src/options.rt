@@ -2,12 +2,13 @@
 ghost use Rattle.std.specs.Prelude.{◌≡◌, ◌∷◌, [], IfOk, map, codes};
 ghost use Rattle.thp_options.specs.CommandLine.{blocks_rule, check_rule, nodes_rule, orders_rule, report_names, report_rule, underused_rule, workers_rule};
 ghost use Rattle.thp_options.specs.OwnCommand.{IsOwnCommand};
-ghost use Rattle.thp_command_line.specs.Options.{IsOption};
+ghost use Rattle.thp_options.specs.Flags.{IsOption};
 
+use crate::flags::flag;
 use crate::help::AFTER_HELP;
+use crate::version::VERSION;
 use clap::{Arg, ArgAction, Command, value_parser};
 use std::alloc::{AllocError, Global};
-use thp_command_line::{VERSION, flag};
 use thp_model::Shape;
 use thp_text::{MAX_NODES, MAX_WORKERS};
 

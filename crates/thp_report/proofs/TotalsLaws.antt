@@ -18,8 +18,8 @@ use Rattle.thp_model.proofs.Alike.{Alike, Blind, alike, count_alike, held_alike}
 use Rattle.thp_model.proofs.SumsBelow.{sum_below-ext}
 use Rattle.thp_journal_writer.specs.Journals.{Journal}
 use Rattle.thp_report.specs.Laws.{bare}
-use Rattle.thp_totals.specs.Totals.{lines_from, totals_in, totals_of, totals_text}
-use Rattle.thp_totals.specs.declared.numbers.Totals.{Totals}
+use Rattle.thp_journal_writer.specs.Totals.{lines_from, totals_in, totals_of, totals_text}
+use Rattle.thp_journal_writer.specs.declared.totals.Totals.{Totals}
 
 -- taking the blocks out twice is as taking them out once
 twice : (w : What) → with_block 0 (with_block 0 w) ≡ with_block 0 w

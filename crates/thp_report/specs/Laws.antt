@@ -2,7 +2,7 @@
 use Rattle.std.specs.Prelude.{◌≡◌, List, map}
 use Rattle.thp_journal_writer.specs.Journals.{Journal}
 use Rattle.thp_model.specs.BlockLaws.{without_blocks}
-use Rattle.thp_totals.specs.Totals.{totals_text}
+use Rattle.thp_journal_writer.specs.Totals.{totals_text}
 
 -- a node with its history, but for the blocks of its pages
 abbrev pub bare : Journal → Journal

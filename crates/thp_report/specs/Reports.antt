@@ -4,7 +4,7 @@ use Rattle.thp_journal_writer.specs.Journals.{Journal, journal_text}
 use Rattle.thp_model.specs.declared.shape.Shape.{Shape}
 use Rattle.thp_node.specs.NodeState.{NodeState}
 use Rattle.thp_report.specs.Answers.{answers_text}
-use Rattle.thp_totals.specs.Totals.{totals_text}
+use Rattle.thp_journal_writer.specs.Totals.{totals_text}
 use Rattle.thp_text.specs.declared.settings.Report.{Report}
 use Rattle.thp_text.specs.declared.settings.Report.TheVariants as report
 use Rattle.thp_sections.specs.declared.reply.Section.{Section}

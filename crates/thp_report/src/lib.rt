@@ -1,7 +1,7 @@
 //! Reports of a run: the totals of its nodes, the answers to its commands, and its journals, as text.
 //!
 //! A report is a function of the nodes' shapes and histories and of the sections' answers, said in `specs/`: `Answers`,
-//! `Reports`, and `Totals` of `thp_totals`. No block shows in any.
+//! `Reports`, and `Totals` of `thp_journal_writer`. No block shows in any.
 #![tactic(auto)]
 
 mod answers;

@@ -1,5 +1,5 @@
 use Rattle.std.proofs.Common.{◌≡◌, ◌++◌, drop, map}
-use Rattle.thp_totals.specs.Totals.{lines_from, totals_in, totals_text}
+use Rattle.thp_journal_writer.specs.Totals.{lines_from, totals_in, totals_text}
 use Rattle.thp_report.specs.Reports.{told_of}
 use Rattle.thp_report.proofs.totals.totals_text.Given as goal
 

@@ -1,11 +1,11 @@
-//! The totals of a node as text.
+//! The totals of a node as lines of text.
 ghost use Rattle.std.specs.Prelude.{◌≡◌, ◌++◌, OnOk};
-ghost use Rattle.thp_totals.specs.Totals.{lines_from, nine_lines, number_line, tenth_line, totals_lines};
+ghost use Rattle.thp_journal_writer.specs.Totals.{lines_from, nine_lines, number_line, tenth_line, totals_lines};
 
-use crate::numbers::Totals;
+use crate::numbers::put;
+use crate::totals::Totals;
 use itoa::Buffer;
 use std::alloc::AllocError;
-use thp_journal_writer::put;
 
 /// Puts the lines of the node of this number behind a text: nine, and a tenth where its shrinker looks for underused pages. Where
 /// memory is refused a front of them may stand in the text.
@@ -17,7 +17,7 @@ pub fn put_totals(text: &mut Vec<u8>, number: usize, totals: &Totals) -> Result<
 }
 
 /// Puts the lines of nodes behind a text, which are numbered from 0 on. Where memory is refused a front of them may stand in the text.
-pub fn put_each(text: &mut Vec<u8>, totals: &[Totals]) -> Result<(), AllocError>
+pub fn put_totals_of_each(text: &mut Vec<u8>, totals: &[Totals]) -> Result<(), AllocError>
     ensures { OnOk result (text.new.items ≡ text.old.items ++ lines_from 0 totals.now) }
 {
     for (number, node) in totals.iter().enumerate() {

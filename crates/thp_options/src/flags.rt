@@ -1,5 +1,5 @@
 //! Flags of a command line.
-ghost use Rattle.thp_command_line.specs.Options.{flag_rule, IsOption};
+ghost use Rattle.thp_options.specs.Flags.{flag_rule, IsOption};
 
 use clap::{Arg, ArgAction};
 use std::alloc::Global;

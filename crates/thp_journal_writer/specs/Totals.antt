@@ -9,7 +9,7 @@ use Rattle.thp_model.specs.Frames.{frames_given, frames_held}
 use Rattle.thp_model.specs.History.{History}
 use Rattle.thp_model.specs.Places.{queue}
 use Rattle.thp_model.specs.Underused.{shrinks_underused}
-use Rattle.thp_totals.specs.declared.numbers.Totals.{Totals}
+use Rattle.thp_journal_writer.specs.declared.totals.Totals.{Totals}
 
 -- the totals of a node of this shape, with this history; the last where its shrinker looks for underused pages
 abbrev pub totals_of : Shape → History → Totals
