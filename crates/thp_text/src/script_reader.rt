@@ -31,6 +31,21 @@ fn empty_sections(alloc: Global, workers: u32) -> Result<Vec<Sequence<Command>>,
     Ok(sections)
 }
 
+/// Adds a command to the section of this number.
+#[inline(always)]
+fn add_command(
+    sections: &mut Vec<Sequence<Command>>,
+    section: u32,
+    command: Command,
+) -> Result<(), ReadFault>
+    requires { section < vec_len sections.old }
+    ensures added { OnOk result (sections.new.items ≡ with_commands sections.old.items ((section, command) ∷ [])) }
+    ensures memory { IfErr result (λ fault. fault ≡ OutOfMemory) }
+{
+    sections[section as usize].push(command)?;
+    Ok(())
+}
+
 /// Adds the command of a line, if it says one, to the section that it stands in.
 fn add(
     sections: &mut Vec<Sequence<Command>>,
@@ -42,8 +57,7 @@ fn add(
     ensures memory { IfErr result (λ fault. fault ≡ OutOfMemory) }
 {
     if let (Some(section), Statement::Call(command)) = (section, statement) {
-        let commands = &mut sections[section as usize];
-        commands.push(command)?;
+        add_command(sections, section, command)?;
     }
     Ok(())
 }
@@ -63,12 +77,12 @@ fn add_ahead<'p>(
     ensures shorter { IfOk result (λ rest. length rest.now ≤ length part.now) }
     ensures memory { IfErr result (λ fault. fault ≡ OutOfMemory) }
 {
-    let (Some(_), true) = (section, text.begins_line()) else {
+    let (Some(at), true) = (section, text.begins_line()) else {
         return Ok(part);
     };
     let mut rest = part;
     while let Some((command, after)) = command_ahead(settings, rest) {
-        add(sections, section, Statement::Call(command))?;
+        add_command(sections, at, command)?;
         text.pass_line();
         rest = after;
     }

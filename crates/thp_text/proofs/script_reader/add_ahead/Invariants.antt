@@ -9,8 +9,8 @@ decreases-loop-command l = length l.rest
 -- what was read, with what is left, spells what it spelled before
 abbrev pub invariant-loop-command : goal.invariant-loop-command
 invariant-loop-command l = record {
-  inside : IsPartRead l.settings l.sections.items l.section l.text l.rest;
-  spelled : (more : Text) → spelled_behind l.settings l.sections.items l.section l.text l.rest more ≡ spelled_behind l.settings l.fn.sections.items l.section l.fn.text l.part more;
+  inside : IsPartRead l.settings l.sections.items l.fn.section l.text l.rest;
+  spelled : (more : Text) → spelled_behind l.settings l.sections.items l.fn.section l.text l.rest more ≡ spelled_behind l.settings l.fn.sections.items l.fn.section l.fn.text l.part more;
   begins : l.text.begun ≡ [];
   shorter : length l.rest ≤ length l.part;
 }
