@@ -3,6 +3,7 @@
 
 mod area;
 mod axis;
+mod bar;
 mod element;
 mod escaping;
 mod illegal_event;
@@ -11,6 +12,8 @@ mod overview;
 mod panel;
 mod picture;
 mod quantity;
+mod rows;
+mod rows_panel;
 mod scale;
 mod stages;
 mod stages_panel;
