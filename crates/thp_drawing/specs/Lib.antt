@@ -4,6 +4,7 @@ pub mod Bars
 pub mod Drawn
 pub mod Elements
 pub mod Escapes
+pub mod Laws
 pub mod Overviews
 pub mod Panels
 pub mod Pictures

@@ -30,6 +30,10 @@ abbrev pub turns_below : List Column → ℕ → ℕ
 turns_below columns zero = 0
 turns_below columns (suc k) = turns_below columns k + page_turns columns k
 
+-- how often those of all pages that can have a row do
+unfoldable pub row_turns : List Column → ℕ
+row_turns columns = turns_below columns shown_pages
+
 -- more than so often bars can't be told apart
 abbrev pub max_turns : ℕ
 max_turns = 4000
@@ -37,7 +41,7 @@ max_turns = 4000
 abbrev pub has_rows : DrawnNode → Bool
 has_rows d =
     nat_le 1 (allocated_pages d)
-    && (nat_le (allocated_pages d) shown_pages && nat_le (turns_below d.columns.items shown_pages) max_turns)
+    && (nat_le (allocated_pages d) shown_pages && nat_le (row_turns d.columns.items) max_turns)
 
 -- up to 24 rows are far apart, more are close to each other
 abbrev pub few_rows : ℕ

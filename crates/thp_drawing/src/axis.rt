@@ -46,7 +46,12 @@ pub(crate) fn put_ticks(
 
 /// Puts a number of an axis, and a line at its height.
 #[tactic(auto, using(crate::proofs::Pieces::nine), unfolding(crate::specs::Axes::tick))]
-pub(crate) fn put_tick(text: &mut Vec<u8>, sign: &[u8], number: u128, high: u128) -> Result<(), AllocError>
+pub(crate) fn put_tick(
+    text: &mut Vec<u8>,
+    sign: &[u8],
+    number: u128,
+    high: u128,
+) -> Result<(), AllocError>
     ensures { OnOk result (text.new.items ≡ text.old.items ++ tick sign.now number high) }
 {
     put(text, b"<path class=\"rule\" d=\"M0 ")?;

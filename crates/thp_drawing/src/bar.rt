@@ -13,7 +13,7 @@ use thp_series::{Column, Stage};
 #[derive(Clone, Copy, Debug, PartialEq, Eq)]
 pub(crate) enum Bar {
     /// When the page of this number was in the stage.
-    PageIn { stage: Stage, page: u128 },
+    PageIn(Stage, u128),
 }
 
 impl Bar {
@@ -22,7 +22,7 @@ impl Bar {
         ensures { result ≡ covers self column.now }
     {
         match self {
-            Bar::PageIn { stage, page } => {
+            Bar::PageIn(stage, page) => {
                 stage_number(stage_in(page, &column.stages)) == stage_number(Some(stage))
             }
         }
@@ -97,13 +97,7 @@ pub(crate) fn put_bar(
 }
 
 // A line begins where the bar does, and ends where the bar does.
-fn put_turn(
-    text: &mut Vec<u8>,
-    y: u128,
-    x: u128,
-    before: bool,
-    now: bool,
-) -> Result<(), AllocError>
+fn put_turn(text: &mut Vec<u8>, y: u128, x: u128, before: bool, now: bool) -> Result<(), AllocError>
     ensures { OnOk result (text.new.items ≡ text.old.items ++ line_turn y x before now) }
 {
     match (before, now) {

@@ -7,6 +7,7 @@ mod bar;
 mod element;
 mod escaping;
 mod illegal_event;
+mod laws;
 mod node;
 mod overview;
 mod panel;
@@ -23,6 +24,7 @@ mod title;
 
 pub use escaping::{escaped_stays_within, put_escaped};
 pub use illegal_event::IllegalEvent;
+pub use laws::each_page_has_its_row;
 pub use node::DrawnNode;
 pub use picture::put_picture;
 pub use table::put_table;

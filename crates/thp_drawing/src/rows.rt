@@ -9,10 +9,9 @@ ghost use Rattle.thp_drawing.specs.Rows.{
   row_class,
   row_height,
   row_middle,
+  row_turns,
   rows_height,
-  turns_below,
 };
-ghost use Rattle.thp_series.specs.Stages.{shown_pages};
 
 use crate::bar::Bar;
 use crate::node::DrawnNode;
@@ -38,15 +37,17 @@ pub(crate) fn has_rows(node: &DrawnNode) -> bool
     ensures { result ≡ has_rows node.now }
 {
     let count = allocated_pages(node);
-    1 <= count && count <= SHOWN_PAGES as u128 && page_turns_of(node.columns.as_slice()) <= MAX_TURNS
+    1 <= count && count <= SHOWN_PAGES as u128 && row_turns(node.columns.as_slice()) <= MAX_TURNS
 }
 
 // How often the bars of pages that can have a row begin and end.
-fn page_turns_of(columns: &[Column]) -> u128
-    ensures { result ≡ turns_below columns.now shown_pages }
+#[tactic(auto, unfolding(crate::specs::Rows::row_turns))]
+fn row_turns(columns: &[Column]) -> u128
+    ensures { result ≡ row_turns columns.now }
 {
+    let shown = SHOWN_PAGES as u128;
     let mut count = 0;
-    for page in 0..SHOWN_PAGES as u128 {
+    for page in 0..shown {
         count += page_turns(columns, page);
     }
     count
@@ -57,11 +58,11 @@ fn page_turns(columns: &[Column], page: u128) -> u128
     ensures count { result ≡ page_turns columns.now page }
     ensures most { result ≤ 5 * length columns.now }
 {
-    (Bar::PageIn { stage: Stage::Allocated, page }).turns(columns)
-        + (Bar::PageIn { stage: Stage::PartlyMapped, page }).turns(columns)
-        + (Bar::PageIn { stage: Stage::Queued, page }).turns(columns)
-        + (Bar::PageIn { stage: Stage::InBatch, page }).turns(columns)
-        + (Bar::PageIn { stage: Stage::Split, page }).turns(columns)
+    Bar::PageIn(Stage::Allocated, page).turns(columns)
+        + Bar::PageIn(Stage::PartlyMapped, page).turns(columns)
+        + Bar::PageIn(Stage::Queued, page).turns(columns)
+        + Bar::PageIn(Stage::InBatch, page).turns(columns)
+        + Bar::PageIn(Stage::Split, page).turns(columns)
 }
 
 /// The height of each of so many rows.
@@ -104,5 +105,9 @@ pub(crate) fn numbers_of(count: u128) -> u128
 pub(crate) fn row_class(count: u128) -> &'static [u8]
     ensures { result.now ≡ row_class count }
 {
-    if count <= FEW_ROWS { b"bar " } else { b"bar thin " }
+    if count <= FEW_ROWS {
+        b"bar "
+    } else {
+        b"bar thin "
+    }
 }

@@ -15,7 +15,9 @@ use crate::axis::{put_event_rules, put_group_end, put_tick};
 use crate::bar::{Bar, put_bar};
 use crate::element::put_group;
 use crate::node::DrawnNode;
-use crate::rows::{allocated_pages, number_step, numbers_of, row_class, row_height, row_middle, rows_height};
+use crate::rows::{
+    allocated_pages, number_step, numbers_of, row_class, row_height, row_middle, rows_height,
+};
 use crate::scale::times;
 use crate::stages::{most_in, stage_class};
 use crate::stages_panel::put_stage_items;
@@ -143,7 +145,7 @@ fn put_stage_rows(
     for page in 0..count {
         put_bar(
             text,
-            Bar::PageIn { stage, page },
+            Bar::PageIn(stage, page),
             row_middle(high, page),
             columns,
         )?;

@@ -1,6 +1,6 @@
 use Rattle.std.proofs.Common.{◌≡◌, ◌≤◌, ◌*◌, length}
 use Rattle.thp_drawing.specs.Rows.{turns_below}
-use Rattle.thp_drawing.proofs.rows.page_turns_of.Given as goal
+use Rattle.thp_drawing.proofs.rows.row_turns.Given as goal
 
 abbrev pub invariant-loop-page : goal.invariant-loop-page
 invariant-loop-page l = record {
