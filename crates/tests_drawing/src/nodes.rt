@@ -84,6 +84,11 @@ fn node_series_follows_a_split(rt: HostRuntime) {
     let told = node.into_columns().into_columns();
     assert!(rt; at(&rt, &told, 3).queue == once(1));
     assert!(rt; at(&rt, &told, 4).in_batches == once(1));
+    assert!(rt; at(&rt, &told, 3).wait == once(1));
+    assert!(rt; at(&rt, &told, 4).wait == once(2));
+    assert!(rt; at(&rt, &told, 5).wait == once(0));
+    assert!(rt; at(&rt, &told, 3).callers == 0);
+    assert!(rt; at(&rt, &told, 4).callers == 1);
     assert!(rt; at(&rt, &told, 4).pages.in_batch == 1);
     assert!(rt; at(&rt, &told, 5).held == once(256));
 }

@@ -6,16 +6,22 @@
 //! which 600 serve, so that nothing is kept of a prefix.
 #![tactic(auto)]
 
+mod arrivals;
+mod batch_counts;
 mod column;
 mod columns;
 mod folded;
+mod links;
 mod node_series;
 mod numbers;
 mod pages;
 mod past;
 mod span;
+mod spot;
 mod stage;
+mod waiting;
 
+pub use batch_counts::SHOWN_CALLERS;
 pub use column::Column;
 pub use columns::{Columns, MAX_COLUMNS};
 pub use node_series::{NodeSeries, Stopped};
@@ -23,3 +29,4 @@ pub use numbers::{Numbers, SHOWN_PAGES};
 pub use pages::{PageSums, Pages};
 pub use span::Span;
 pub use stage::Stage;
+pub use waiting::Waiting;

@@ -1,0 +1,44 @@
+-- What contracts see of the order in which pages came to wait. No public clause cites this module.
+use Rattle.std.specs.Prelude.{◌≡◌, ℕ, ◌+◌, ◌<◌, List, [], ◌∷◌, length, get_or, Option, Some, None}
+use Rattle.std.specs.List.{AllPairs, Contains}
+use Rattle.thp_links.specs.declared.link.Link.{Link}
+use Rattle.thp_links.specs.Standing.{Stands}
+use Rattle.thp_model.specs.declared.shape.Shape.{Shape}
+use Rattle.thp_model.specs.History.{History}
+use Rattle.thp_model.specs.Legal.{IsLegal}
+use Rattle.thp_series.specs.Spots.{home}
+use Rattle.thp_series.specs.Waits.{waited}
+
+-- the blocks of the pages that wait, those that came first in front, and by which event the page of each block came
+pub record Arrived : Type 0 where
+  pub order : List ℕ
+  pub since : List ℕ
+
+abbrev pub since_of : Arrived → ℕ → ℕ
+since_of a b = get_or a.since b 0
+
+-- by which event the first of them came
+abbrev pub first_of : List ℕ → List ℕ → Option ℕ
+first_of [] since = None
+first_of (b ∷ bs) since = Some (get_or since b 0)
+
+abbrev pub first_since : Arrived → Option ℕ
+first_since a = first_of a.order a.since
+
+-- the order stands in the links of the blocks
+pub record AreLinked (order : List ℕ) (since : List ℕ) (ls : List Link) : Type 0 where
+  pub sizes : length since ≡ length ls
+  pub stands : Stands order ls
+
+-- the order is that in which the pages came that wait behind these events
+pub record KeepsWaits (s : Shape) (h : History) (events : ℕ) (a : Arrived) : Type 0 where
+  pub legal : IsLegal s h
+  pub events_are : events ≡ length h
+  pub size : length a.since ≡ s.blocks
+  -- what is in it is the block of a page that waits
+  pub waiting : (b : ℕ) → Contains a.order b → (p : ℕ) × (home s h p ≡ Some b)
+  -- each page that waits is there, with the number of the event by which it came
+  pub there : (p b : ℕ) → home s h p ≡ Some b → Contains a.order b
+  pub came : (p b : ℕ) → home s h p ≡ Some b → since_of a b + waited s h p ≡ length h + 1
+  -- those in front came first
+  pub in_order : AllPairs (λ b c. since_of a b < since_of a c) a.order
