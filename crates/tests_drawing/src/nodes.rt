@@ -5,7 +5,7 @@ use crate::columns::at;
 use std::alloc::Global;
 use std::process::Abort;
 use thp_model::{Event, Outcome, PageId, Shape, SubSet, What};
-use thp_series::{NodeSeries, Pages, Span};
+use thp_series::{NodeSeries, Pages, Span, StuckPage};
 
 /// 16 blocks of 512 subpages each.
 pub(crate) const LARGE: Shape = Shape {
@@ -108,4 +108,27 @@ fn node_series_tells_what_was_before_an_illegal_event(rt: HostRuntime) {
             assert!(rt; stopped.columns.prefixes() == 6);
         }
     }
+}
+
+#[test]
+fn node_series_tells_stuck_pages(rt: HostRuntime) {
+    let mut happened = Vec::new(rt.alloc());
+    for what in &first_run()[..4] {
+        happened.push(*what).expect(&rt, "memory");
+    }
+    happened
+        .push(What::Pin { page: PAGE })
+        .expect(&rt, "memory");
+    happened
+        .push(What::Pinned { page: PAGE })
+        .expect(&rt, "memory");
+    let node = followed(&rt, rt.alloc(), &happened);
+    let stuck = node.stuck(rt.alloc()).expect(&rt, "memory");
+    let page = StuckPage {
+        page: PAGE,
+        finds: 1,
+        since: 3,
+    };
+    assert!(rt; stuck.len() == 1);
+    assert!(rt; stuck[0] == page);
 }

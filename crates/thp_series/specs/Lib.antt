@@ -8,5 +8,7 @@ pub mod Joining
 pub mod Folding
 pub mod Arrivals
 pub mod Counting
+pub mod Stuck
+pub mod Finding
 pub mod Following
 pub mod Past

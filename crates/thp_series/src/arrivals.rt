@@ -1,7 +1,7 @@
 //! The order in which pages came to wait, by block.
 ghost use Rattle.std.specs.Prelude.{◌≡◌, ◌<◌, [], ◌∷◌, ◌++◌, length, slice_set, Contains, IfOk};
 ghost use Rattle.thp_links.specs.Indices.{without};
-ghost use Rattle.thp_series.specs.Arrivals.{first_since};
+ghost use Rattle.thp_series.specs.Arrivals.{first_since, since_of};
 
 use crate::links::Links;
 use std::alloc::{AllocError, Global};
@@ -58,6 +58,30 @@ impl Arrivals {
         ensures since { self.new.since ≡ self.old.since }
     {
         self.order.remove(&mut self.links, block);
+    }
+
+    // The blocks of the pages that wait, in the order in which they came.
+    pub(crate) fn blocks(&self, alloc: Global) -> Result<Vec<u32>, AllocError>
+        ensures { IfOk result (λ blocks. blocks.items ≡ self.now.order) }
+    {
+        let mut blocks = Vec::new(alloc);
+        let mut block = match self.order.front() {
+            Some(block) => block,
+            None => return Ok(blocks),
+        };
+        for _place in 0..self.order.len() {
+            blocks.push(block)?;
+            block = self.links.next(block);
+        }
+        Ok(blocks)
+    }
+
+    // The number of the event by which the page of a block came that waits.
+    pub(crate) fn since(&self, block: u32) -> u64
+        requires { block < length self.now.since }
+        ensures { result ≡ since_of self.now block }
+    {
+        self.since[block as usize]
     }
 
     // The number of the event by which the page came that has waited longest.

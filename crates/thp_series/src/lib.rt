@@ -19,6 +19,7 @@ mod past;
 mod span;
 mod spot;
 mod stage;
+mod stuck_page;
 mod waiting;
 
 pub use batch_counts::SHOWN_CALLERS;
@@ -29,4 +30,5 @@ pub use numbers::{Numbers, SHOWN_PAGES};
 pub use pages::{PageSums, Pages};
 pub use span::Span;
 pub use stage::Stage;
+pub use stuck_page::StuckPage;
 pub use waiting::Waiting;

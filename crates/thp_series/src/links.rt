@@ -1,5 +1,5 @@
 //! The links of the order in which pages came to wait.
-ghost use Rattle.std.specs.Prelude.{◌≡◌, ◌<◌, ◌^◌, ⊤, length, vec_len, IfOk};
+ghost use Rattle.std.specs.Prelude.{◌≡◌, ◌<◌, ◌^◌, ⊤, length, vec_len, slice_get, IfOk, IfSome};
 
 use std::alloc::{AllocError, Global};
 use thp_links::{AccessCount, Link, LinkTable, NIL};
@@ -25,6 +25,14 @@ impl Links {
             pairs: vec![in alloc; alone; blocks as usize]?,
             accesses: AccessCount::new(),
         })
+    }
+
+    // The block behind this one, or `NIL`.
+    pub(crate) fn next(&self, block: u32) -> u32
+        requires { block < length self.now.pairs.items }
+        ensures { IfSome (slice_get self.now.pairs.items block) (λ l. result ≡ l.next) }
+    {
+        self.pairs[block as usize].next
     }
 }
 

@@ -8,6 +8,7 @@ ghost use Rattle.thp_check.specs.Replays.{with_event};
 ghost use Rattle.thp_series.specs.Following.{staged, CountsBatches};
 ghost use Rattle.thp_series.specs.Series.{numbers_at, series};
 ghost use Rattle.thp_series.specs.Stages.{pages_at, stages_at};
+ghost use Rattle.thp_series.specs.Stuck.{AreStuck};
 
 use crate::batch_counts::BatchCounts;
 use crate::columns::Columns;
@@ -15,6 +16,7 @@ use crate::numbers::{Numbers, SHOWN_PAGES};
 use crate::pages::Pages;
 use crate::spot::spot_in;
 use crate::stage::Stage;
+use crate::stuck_page::StuckPage;
 use crate::waiting::Waiting;
 use std::alloc::{AllocError, Global};
 use std::marker::Model;
@@ -71,7 +73,13 @@ impl NodeSeries {
         let replay = Replay::new(alloc, shape)?;
         let waiting = Waiting::new(alloc, shape)?;
         let batches = BatchCounts::new(alloc)?;
-        let numbers = numbers_of(&replay, &waiting, &batches, Pages::none(), [None; SHOWN_PAGES]);
+        let numbers = numbers_of(
+            &replay,
+            &waiting,
+            &batches,
+            Pages::none(),
+            [None; SHOWN_PAGES],
+        );
         let columns = Columns::new(alloc, &numbers)?;
         Ok(NodeSeries {
             replay,
@@ -144,6 +152,13 @@ impl NodeSeries {
         ensures { result ≡ least_free self.now.shape self.now.history }
     {
         self.replay.least_free_block()
+    }
+
+    /// The pages that wait behind the events so far and were found pinned, those that have waited longest in front.
+    pub fn stuck(&self, alloc: Global) -> Result<Vec<StuckPage>, AllocError>
+        ensures { IfOk result (λ pages. AreStuck self.now.shape self.now.history pages.items) }
+    {
+        self.waiting.stuck(alloc)
     }
 
     /// The numbers of each prefix of the events so far, in columns.
