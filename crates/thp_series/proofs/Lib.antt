@@ -3,5 +3,7 @@ mod Pairs
 mod Folding
 mod Widths
 mod Moving
+mod Waiting
+mod Counting
 mod Batches
 mod Following

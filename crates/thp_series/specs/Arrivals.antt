@@ -1,13 +1,13 @@
 -- What contracts see of the order in which pages came to wait. No public clause cites this module.
-use Rattle.std.specs.Prelude.{◌≡◌, ℕ, ◌+◌, ◌<◌, List, [], ◌∷◌, length, get_or, Option, Some, None}
-use Rattle.std.specs.List.{AllPairs, Contains}
+use Rattle.std.specs.Prelude.{◌≡◌, ⊤, ℕ, ◌+◌, ◌<◌, ◌≤◌, false, List, [], ◌∷◌, length, get_or, Option, Some, None}
+use Rattle.std.specs.List.{Contains}
 use Rattle.thp_links.specs.declared.link.Link.{Link}
 use Rattle.thp_links.specs.Standing.{Stands}
 use Rattle.thp_model.specs.declared.shape.Shape.{Shape}
 use Rattle.thp_model.specs.History.{History}
 use Rattle.thp_model.specs.Legal.{IsLegal}
 use Rattle.thp_series.specs.Spots.{home}
-use Rattle.thp_series.specs.Waits.{waited}
+use Rattle.thp_series.specs.Waits.{waited, waits}
 
 -- the blocks of the pages that wait, those that came first in front, and by which event the page of each block came
 pub record Arrived : Type 0 where
@@ -25,6 +25,11 @@ first_of (b ∷ bs) since = Some (get_or since b 0)
 abbrev pub first_since : Arrived → Option ℕ
 first_since a = first_of a.order a.since
 
+-- the numbers of these places ascend
+abbrev pub Ascends : List ℕ → List ℕ → Type 0
+Ascends ns [] = ⊤
+Ascends ns (b ∷ bs) = ((c : ℕ) → Contains bs c → get_or ns b 0 < get_or ns c 0) × Ascends ns bs
+
 -- the order stands in the links of the blocks
 pub record AreLinked (order : List ℕ) (since : List ℕ) (ls : List Link) : Type 0 where
   pub sizes : length since ≡ length ls
@@ -40,5 +45,7 @@ pub record KeepsWaits (s : Shape) (h : History) (events : ℕ) (a : Arrived) : T
   -- each page that waits is there, with the number of the event by which it came
   pub there : (p b : ℕ) → home s h p ≡ Some b → Contains a.order b
   pub came : (p b : ℕ) → home s h p ≡ Some b → since_of a b + waited s h p ≡ length h + 1
+  pub idle : (p : ℕ) → waits s h p ≡ false → waited s h p ≡ 0
+  pub early : (b : ℕ) → Contains a.order b → since_of a b ≤ length h
   -- those in front came first
-  pub in_order : AllPairs (λ b c. since_of a b < since_of a c) a.order
+  pub in_order : Ascends a.since a.order

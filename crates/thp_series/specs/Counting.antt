@@ -27,4 +27,4 @@ MayGo counts (Some c) = c < 64 → 0 < count_at counts c
 -- and there is room for one more
 abbrev pub MayCount : List ℕ → Option ℕ → Type 0
 MayCount counts None = ⊤
-MayCount counts (Some c) = count_at counts c + 1 < 2 ^ 64
+MayCount counts (Some c) = c < 64 → count_at counts c + 1 < 2 ^ 64

@@ -1,6 +1,6 @@
 -- How long pages wait for a split, and which callers have pages in their batches.
-use Rattle.std.specs.Prelude.{ℕ, ◌+◌, ◌-◌, ◌^◌, Bool, true, false, not, if◌then◌else◌, List, [], ◌∷◌, ◌++◌, Option, Some, None, length, map}
-use Rattle.std.specs.List.{fold, range_with_len}
+use Rattle.std.specs.Prelude.{ℕ, ◌+◌, ◌^◌, Bool, true, false, if◌then◌else◌, [], ◌∷◌, ◌++◌, Option, Some}
+use Rattle.std.specs.List.{fold}
 use Rattle.thp_model.specs.declared.events.Event.{Event}
 use Rattle.thp_model.specs.declared.shape.Shape.{Shape}
 use Rattle.thp_model.specs.Counts.{allocations}
@@ -9,7 +9,7 @@ use Rattle.thp_model.specs.Places.{flight, no_pages}
 use Rattle.thp_model.specs.Sets.{sum_below}
 use Rattle.thp_series.specs.declared.stage.Stage.{Stage}
 use Rattle.thp_series.specs.declared.stage.Stage.TheVariants.{Queued, InBatch}
-use Rattle.thp_series.specs.Spans.{greatest}
+use Rattle.thp_series.specs.Spans.{greatest_below}
 use Rattle.thp_series.specs.Stages.{stage_of}
 
 -- a page in the queue or in a batch waits
@@ -31,7 +31,7 @@ waited s h p = (fold (add_wait s p) ([], 0) h).1
 
 -- how long the page has waited that waits longest; 0 where none waits
 abbrev pub longest_wait : Shape → History → ℕ
-longest_wait s h = greatest (map (waited s h) (range_with_len 0 (allocations h)))
+longest_wait s h = greatest_below (allocations h) (waited s h)
 
 -- of how many callers it is told whether they have pages in their batches
 abbrev pub shown_callers : ℕ

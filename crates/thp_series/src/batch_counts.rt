@@ -39,7 +39,7 @@ impl BatchCounts {
     }
 
     // A page left the batch of this caller, if there is one.
-    pub(crate) fn leave(&mut self, caller: Option<u32>)
+    pub(crate) fn lose(&mut self, caller: Option<u32>)
         requires { MayGo self.old caller }
         ensures { self.new ≡ count_gone self.old caller }
     {
@@ -56,7 +56,7 @@ impl BatchCounts {
     }
 
     // A page came into the batch of this caller, if there is one.
-    pub(crate) fn enter(&mut self, caller: Option<u32>)
+    pub(crate) fn gain(&mut self, caller: Option<u32>)
         requires { MayCount self.old caller }
         ensures { self.new ≡ count_more self.old caller }
     {

@@ -114,8 +114,8 @@ impl NodeSeries {
             Ok(replay) => {
                 let after = spot_in(&replay, &event.what);
                 waiting.follow(event, before.home, after.home);
-                batches.leave(before.batch);
-                batches.enter(after.batch);
+                batches.lose(before.batch);
+                batches.gain(after.batch);
                 let mut pages = numbers.pages;
                 pages.leave(before.stage);
                 pages.enter(after.stage);
