@@ -5,5 +5,6 @@ mod Widths
 mod Moving
 mod Waiting
 mod Counting
+mod Finding
 mod Batches
 mod Following

@@ -1,8 +1,9 @@
 -- How often pages were found pinned, by block. No public clause cites this module.
-use Rattle.std.specs.Prelude.{◌≡◌, ℕ, ◌+◌, ◌<◌, ◌^◌, ⊤, List, Option, Some, None, length, slice_get, set, MatchOption}
+use Rattle.std.specs.Prelude.{◌≡◌, ℕ, ◌+◌, ◌<◌, ◌≤◌, ◌^◌, ⊤, List, Option, Some, None, length, slice_get, set, MatchOption}
 use Rattle.thp_model.specs.declared.events.What.{What}
 use Rattle.thp_model.specs.declared.events.What.TheVariants.{Alloc, Pinned}
 use Rattle.thp_model.specs.declared.shape.Shape.{Shape}
+use Rattle.thp_model.specs.Counts.{allocations}
 use Rattle.thp_model.specs.History.{History}
 use Rattle.thp_live_pages.specs.Homes.{block_of}
 use Rattle.thp_series.specs.declared.waiting.Found.{Found}
@@ -35,3 +36,4 @@ MayNote found _ home = ⊤
 pub record KeepsFinds (s : Shape) (h : History) (found : List Found) : Type 0 where
   pub size : length found ≡ s.blocks
   pub each : (p b : ℕ) → block_of h p ≡ Some b → slice_get found b ≡ Some (record { page = p; finds = finds h p })
+  pub never : (p : ℕ) → allocations h ≤ p → finds h p ≡ 0
