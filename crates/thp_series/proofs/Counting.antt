@@ -1,6 +1,6 @@
 -- How many pages callers have in their batches, with one more event.
 use Rattle.std.proofs.Common.{◌≡◌, ◌≢◌, ℕ, zero, suc, ◌+◌, ◌-◌, ◌^◌, ◌<◌, ◌≤◌, Bool, true, false, not, cond, ◌&&◌, ◌||◌, List, [], ◌∷◌, ◌++◌, Option, Some, None, length, get_or, set, replicate, refl, ap, sym, ◌∙◌, subst, arith, inl, inr, nat_eq, nat_lt, eq-eqb, eqb-true, length-set}
-use Rattle.std.proofs.lemmas.Bool.{cases_lt, ltb-false, ltb-true}
+use Rattle.std.proofs.lemmas.Bool.{cases_lt, lt-ltb, ltb-false, ltb-true}
 use Rattle.std.proofs.lemmas.List.{get_or-set_same, get_or-set_other, length-replicate}
 use Rattle.std.proofs.Math.Nat.{pow-suc}
 use Rattle.std.specs.Option.{option_and_then}
@@ -221,6 +221,7 @@ may_count r counts o (Some c) k few may = λ low.
 
 pub counts_on : (r : Replayed) (e : Event) (counts : List ℕ) (o u : Option ℕ) → IsLegal r.shape r.history → Fits r.shape r.history e → CountsBatches r counts → MayGo counts o →
     o ≡ option_and_then (batch_of r.shape r.history) (page_told e.what) → u ≡ option_and_then (batch_of r.shape (r.history ++ e ∷ [])) (page_told e.what) → CountsBatches (with_event r e) (count_more (count_gone counts o) u)
+unfolding b1
 counts_on r e counts o u l f k may before after = record {
   size = more_size (count_gone counts o) u ∙ gone_size counts o ∙ k.size;
   each = λ c low.
@@ -239,23 +240,26 @@ counts_on r e counts o u l f k may before after = record {
 none_batched : (m : ℕ) (f : ℕ → ℕ) → ((i : ℕ) → f i ≡ 0) → sum_below m f ≡ 0
 none_batched m f none = sum_below-ext m f (λ i. 0) (λ i low. none i) ∙ sum_below-const m 0 ∙ omega arith
 
+abbrev nought : ℕ
+nought = 0
+
+empty : (s : Shape) (c : ℕ) → batched s [] c ≡ 0
+unfolding count_of sum_below
+empty s c = refl
+
 pub no_batches : (r : Replayed) (counts : List ℕ) → r.history ≡ [] → counts ≡ replicate 64 0 → CountsBatches r counts
-unfolding sum_below
 no_batches r counts none is = record {
-  size = ap (λ (ns : List ℕ). length ns) is ∙ length-replicate 64 0;
-  each = λ c low. ap (λ (ns : List ℕ). get_or ns c 0) is ∙ zeros 64 c ∙ sym (ap (λ h. batched r.shape h c) none ∙ empty c);
+  size = ap (λ (ns : List ℕ). length ns) is ∙ length-replicate 64 nought;
+  each = λ c low. ap (λ (ns : List ℕ). get_or ns c 0) is ∙ zeros 64 c ∙ sym (ap (λ h. batched r.shape h c) none ∙ empty r.shape c);
 } where
-  zeros : (n c : ℕ) → get_or (replicate n 0) c 0 ≡ 0
+  zeros : (n c : ℕ) → get_or (replicate n nought) c 0 ≡ nought
   zeros zero c = refl
   zeros (suc n) zero = refl
   zeros (suc n) (suc c) = zeros n c
 
-  empty : (c : ℕ) → batched r.shape [] c ≡ 0
-  unfolding count_of
-  empty c = refl
-
 -- the callers with a count are those with a batch
 caller_is : (s : Shape) (h : History) (c n : ℕ) → IsLegal s h → n ≡ batched s h c → cond (nat_lt 0 n) (2 ^ c) 0 ≡ cond (no_pages (flight h c)) 0 (2 ^ c)
+unfolding b1
 caller_is s h c n l is = go (flight h c) refl where
   go : (ps : List ℕ) → flight h c ≡ ps → cond (nat_lt 0 n) (2 ^ c) 0 ≡ cond (no_pages ps) 0 (2 ^ c)
   go [] e = ap (λ m. cond (nat_lt 0 m) (2 ^ c) 0) (is ∙ batched_are s h c ∙ none_batched (allocations h) (λ i. b1 c (batch_of s h i)) (λ i. isnt i (is_caller c (batch_of s h i)) refl)) where
@@ -264,12 +268,11 @@ caller_is s h c n l is = go (flight h c) refl where
     own i None y z = absurd (cc)
 
     isnt : (i : ℕ) (b : Bool) → is_caller c (batch_of s h i) ≡ b → b1 c (batch_of s h i) ≡ 0
-    unfolding b1
     isnt i false y = ap (λ b. cond {A = ℕ} b 1 0) y
     isnt i true y = absurd (
-      let has = (batch_has s h i c (batch_has_it s h i c (own i (batch_of s h i) refl y)).1).0 in
-      let hasnt : has_page i (flight h c) ≡ false = ap (has_page i) e in
-      cc)
+        let has = (batch_has s h i c (batch_has_it s h i c (own i (batch_of s h i) refl y)).1).0 in
+        let hasnt : has_page i (flight h c) ≡ false = ap (has_page i) e in
+        cc)
   go (p ∷ ps) e = ap (λ b. cond b (2 ^ c) 0) (lt-ltb 0 n (omega (arith, is, some_batched s h p c l in_batch))) where
     has : has_page p (flight h c) ≡ true
     has = ap (has_page p) e ∙ ap (λ b. b || has_page p ps) (eq-eqb p p refl)

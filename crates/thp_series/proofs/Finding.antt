@@ -8,7 +8,7 @@ use Rattle.thp_model.specs.declared.events.Event.{Event}
 use Rattle.thp_model.specs.declared.events.What.{What}
 use Rattle.thp_model.specs.declared.events.What.TheVariants as what
 use Rattle.thp_model.specs.declared.shape.Shape.{Shape}
-use Rattle.thp_model.specs.Counts.{allocates, allocations, frees, is_alloc, is_live}
+use Rattle.thp_model.specs.Counts.{allocates, allocations, frees, is_alloc, is_live, is_split}
 use Rattle.thp_model.specs.History.{History, by, count_of}
 use Rattle.thp_model.specs.Legal.{Fits, IsLegal}
 use Rattle.thp_model.specs.Places.{flight, has_page}
@@ -27,13 +27,13 @@ use Rattle.thp_live_pages.proofs.Homing.{block_freed, block_push, block_stays, l
 use Rattle.thp_live_pages.proofs.Standings.{standing_flying}
 use Rattle.thp_live_pages.proofs.Starting.{few_events}
 use Rattle.thp_series.specs.declared.stage.Stage.{Stage}
-use Rattle.thp_series.specs.declared.waiting.Found.{Found}
+use Rattle.thp_series.specs.declared.finds.Found.{Found}
 use Rattle.thp_series.specs.Finding.{HasRoom, KeepsFinds, MayNote, counted, noted, one_more}
 use Rattle.thp_series.specs.Spots.{home}
 use Rattle.thp_series.specs.Stages.{stage_by, stage_of}
 use Rattle.thp_series.specs.Stuck.{finds, finds_pinned}
 use Rattle.thp_series.specs.Waits.{waits, waits_in}
-use Rattle.thp_series.proofs.Waiting.{home_waits, waits_home}
+use Rattle.thp_series.proofs.Arriving.{home_waits, waits_home}
 
 set_same : (xs : List Found) (i : ℕ) (v : Found) → i < length xs → slice_get (set xs i v) i ≡ Some v
 set_same [] i v below = absurd (omega (arith, below))
@@ -66,7 +66,7 @@ lay_there h e q b a y = go (frees q e.what) refl where
   now = sym (block_push h e q) ∙ y
 
   go : (t : Bool) → frees q e.what ≡ t → block_of h q ≡ Some b
-  go true z = absurd (let gone = block_freed q (block_of h q) e.what z in cc)
+  go true z = absurd (let gone = block_freed q (block_of h q) e.what z in let here = now in cc)
   go false z = sym (block_stays q (block_of h q) e.what a z) ∙ now
 
 same_flight : (h : History) (c p : ℕ) → flight (h ++ by c (what.Pinned p) ∷ []) c ≡ flight h c
@@ -112,14 +112,14 @@ module _ (s : Shape) (h : History) (e : Event) (found : List Found) (l : IsLegal
   legal : IsLegal s after
   legal = legal_push s h e l f
 
+  grows : allocations h ≤ allocations after
+  grows = omega (arith, count_of_push is_alloc h e)
+
   never : (p : ℕ) → allocations after ≤ p → finds after p ≡ 0
   never p high = go (finds_pinned p e.what) refl where
     go : (b : Bool) → finds_pinned p e.what ≡ b → finds after p ≡ 0
     go false y = omega (arith, finds_push h e p, ap (λ (b : Bool). cond {A = ℕ} b 1 0) y, k.never p (omega (arith, high, grows)))
     go true y = absurd (omega (arith, finds_live s h e p l f y, high, grows))
-
-  grows : allocations h ≤ allocations after
-  grows = omega (arith, count_of_push is_alloc h e)
 
   -- nothing is found, and no page is new
   unfound : (q : ℕ) → finds_pinned q e.what ≡ false → finds after q ≡ finds h q
@@ -132,6 +132,9 @@ module _ (s : Shape) (h : History) (e : Event) (found : List Found) (l : IsLegal
 
   pub finds_on : (u : Option ℕ) (more : List Found) → u ≡ option_and_then (home s after) (page_told e.what) → more ≡ noted found e.what u → KeepsFinds s after more
   finds_on u more is told = let P : List Found → Type 0 = KeepsFinds s after in subst P (sym told) (go e.caller e.what u refl f is) where
+    outer : Fits s h e
+    outer = f
+
     apart : (q p b d : ℕ) → q ≢ p → block_of after q ≡ Some b → block_of after p ≡ Some d → b ≢ d
     apart q p b d ne y z same = ne ((legal_homed s after legal).once q p b y (z ∙ ap (λ (x : ℕ). Some x) (sym same)))
 
@@ -140,6 +143,25 @@ module _ (s : Shape) (h : History) (e : Event) (found : List Found) (l : IsLegal
 
     as_told : ℕ → ℕ → Found
     as_told q n = record { page = q; finds = n }
+
+    found_again : (p d : ℕ) → e.what ≡ what.Pinned p → block_of after p ≡ Some d → slice_get found d ≡ Some (as_told p (finds h p)) → KeepsFinds s after (set found d (as_told p (finds h p + 1)))
+    found_again p d same lies was = record {
+      size = length-set found d (as_told p (finds h p + 1)) ∙ k.size;
+      each = λ q b at. place q b at (nat_eq q p) refl;
+      never = never;
+    } where
+      place : (q b : ℕ) → block_of after q ≡ Some b → (t : Bool) → nat_eq q p ≡ t → slice_get (set found d (as_told p (finds h p + 1))) b ≡ Some (as_told q (finds after q))
+      place q b at true y =
+          let page : q ≡ p = eqb-true q p y in
+          let block : b ≡ d = some_is b d (sym at ∙ ap (block_of after) page ∙ lies) in
+          let more : finds after q ≡ finds h p + 1 = finds_push h e q ∙ ap (λ t. finds h q + cond {A = ℕ} t 1 0) (ap (finds_pinned q) same ∙ y) ∙ ap (λ x. finds h x + 1) page in
+          ap (slice_get (set found d (as_told p (finds h p + 1)))) block
+          ∙ set_same found d (as_told p (finds h p + 1)) (short found d (as_told p (finds h p)) was)
+          ∙ ap (λ (x : ℕ). Some (as_told x (finds h p + 1))) (sym page)
+          ∙ ap (λ (n : ℕ). Some (as_told q n)) (sym more)
+      place q b at false y =
+          set_other found d b (as_told p (finds h p + 1)) (apart q p b d (unequal q p y) at lies)
+          ∙ kept q b (ap (allocates q) same) (ap (finds_pinned q) same ∙ y) at
 
     go : (c : ℕ) (w : What) (u : Option ℕ) → e.what ≡ w → Fits s h (by c w) → u ≡ option_and_then (home s after) (page_told w) → KeepsFinds s after (noted found w u)
     go c (what.Alloc p d) u same f is = record {
@@ -163,9 +185,9 @@ module _ (s : Shape) (h : History) (e : Event) (found : List Found) (l : IsLegal
           set_other found d b (as_told p 0) (apart q p b d (unequal q p y) at lies)
           ∙ kept q b (ap (allocates q) same ∙ y) (ap (finds_pinned q) same) at
     go c (what.Pinned p) None same f is = absurd (
-      let w = waits_home s after p legal (ap (λ (x : What). waits s (h ++ by e.caller x ∷ []) p) same ∙ waits_still s h e.caller p l (let P : What → Type 0 = λ x. Fits s h (by e.caller x) in subst P same outer)) in
-      let some = w.1 in
-      cc)
+        let w = waits_home s after p legal (ap (λ (x : What). waits s (h ++ by e.caller x ∷ []) p) same ∙ waits_still s h e.caller p l (let P : What → Type 0 = λ x. Fits s h (by e.caller x) in subst P same outer)) in
+        let some = w.1 in
+        cc)
     go c (what.Pinned p) (Some d) same f is =
         let lies : block_of after p ≡ Some d = (home_waits s after p d (sym is)).1 in
         let was : slice_get found d ≡ Some (as_told p (finds h p)) = k.each p d (lay_there h e p d (ap (allocates p) same) lies) in
@@ -176,28 +198,6 @@ module _ (s : Shape) (h : History) (e : Event) (found : List Found) (l : IsLegal
       each = λ q b at. kept q b (ap (allocates q) same) (ap (finds_pinned q) same) at;
       never = never;
     }
-
-    outer : Fits s h e
-    outer = f
-
-    found_again : (p d : ℕ) → e.what ≡ what.Pinned p → block_of after p ≡ Some d → slice_get found d ≡ Some (as_told p (finds h p)) → KeepsFinds s after (set found d (as_told p (finds h p + 1)))
-    found_again p d same lies was = record {
-      size = length-set found d (as_told p (finds h p + 1)) ∙ k.size;
-      each = λ q b at. place q b at (nat_eq q p) refl;
-      never = never;
-    } where
-      place : (q b : ℕ) → block_of after q ≡ Some b → (t : Bool) → nat_eq q p ≡ t → slice_get (set found d (as_told p (finds h p + 1))) b ≡ Some (as_told q (finds after q))
-      place q b at true y =
-          let page : q ≡ p = eqb-true q p y in
-          let block : b ≡ d = some_is b d (sym at ∙ ap (block_of after) page ∙ lies) in
-          let more : finds after q ≡ finds h p + 1 = finds_push h e q ∙ ap (λ t. finds h q + cond {A = ℕ} t 1 0) (ap (finds_pinned q) same ∙ y) ∙ ap (λ x. finds h x + 1) page in
-          ap (slice_get (set found d (as_told p (finds h p + 1)))) block
-          ∙ set_same found d (as_told p (finds h p + 1)) (short found d (as_told p (finds h p)) was)
-          ∙ ap (λ (x : ℕ). Some (as_told x (finds h p + 1))) (sym page)
-          ∙ ap (λ (n : ℕ). Some (as_told q n)) (sym more)
-      place q b at false y =
-          set_other found d b (as_told p (finds h p + 1)) (apart q p b d (unequal q p y) at lies)
-          ∙ kept q b (ap (allocates q) same) (ap (finds_pinned q) same ∙ y) at
 
 pub nothing_found : (s : Shape) (found : List Found) → length found ≡ s.blocks → KeepsFinds s [] found
 unfolding count_of block_of

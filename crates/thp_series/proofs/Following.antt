@@ -254,3 +254,8 @@ begins_along r n ss cs numbers none no_page no_stage told is =
       numbers_are = told (legal_none r.shape) no_page no_stage;
       columns_are = is ∙ ap (λ x. x ∷ []) (told (legal_none r.shape) no_page no_stage);
     }) told
+
+pub same_replays : (r t : Replayed) → r.shape ≡ t.shape → r.history ≡ t.history → r ≡ t
+same_replays r t shapes events = ap (λ (s : Shape). with_both s r.history) shapes ∙ ap (with_both t.shape) events where
+  with_both : Shape → History → Replayed
+  with_both s h = record { shape = s; history = h }

@@ -3,7 +3,7 @@ mod Pairs
 mod Folding
 mod Widths
 mod Moving
-mod Waiting
+mod Arriving
 mod Counting
 mod Finding
 mod Batches

@@ -1,5 +1,5 @@
 -- What contracts see of the order in which pages came to wait. No public clause cites this module.
-use Rattle.std.specs.Prelude.{◌≡◌, ⊤, ℕ, ◌+◌, ◌<◌, ◌≤◌, false, List, [], ◌∷◌, length, get_or, Option, Some, None}
+use Rattle.std.specs.Prelude.{◌≡◌, ⊤, ℕ, ◌+◌, ◌<◌, ◌≤◌, ◌^◌, false, List, [], ◌∷◌, length, get_or, Option, Some, None}
 use Rattle.std.specs.List.{Contains}
 use Rattle.thp_links.specs.declared.link.Link.{Link}
 use Rattle.thp_links.specs.Standing.{Stands}
@@ -39,6 +39,7 @@ pub record AreLinked (order : List ℕ) (since : List ℕ) (ls : List Link) : Ty
 pub record KeepsWaits (s : Shape) (h : History) (events : ℕ) (a : Arrived) : Type 0 where
   pub legal : IsLegal s h
   pub events_are : events ≡ length h
+  pub few : length h < 2 ^ 64
   pub size : length a.since ≡ s.blocks
   -- what is in it is the block of a page that waits
   pub waiting : (b : ℕ) → Contains a.order b → (p : ℕ) × (home s h p ≡ Some b)
@@ -47,5 +48,6 @@ pub record KeepsWaits (s : Shape) (h : History) (events : ℕ) (a : Arrived) : T
   pub came : (p b : ℕ) → home s h p ≡ Some b → since_of a b + waited s h p ≡ length h + 1
   pub idle : (p : ℕ) → waits s h p ≡ false → waited s h p ≡ 0
   pub early : (b : ℕ) → Contains a.order b → since_of a b ≤ length h
+  pub from_one : (b : ℕ) → Contains a.order b → 0 < since_of a b
   -- those in front came first
   pub in_order : Ascends a.since a.order

@@ -1,12 +1,14 @@
 -- How often pages were found pinned, by block. No public clause cites this module.
-use Rattle.std.specs.Prelude.{◌≡◌, ℕ, ◌+◌, ◌<◌, ◌≤◌, ◌^◌, ⊤, List, Option, Some, None, length, slice_get, set, MatchOption}
+use Rattle.std.specs.Prelude.{◌≡◌, ℕ, ◌+◌, ◌<◌, ◌≤◌, ◌^◌, ⊤, List, [], ◌∷◌, ◌++◌, Option, Some, None, length, nat_lt, slice_get, set, if◌then◌else◌}
 use Rattle.thp_model.specs.declared.events.What.{What}
 use Rattle.thp_model.specs.declared.events.What.TheVariants.{Alloc, Pinned}
 use Rattle.thp_model.specs.declared.shape.Shape.{Shape}
 use Rattle.thp_model.specs.Counts.{allocations}
 use Rattle.thp_model.specs.History.{History}
 use Rattle.thp_live_pages.specs.Homes.{block_of}
-use Rattle.thp_series.specs.declared.waiting.Found.{Found}
+use Rattle.thp_series.specs.declared.finds.Found.{Found}
+use Rattle.thp_series.specs.declared.stuck_page.StuckPage.{StuckPage}
+use Rattle.thp_series.specs.Arrivals.{Arrived, since_of}
 use Rattle.thp_series.specs.Stuck.{finds}
 
 abbrev pub one_more : Found → Found
@@ -37,3 +39,13 @@ pub record KeepsFinds (s : Shape) (h : History) (found : List Found) : Type 0 wh
   pub size : length found ≡ s.blocks
   pub each : (p b : ℕ) → block_of h p ≡ Some b → slice_get found b ≡ Some (record { page = p; finds = finds h p })
   pub never : (p : ℕ) → allocations h ≤ p → finds h p ≡ 0
+
+-- what a page of block b is told as, where it was found pinned
+abbrev pub stuck_by : Option Found → ℕ → List StuckPage
+stuck_by None since = []
+stuck_by (Some f) since = if nat_lt 0 f.finds then record { page = f.page; finds = f.finds; since = since } ∷ [] else []
+
+-- the pages of these blocks that were found pinned, in the same order
+abbrev pub stuck_among : List Found → Arrived → List ℕ → List StuckPage
+stuck_among found a [] = []
+stuck_among found a (b ∷ bs) = stuck_by (slice_get found b) (since_of a b) ++ stuck_among found a bs

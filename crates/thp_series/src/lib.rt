@@ -10,6 +10,7 @@ mod arrivals;
 mod batch_counts;
 mod column;
 mod columns;
+mod finds;
 mod folded;
 mod links;
 mod node_series;

@@ -1,37 +1,21 @@
 //! The pages that wait for a split, in the queue or in a batch, while a node's events come.
-ghost use Rattle.std.specs.Prelude.{◌≡◌, ◌≤◌, ◌<◌, ◌+◌, ◌^◌, [], ◌∷◌, ◌++◌, length, IfOk};
+ghost use Rattle.std.specs.Prelude.{◌≡◌, ◌<◌, ◌+◌, ◌^◌, ℕ, [], ◌∷◌, ◌++◌, length, IfOk, Contains};
 ghost use Rattle.std.specs.Option.{option_and_then};
 ghost use Rattle.thp_model.specs.Legal.{Fits};
 ghost use Rattle.thp_journal_writer.specs.EventLines.{page_told};
 ghost use Rattle.thp_check.specs.Replays.{with_event};
-ghost use Rattle.thp_series.specs.Finding.{noted, MayNote};
+ghost use Rattle.thp_series.specs.Finding.{stuck_among};
 ghost use Rattle.thp_series.specs.Spots.{home};
 ghost use Rattle.thp_series.specs.Stuck.{AreStuck};
 ghost use Rattle.thp_series.specs.Waits.{longest_wait};
 
 use crate::arrivals::Arrivals;
+use crate::finds::Finds;
 use crate::stuck_page::StuckPage;
 use std::alloc::{AllocError, Global};
 use std::marker::Model;
 use thp_least_blocks::Past;
-use thp_model::{Event, PageId, Shape, What};
-
-// The page that came into a block last, and how often it was found pinned.
-#[derive(Clone, Copy)]
-struct Found {
-    page: PageId,
-    finds: u64,
-}
-
-impl Found {
-    // Of a block into which no page came.
-    fn none() -> Found {
-        Found {
-            page: PageId(0),
-            finds: 0,
-        }
-    }
-}
+use thp_model::{Event, Shape};
 
 /// The pages of a node that wait, in the queue or in a batch, each since when.
 ///
@@ -42,8 +26,7 @@ pub struct Waiting {
     // how many events there were
     events: u64,
     arrivals: Arrivals,
-    // by block
-    found: Vec<Found>,
+    finds: Finds,
     // takes no bytes
     past: Past,
 }
@@ -57,7 +40,7 @@ impl Model for Waiting {
 
     ghost view = { λ w. record { shape = w.shape; history = w.past } };
 
-    ghost invariant = { λ w. KeepsWaits w.shape w.past w.events w.arrivals × KeepsFinds w.shape w.past w.found.items };
+    ghost invariant = { λ w. KeepsWaits w.shape w.past w.events w.arrivals × KeepsFinds w.shape w.past w.finds };
 }
 
 impl Waiting {
@@ -70,7 +53,7 @@ impl Waiting {
             shape,
             events: 0,
             arrivals: Arrivals::new(alloc, shape.blocks)?,
-            found: vec![in alloc; Found::none(); shape.blocks as usize]?,
+            finds: Finds::new(alloc, shape.blocks)?,
             past: Past::new(),
         })
     }
@@ -84,12 +67,13 @@ impl Waiting {
         ensures { self.new ≡ with_event self.old event.now }
     {
         self.events += 1;
+        self.finds.note(&event.what, after);
         match (before, after) {
             (None, Some(block)) => self.arrivals.come(block, self.events),
             (Some(block), None) => self.arrivals.go(block),
-            _ => {}
+            (None, None) => {}
+            (Some(_), Some(_)) => {}
         }
-        note(&mut self.found, &event.what, after);
         self.past.push(event);
     }
 
@@ -107,29 +91,30 @@ impl Waiting {
         ensures { IfOk result (λ pages. AreStuck self.now.shape self.now.history pages.items) }
     {
         let blocks = self.arrivals.blocks(alloc)?;
-        let mut pages = Vec::new(alloc);
-        for block in &blocks {
-            let found = self.found[*block as usize];
-            if found.finds > 0 {
-                pages.push(StuckPage {
-                    page: found.page,
-                    finds: found.finds,
-                    since: self.arrivals.since(*block),
-                })?;
-            }
-        }
-        Ok(pages)
+        stuck_among(&self.finds, &self.arrivals, alloc, &blocks)
     }
 }
 
-// What happened, to a page that waits in this block if it waits, was a find, or a page came.
-fn note(found: &mut [Found], what: &What, home: Option<u32>)
-    requires room { MayNote found.old what.now home }
-    ensures { found.new ≡ noted found.old what.now home }
+// The pages of these blocks that were found pinned, in the same order.
+fn stuck_among(
+    finds: &Finds,
+    arrivals: &Arrivals,
+    alloc: Global,
+    blocks: &[u32],
+) -> Result<Vec<StuckPage>, AllocError>
+    requires { (b : ℕ) → Contains blocks.now b → (b < length finds.now) × (b < length arrivals.now.since) }
+    ensures { IfOk result (λ pages. pages.items ≡ stuck_among finds.now arrivals.now blocks.now) }
 {
-    match (*what, home) {
-        (What::Alloc { page, block }, _) => found[block as usize] = Found { page, finds: 0 },
-        (What::Pinned { .. }, Some(block)) => found[block as usize].finds += 1,
-        _ => {}
+    let mut pages = Vec::new(alloc);
+    for block in blocks {
+        let found = finds.at(*block);
+        if found.finds > 0 {
+            pages.push(StuckPage {
+                page: found.page,
+                finds: found.finds,
+                since: arrivals.since(*block),
+            })?;
+        }
     }
+    Ok(pages)
 }

@@ -1,6 +1,9 @@
 -- The pages that wait, with one more event.
-use Rattle.std.proofs.Common.{◌≡◌, ◌≢◌, ℕ, zero, suc, ◌+◌, ◌-◌, ◌<◌, ◌≤◌, max, Bool, true, false, not, cond, ◌&&◌, List, [], ◌∷◌, ◌++◌, Option, Some, None, length, get_or, set, refl, ap, sym, ◌∙◌, subst, arith, inl, inr, ◌⊎◌, nat_eq, eq-eqb, eqb-true, append_assoc, append-nil, length-append, Contains, length-set}
+use Rattle.std.proofs.Common.{◌≡◌, ◌≢◌, ℕ, zero, suc, ◌+◌, ◌-◌, ◌^◌, ◌<◌, ◌≤◌, max, Bool, true, false, not, cond, ◌&&◌, List, [], ◌∷◌, ◌++◌, Option, Some, None, length, get_or, set, refl, ap, sym, ◌∙◌, subst, arith, inl, inr, ◌⊎◌, nat_eq, eq-eqb, eqb-true, append_assoc, append-nil, length-append, Contains, length-set}
+use Rattle.std.specs.Prelude.{slice_get}
 use Rattle.std.specs.List.{fold}
+use Rattle.std.specs.Option.{option_and_then}
+use Rattle.std.proofs.lemmas.Bool.{cases_lt}
 use Rattle.std.proofs.lemmas.List.{get_or-set_same, get_or-set_other}
 use Rattle.std.proofs.lemmas.List.Sums.{fold_push}
 use Rattle.std.proofs.lemmas.List.Elements.{Contains-push, Contains-push_cases}
@@ -110,8 +113,24 @@ same_home s h e p b c l f before after = go (allocates p e.what) (frees p e.what
 
   go : (x y : Bool) → allocates p e.what ≡ x → frees p e.what ≡ y → b ≡ c
   go true y a g = absurd (let w = alloc_of p e.what a in omega (arith, low, fits_number e.what w.0 refl w.1))
-  go false true a g = absurd (let gone = block_freed p (block_of h p) e.what g in cc)
+  go false true a g = absurd (let gone = block_freed p (block_of h p) e.what g in let here = is in cc)
   go false false a g = same_some b c (sym was ∙ sym (block_stays p (block_of h p) e.what a g) ∙ is)
+
+-- what is in a list is in it with one more
+pushed : (bs : List ℕ) (d c : ℕ) → Contains bs c → Contains (bs ++ d ∷ []) c
+pushed [] d c m = absurd (Contains-nil c m)
+pushed (b ∷ bs) d c m =
+    let P : ℕ → Type 0 = Contains (b ∷ (bs ++ d ∷ [])) in
+    elim (Contains-cons_cases b bs c m) [
+      | inl same ↦ subst P (sym same) (Contains-head b (bs ++ d ∷ []))
+      | inr more ↦ Contains-behind b (bs ++ d ∷ []) c (pushed bs d c more)
+    ]
+
+-- what stands at a place inside a list needs no default
+pub any_number : (ns : List ℕ) (k m n : ℕ) → k < length ns → get_or ns k m ≡ get_or ns k n
+any_number [] k m n below = absurd (omega (arith, below))
+any_number (x ∷ ns) zero m n below = refl
+any_number (x ∷ ns) (suc k) m n below = any_number ns k m n (omega (arith, below))
 
 -- numbers that ascend, with one more
 ascends_push : (ns : List ℕ) (bs : List ℕ) (b : ℕ) → Ascends ns bs → ((c : ℕ) → Contains bs c → get_or ns c 0 < get_or ns b 0) → Ascends ns (bs ++ b ∷ [])
@@ -134,15 +153,12 @@ ascends_same ns ms (b ∷ bs) same up = (
 
 ascends_without : (ns : List ℕ) (i : ℕ) (bs : List ℕ) → Ascends ns bs → Ascends ns (without i bs)
 ascends_without ns i [] up = tt
-ascends_without ns i (b ∷ bs) up = go (nat_eq b i) refl where
-  rest : Ascends ns (without i bs)
-  rest = ascends_without ns i bs up.1
+ascends_without ns i (b ∷ bs) up = go (nat_eq b i) (ascends_without ns i bs up.1) where
+  go : (t : Bool) → Ascends ns (without i bs) → Ascends ns (cond (not t) (b ∷ without i bs) (without i bs))
+  go true rest = rest
+  go false rest = ((λ c m. up.0 c (Contains-from_without i bs c m).0), rest)
 
-  go : (t : Bool) → nat_eq b i ≡ t → Ascends ns (cond (not t) (b ∷ without i bs) (without i bs))
-  go true y = rest
-  go false y = ((λ c m. up.0 c (Contains-from_without i bs c m).0), rest)
-
-module _ (s : Shape) (h : History) (e : Event) (n : ℕ) (a : Arrived) (k : KeepsWaits s h n a) (f : Fits s h e) where
+module _ (s : Shape) (h : History) (e : Event) (n : ℕ) (a : Arrived) (k : KeepsWaits s h n a) (f : Fits s h e) (room : length h + 1 < 2 ^ 64) where
   abbrev after : History
   after = h ++ e ∷ []
 
@@ -163,12 +179,14 @@ module _ (s : Shape) (h : History) (e : Event) (n : ℕ) (a : Arrived) (k : Keep
   none_moves m one same = record {
     legal = legal;
     events_are = omega (arith, one, k.events_are, longer);
+    few = omega (arith, longer, room);
     size = k.size;
     waiting = λ b c. let w = k.waiting b c in (w.0, same w.0 ∙ w.1);
     there = λ p b y. k.there p b (sym (same p) ∙ y);
     came = λ p b y. omega (arith, k.came p b (sym (same p) ∙ y), goes_on p b y, longer);
     idle = idle;
     early = λ b c. omega (arith, k.early b c, longer);
+    from_one = k.from_one;
     in_order = k.in_order;
   }
 
@@ -194,6 +212,7 @@ module _ (s : Shape) (h : History) (e : Event) (n : ℕ) (a : Arrived) (k : Keep
       comes m x one order since = record {
         legal = legal;
         events_are = omega (arith, one, k.events_are, longer);
+        few = omega (arith, longer, room);
         size = ap (λ (ns : List ℕ). length ns) since ∙ length-set a.since b m ∙ k.size;
         waiting = λ c y.
             elim (in_cases c y) [
@@ -208,11 +227,16 @@ module _ (s : Shape) (h : History) (e : Event) (n : ℕ) (a : Arrived) (k : Keep
               | inl old ↦ omega (arith, k.early c old, since_old c old, longer)
               | inr new ↦ omega (arith, ap (λ (z : ℕ). get_or x.since z 0) new, since_new, k.events_are, one, longer)
             ];
+        from_one = λ c y.
+            elim (in_cases c y) [
+              | inl old ↦ omega (arith, k.from_one c old, since_old c old)
+              | inr new ↦ omega (arith, ap (λ (z : ℕ). get_or x.since z 0) new, since_new, one)
+            ];
         in_order =
             let P : List ℕ → Type 0 = Ascends x.since in
             subst P (sym order)
             (ascends_push x.since a.order b (ascends_same a.since x.since a.order (λ c m. sym (since_old c m)) k.in_order)
-              (λ c m. omega (arith, since_old c m, since_new, k.early c m, k.events_are, one)));
+            (λ c m. omega (arith, since_old c m, since_new, k.early c m, k.events_are, one)));
       } where
         in_cases : (c : ℕ) → Contains x.order c → Contains a.order c ⊎ (b ≡ c)
         in_cases c y = let P : List ℕ → Type 0 = λ bs. Contains bs c in Contains-push_cases a.order b c (subst P order y)
@@ -238,13 +262,6 @@ module _ (s : Shape) (h : History) (e : Event) (n : ℕ) (a : Arrived) (k : Keep
             let P : List ℕ → Type 0 = λ bs. Contains bs c in
             subst P (sym order) (pushed a.order b c (k.there q c (old_home q c y z)))
 
-        pushed : (bs : List ℕ) (d c : ℕ) → Contains bs c → Contains (bs ++ d ∷ []) c
-        pushed [] d c m = absurd (Contains-nil c m)
-        pushed (e ∷ bs) d c m = elim (Contains-cons_cases e bs c m) [
-          | inl same ↦ let P : ℕ → Type 0 = Contains (e ∷ bs ++ d ∷ []) in subst P (sym same) (Contains-head e (bs ++ d ∷ []))
-          | inr more ↦ Contains-behind e (bs ++ d ∷ []) c (pushed bs d c more)
-        ]
-
         when : (q c : ℕ) → home s after q ≡ Some c → (t : Bool) → nat_eq q p ≡ t → since_of x c + waited s after q ≡ length after + 1
         when q c y true z =
             let fresh : waited s h q ≡ 0 = ap (waited s h) (eqb-true q p z) ∙ k.idle p (homeless s h p k.legal before) in
@@ -265,6 +282,7 @@ module _ (s : Shape) (h : History) (e : Event) (n : ℕ) (a : Arrived) (k : Keep
       goes m x one order since = record {
         legal = legal;
         events_are = omega (arith, one, k.events_are, longer);
+        few = omega (arith, longer, room);
         size = ap (λ (ns : List ℕ). length ns) since ∙ k.size;
         waiting = λ c y.
             let old = was c y in
@@ -280,6 +298,7 @@ module _ (s : Shape) (h : History) (e : Event) (n : ℕ) (a : Arrived) (k : Keep
             omega (arith, ap (λ (ns : List ℕ). get_or ns c 0) since, k.came q c old, goes_on q c y, longer);
         idle = idle;
         early = λ c y. omega (arith, ap (λ (ns : List ℕ). get_or ns c 0) since, k.early c (was c y).0, longer);
+        from_one = λ c y. omega (arith, ap (λ (ns : List ℕ). get_or ns c 0) since, k.from_one c (was c y).0);
         in_order =
             let P : List ℕ → Type 0 = λ ns. Ascends ns (without b a.order) in
             let Q : List ℕ → Type 0 = Ascends x.since in
@@ -297,15 +316,17 @@ no_greater (suc m) f v low = omega (arith, no_greater m f v (λ i l. low i (omeg
 no_less : (m : ℕ) (f : ℕ → ℕ) (p : ℕ) → p < m → f p ≤ greatest_below m f
 unfolding greatest_below
 no_less zero f p below = absurd (omega (arith, below))
-no_less (suc m) f p below = go (nat_eq p m) refl where
-  go : (t : Bool) → nat_eq p m ≡ t → f p ≤ max (greatest_below m f) (f m)
-  go true y = omega (arith, ap f (eqb-true p m y))
-  go false y =
-      let ne : p ≢ m = λ z. absurd (let yes = eq-eqb p m z in cc) in
-      omega (arith, no_less m f p (omega (arith, below, ne)))
+no_less (suc m) f p below =
+    elim (cases_lt p m) [
+      | inl less ↦ omega (arith, no_less m f p less)
+      | inr more ↦ omega (arith, ap f (last p m below more))
+    ]
+  where
+    last : (p m : ℕ) → p < suc m → m ≤ p → p ≡ m
+    last p m below more = omega (arith, below, more)
 
 -- how long the page has waited that came first
-pub by_first : ℕ → Option ℕ → ℕ
+abbrev pub by_first : ℕ → Option ℕ → ℕ
 by_first n (Some since) = n - since + 1
 by_first n None = 0
 
@@ -321,8 +342,11 @@ longest_is s h n a k = go a.order refl where
     by false y = omega (arith, k.idle p y)
 
   go : (bs : List ℕ) → a.order ≡ bs → longest_wait s h ≡ by_first n (first_of bs a.since)
-  go [] is = omega (arith, no_greater (allocations h) (waited s h) 0 (λ p l. upto 0 p (λ c y.
-      let P : List ℕ → Type 0 = λ xs. Contains xs c in absurd (Contains-nil c (subst P is (k.there p c y))))))
+  go [] is = omega (
+    arith,
+    no_greater (allocations h) (waited s h) 0 (λ p l. upto 0 p (λ c y.
+        let P : List ℕ → Type 0 = λ xs. Contains xs c in absurd (Contains-nil c (subst P is (k.there p c y))))),
+  )
   go (b ∷ bs) is =
       let P : List ℕ → Type 0 = λ xs. Contains xs b in
       let here : Contains a.order b = subst P (sym is) (Contains-head b bs) in
@@ -331,23 +355,29 @@ longest_is s h n a k = go a.order refl where
       let up : Ascends a.since (b ∷ bs) = subst U is k.in_order in
       let v : ℕ = waited s h w.0 in
       let most : greatest_below (allocations h) (waited s h) ≤ v = no_greater (allocations h) (waited s h) v (λ p l. upto v p (λ c y.
-          let Q : List ℕ → Type 0 = λ xs. Contains xs c in
-          elim (Contains-cons_cases b bs c (subst Q is (k.there p c y))) [
-            | inl same ↦ omega (arith, k.came p c y, k.came w.0 b w.1, ap (λ (d : ℕ). get_or a.since d 0) same)
-            | inr more ↦ omega (arith, k.came p c y, k.came w.0 b w.1, up.0 c more)
-          ])) in
+      let Q : List ℕ → Type 0 = λ xs. Contains xs c in
+      elim (Contains-cons_cases b bs c (subst Q is (k.there p c y))) [
+        | inl same ↦ omega (arith, k.came p c y, k.came w.0 b w.1, ap (λ (d : ℕ). get_or a.since d 0) same)
+        | inr more ↦ omega (arith, k.came p c y, k.came w.0 b w.1, up.0 c more)
+      ])) in
       omega (arith, most, no_less (allocations h) (waited s h) w.0 (low w.0 (home_waits s h w.0 b w.1).0), k.came w.0 b w.1, k.early b here, k.events_are)
+
+none_allocated : allocations [] ≡ 0
+unfolding count_of
+none_allocated = refl
 
 pub nothing_waits : (s : Shape) (a : Arrived) → a.order ≡ [] → length a.since ≡ s.blocks → KeepsWaits s [] 0 a
 nothing_waits s a none size = record {
   legal = legal_none s;
   events_are = refl;
+  few = omega arith;
   size = size;
   waiting = λ b c. absurd (Contains-nil b (empty b c));
   there = λ p b y. absurd (no_home p b y);
   came = λ p b y. absurd (no_home p b y);
   idle = λ p w. waited_none s p;
   early = λ b c. absurd (Contains-nil b (empty b c));
+  from_one = λ b c. absurd (Contains-nil b (empty b c));
   in_order = let P : List ℕ → Type 0 = Ascends a.since in subst P (sym none) tt;
 } where
   empty : (b : ℕ) → Contains a.order b → Contains [] b
@@ -356,6 +386,47 @@ nothing_waits s a none size = record {
   no_home : (p b : ℕ) → home s [] p ≡ Some b → ⊥
   no_home p b y = omega (arith, live_below [] p (legal_grown s [] (legal_none s)).numbered (waits_live s [] p (home_waits s [] p b y).0), none_allocated)
 
-  none_allocated : allocations [] ≡ 0
-  unfolding count_of
-  none_allocated = refl
+-- the first came by an event that there was
+pub first_was : (s : Shape) (h : History) (n : ℕ) (a : Arrived) (since : ℕ) → KeepsWaits s h n a → first_since a ≡ Some since → (0 < since) × (since ≤ n)
+first_was s h n a since k e = go a.order refl e where
+  go : (bs : List ℕ) → a.order ≡ bs → first_of bs a.since ≡ Some since → (0 < since) × (since ≤ n)
+  go [] is e = absurd (cc)
+  go (b ∷ bs) is e =
+      let P : List ℕ → Type 0 = λ xs. Contains xs b in
+      let here : Contains a.order b = subst P (sym is) (Contains-head b bs) in
+      let same : get_or a.since b 0 ≡ since = cc in
+      (omega (arith, same, k.from_one b here), omega (arith, same, k.early b here, k.events_are))
+
+-- the page of an event comes to wait in block b
+pub comes_of : (s : Shape) (h : History) (e : Event) (b : ℕ) (page : Option ℕ) → Fits s h e → page_told e.what ≡ page → None ≡ option_and_then (home s h) page → Some b ≡ option_and_then (home s (h ++ e ∷ [])) page →
+    (p : ℕ) × ((q : ℕ) → (q ≢ p) → home s (h ++ e ∷ []) q ≡ home s h q) × (home s h p ≡ None) × (home s (h ++ e ∷ []) p ≡ Some b)
+comes_of s h e b None f is before after = absurd (cc)
+comes_of s h e b (Some p) f is before after = (p, (λ q ne. home_stays s h e q f (not_named e.what p q is ne)), sym before, sym after)
+
+-- it waits there no more
+pub goes_of : (s : Shape) (h : History) (e : Event) (b : ℕ) (page : Option ℕ) → Fits s h e → page_told e.what ≡ page → Some b ≡ option_and_then (home s h) page → None ≡ option_and_then (home s (h ++ e ∷ [])) page →
+    (p : ℕ) × ((q : ℕ) → (q ≢ p) → home s (h ++ e ∷ []) q ≡ home s h q) × (home s h p ≡ Some b) × (home s (h ++ e ∷ []) p ≡ None)
+goes_of s h e b None f is before after = absurd (cc)
+goes_of s h e b (Some p) f is before after = (p, (λ q ne. home_stays s h e q f (not_named e.what p q is ne)), sym before, sym after)
+
+stay_at : (s : Shape) (h : History) (e : Event) (p : ℕ) → Fits s h e → page_told e.what ≡ Some p → home s (h ++ e ∷ []) p ≡ home s h p → (q : ℕ) → home s (h ++ e ∷ []) q ≡ home s h q
+stay_at s h e p f is same q = go (nat_eq q p) refl where
+  go : (t : Bool) → nat_eq q p ≡ t → home s (h ++ e ∷ []) q ≡ home s h q
+  go true y = let page : q ≡ p = eqb-true q p y in ap (home s (h ++ e ∷ [])) page ∙ same ∙ ap (home s h) (sym page)
+  go false y = home_stays s h e q f (not_named e.what p q is (λ z. absurd (let yes = eq-eqb q p z in cc)))
+
+-- it doesn't wait before and after, or waits before and after
+pub stays_out : (s : Shape) (h : History) (e : Event) (page : Option ℕ) → Fits s h e → page_told e.what ≡ page → None ≡ option_and_then (home s h) page → None ≡ option_and_then (home s (h ++ e ∷ [])) page → (q : ℕ) → home s (h ++ e ∷ []) q ≡ home s h q
+stays_out s h e None f is before after q = home_stays s h e q f (none_named e.what q is)
+stays_out s h e (Some p) f is before after q = stay_at s h e p f is (sym after ∙ before) q
+
+pub stays_in : (s : Shape) (h : History) (e : Event) (b c : ℕ) (page : Option ℕ) → IsLegal s h → Fits s h e → page_told e.what ≡ page → Some b ≡ option_and_then (home s h) page → Some c ≡ option_and_then (home s (h ++ e ∷ [])) page → (q : ℕ) → home s (h ++ e ∷ []) q ≡ home s h q
+stays_in s h e b c None l f is before after q = absurd (cc)
+stays_in s h e b c (Some p) l f is before after q = stay_at s h e p f is (sym after ∙ ap (λ (x : ℕ). Some x) (sym (same_home s h e p b c l f (sym before) (sym after))) ∙ before) q
+
+-- the first of an order
+pub first_is : (order since : List ℕ) (b v : ℕ) → slice_get order 0 ≡ Some b → b < length since → v ≡ get_or since b v → Some v ≡ first_of order since
+first_is [] since b v e inside is = absurd (cc)
+first_is (x ∷ xs) since b v e inside is =
+    let same : x ≡ b = cc in
+    ap (λ (i : ℕ). Some i) (is ∙ any_number since b v 0 inside ∙ ap (λ i. get_or since i 0) (sym same))
