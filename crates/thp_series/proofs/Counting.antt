@@ -1,5 +1,5 @@
 -- How many pages callers have in their batches, with one more event.
-use Rattle.std.proofs.Common.{◌≡◌, ◌≢◌, ℕ, zero, suc, ◌+◌, ◌-◌, ◌^◌, ◌<◌, ◌≤◌, Bool, true, false, not, cond, ◌&&◌, ◌||◌, List, [], ◌∷◌, ◌++◌, Option, Some, None, length, get_or, set, replicate, refl, ap, sym, ◌∙◌, subst, arith, inl, inr, nat_eq, nat_lt, eq-eqb, eqb-true, length-set}
+use Rattle.std.proofs.Common.{◌≡◌, ◌≢◌, ℕ, zero, suc, ◌+◌, ◌-◌, ◌^◌, ◌<◌, ◌≤◌, Bool, true, false, cond, ◌||◌, List, [], ◌∷◌, ◌++◌, Option, Some, None, length, get_or, set, replicate, refl, ap, sym, ◌∙◌, subst, arith, inl, inr, nat_eq, nat_lt, eq-eqb, eqb-true, length-set}
 use Rattle.std.proofs.lemmas.Bool.{cases_lt, lt-ltb, ltb-false, ltb-true}
 use Rattle.std.proofs.lemmas.List.{get_or-set_same, get_or-set_other, length-replicate}
 use Rattle.std.proofs.Math.Nat.{pow-suc}
@@ -12,9 +12,8 @@ use Rattle.thp_model.specs.Counts.{allocations, is_alloc, is_live}
 use Rattle.thp_model.specs.History.{History, count_of}
 use Rattle.thp_model.specs.Legal.{Fits, IsLegal}
 use Rattle.thp_model.specs.Places.{flight, has_page, no_pages}
-use Rattle.thp_model.specs.Sets.{count_below, sum_below}
+use Rattle.thp_model.specs.Sets.{sum_below}
 use Rattle.thp_model.proofs.Alive.{legal_grown}
-use Rattle.thp_model.proofs.LegalSteps.{legal_push}
 use Rattle.thp_model.proofs.Numbers.{live_below}
 use Rattle.thp_model.proofs.OnePlace.{flies_live}
 use Rattle.thp_model.proofs.Pushes as pushes

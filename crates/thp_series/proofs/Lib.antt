@@ -6,5 +6,6 @@ mod Moving
 mod Arriving
 mod Counting
 mod Finding
+mod Stuck
 mod Batches
 mod Following

@@ -1,5 +1,5 @@
 -- How many pages callers have in their batches. No public clause cites this module.
-use Rattle.std.specs.Prelude.{◌≡◌, ℕ, ◌+◌, ◌-◌, ◌^◌, ◌<◌, ⊤, List, Option, Some, None, get_or, set, cond, nat_lt, if◌then◌else◌}
+use Rattle.std.specs.Prelude.{ℕ, ◌+◌, ◌-◌, ◌^◌, ◌<◌, ⊤, List, Option, Some, None, get_or, set, nat_lt, if◌then◌else◌}
 use Rattle.thp_model.specs.Sets.{sum_below}
 
 abbrev pub count_at : List ℕ → ℕ → ℕ

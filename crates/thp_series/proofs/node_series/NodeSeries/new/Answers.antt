@@ -1,8 +1,5 @@
-use Rattle.std.proofs.Common.{◌≡◌, None, ◌∙◌, ap, refl, sym}
+use Rattle.std.proofs.Common.{◌≡◌, None, ◌∙◌, refl, sym}
 use Rattle.std.specs.Prelude.{replicate}
-use Rattle.thp_check.specs.Replays.{Replayed}
-use Rattle.thp_model.specs.History.{History}
-use Rattle.thp_model.specs.declared.shape.Shape.{Shape}
 use Rattle.thp_series.specs.Following.{CountsBatches}
 use Rattle.thp_series.proofs.Counting.{no_batches}
 use Rattle.thp_series.proofs.Following.{begins_along, same_replays}

@@ -1,4 +1,4 @@
-use Rattle.std.proofs.Common.{◌≡◌, ◌+◌, ◌<◌, ◌^◌, ◌∙◌, [], ◌∷◌, ◌++◌, Option, ℕ, ap, arith, length, refl, subst, sym}
+use Rattle.std.proofs.Common.{◌≡◌, ◌+◌, ◌<◌, ◌^◌, ◌∙◌, [], ◌∷◌, ◌++◌, length, refl, subst, sym}
 use Rattle.std.specs.Option.{option_and_then}
 use Rattle.thp_check.specs.Replays.{Replayed}
 use Rattle.thp_journal_writer.specs.EventLines.{page_told}

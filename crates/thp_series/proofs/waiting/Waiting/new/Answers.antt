@@ -1,4 +1,4 @@
-use Rattle.std.proofs.Common.{ℕ, List, [], sym, subst}
+use Rattle.std.proofs.Common.{sym, subst}
 use Rattle.thp_model.specs.History.{History}
 use Rattle.thp_series.specs.Arrivals.{KeepsWaits}
 use Rattle.thp_series.specs.Finding.{KeepsFinds}
