@@ -94,7 +94,8 @@ impl Numbering {
         let Some(node) = self.at_hand.take() else {
             return Ok(());
         };
-        self.keep(numbered(self.alloc, node)?)
+        let ended = numbered(self.alloc, node)?;
+        self.keep(ended)
     }
 
     /// One more node begins, whose first event stands on this line.

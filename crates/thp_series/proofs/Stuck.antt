@@ -1,6 +1,5 @@
 -- Which pages wait and were found pinned, by what is kept of them.
-use Rattle.std.proofs.Common.{◌≡◌, ℕ, zero, suc, ◌+◌, ◌<◌, Bool, true, false, cond, List, [], ◌∷◌, ◌++◌, Option, Some, length, get_or, refl, ap, sym, ◌∙◌, subst, arith, inl, inr, ◌⊎◌, nat_lt, Contains, All, AllPairs, append-nil, append_assoc, take, ◌≤◌, Vec, Result, Ok, Err, IfOk, Global}
-use Rattle.std.specs.declared.alloc.AllocError.{AllocError}
+use Rattle.std.proofs.Common.{◌≡◌, ℕ, zero, suc, ◌+◌, ◌<◌, Bool, true, false, cond, List, [], ◌∷◌, ◌++◌, Option, Some, length, get_or, refl, ap, sym, ◌∙◌, subst, arith, inl, inr, ◌⊎◌, nat_lt, Contains, All, AllPairs, append-nil, append_assoc, take, ◌≤◌}
 use Rattle.std.specs.Prelude.{slice_get}
 use Rattle.std.proofs.lemmas.Bool.{le-ltb, lt-ltb, ltb-true}
 use Rattle.std.proofs.lemmas.List.{take_more}
@@ -161,7 +160,3 @@ passed_none found a bs k v xs ys below at is none same =
     ∙ sym (append-nil (stuck_among found a (take k bs)))
     ∙ ap (λ b. stuck_among found a (take k bs) ++ cond b (as_page v (since_of a (get_or bs k 0)) ∷ []) []) (sym (le-ltb 0 v.finds none))
     ∙ sym (whole found a bs k v below at)
-
-pub each_answer : (r : Result (Vec StuckPage Global) AllocError) (P Q : Vec StuckPage Global → Type 0) → ((v : Vec StuckPage Global) → P v → Q v) → IfOk r P → IfOk r Q
-each_answer (Ok v) P Q f p = f v p
-each_answer (Err e) P Q f p = tt

@@ -1,9 +1,11 @@
 //! The numbers of a node over its events, in at most 600 columns.
 //!
 //! A prefix of a node's events has [`Numbers`]: how long the queue is, how many pages are in batches, how many frames
-//! are held and given back, how many pages are in each stage. [`NodeSeries`] follows a node's events and has them of each
-//! prefix; [`Columns`] keeps the least and the greatest of each column. A column is as wide as the least power of two of
-//! which 600 serve, so that nothing is kept of a prefix.
+//! are held and given back, how many pages are in each stage, how long the oldest page has waited, which callers have
+//! batches. [`NodeSeries`] follows a node's events and has them of each prefix; [`Columns`] keeps the least and the
+//! greatest of each column. A column is as wide as the least power of two of which 600 serve, so that nothing is kept of
+//! a prefix. Of the page in each block it is kept since when it waits, in the queue or in a batch, and how often it was
+//! found pinned: [`StuckPage`]s wait and were.
 #![tactic(auto)]
 
 mod arrivals;

@@ -58,7 +58,8 @@ impl Waiting {
         })
     }
 
-    // One more event, whose page lay in the one block where it waited before, and lies in the other where it waits after.
+    // One more event, whose page lay in the one block where it waited before, and lies in the other where it waits
+    // after.
     pub(crate) fn follow(&mut self, event: &Event, before: Option<u32>, after: Option<u32>)
         requires room { length self.old.history + 1 < 2 ^ 64 }
         requires fits { Fits self.old.shape self.old.history event.now }
@@ -86,6 +87,7 @@ impl Waiting {
             None => 0,
         }
     }
+
     /// The pages that wait and were found pinned, those that have waited longest in front.
     pub fn stuck(&self, alloc: Global) -> Result<Vec<StuckPage>, AllocError>
         ensures { IfOk result (λ pages. AreStuck self.now.shape self.now.history pages.items) }

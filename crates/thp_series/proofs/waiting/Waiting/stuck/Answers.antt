@@ -1,8 +1,9 @@
 use Rattle.std.proofs.Common.{◌≡◌, ℕ, List, ◌∙◌, Contains, ap, subst}
+use Rattle.std.proofs.lemmas.Result.{IfOk-weaker}
 use Rattle.thp_check.specs.Replays.{Replayed}
 use Rattle.thp_series.specs.Finding.{stuck_among}
 use Rattle.thp_series.specs.Stuck.{AreStuck}
-use Rattle.thp_series.proofs.Stuck.{are_stuck, each_answer, in_range}
+use Rattle.thp_series.proofs.Stuck.{are_stuck, in_range}
 use Rattle.thp_series.proofs.waiting.Waiting.stuck.Goals as goal
 
 pub stuck_among-requires : goal.stuck_among-requires
@@ -14,7 +15,7 @@ stuck_among-requires c b m =
 pub returns : goal.returns
 returns c =
     let i = c.self.inside in
-    each_answer c.stuck_among.result (λ pages. pages.items ≡ stuck_among i.finds i.arrivals c.deref.result.now) (λ pages. AreStuck c.args.self.now.shape c.args.self.now.history pages.items)
+    IfOk-weaker c.stuck_among.result _ _
     (λ pages is.
     subst (λ (r : Replayed). AreStuck r.shape r.history pages.items) c.self.view_is
     (are_stuck i.shape i.past i.events i.arrivals i.finds c.self.invariant.0 c.self.invariant.1 pages.items (is ∙ ap (stuck_among i.finds i.arrivals) (c.deref.ensures.value ∙ c.in_ok-blocks.ensures))))
