@@ -18,11 +18,14 @@ pub fn pass_take(handle: &mut ThpPass, alloc: Global, caller: u32, n: u32, count
     ensures known { IsPassCode result }
     ensures kept { OnErr (pass_answer_of result) (count.new ≡ count.old) }
 {
-    let Some((room, mut shared)) = handle.take(alloc) else {
+    let Some(mut room) = handle.lend(alloc) else {
         return pass_code(Err(PassFault::Plain(Fault::Empty)));
     };
-    let answer = shared.take(caller, n);
-    *handle = ThpPass::put(room, shared);
+    let answer = match &mut room.shared {
+        Some(shared) => shared.take(caller, n),
+        None => Err(PassFault::Plain(Fault::Empty)),
+    };
+    *handle = ThpPass::of_room(room);
     match answer {
         Ok(taken) => {
             *count = taken;
@@ -44,11 +47,14 @@ pub fn pass_split_next(
     ensures kept { OnErr (pass_answer_of result) (tried.new ≡ tried.old) }
     ensures kind { OnOk (pass_answer_of result) (tried.new.kind ≤ 3) }
 {
-    let Some((room, mut shared)) = handle.take(alloc) else {
+    let Some(mut room) = handle.lend(alloc) else {
         return pass_code(Err(PassFault::Plain(Fault::Empty)));
     };
-    let answer = shared.split_next(caller);
-    *handle = ThpPass::put(room, shared);
+    let answer = match &mut room.shared {
+        Some(shared) => shared.split_next(caller),
+        None => Err(PassFault::Plain(Fault::Empty)),
+    };
+    *handle = ThpPass::of_room(room);
     match answer {
         Ok(reply) => {
             *tried = ThpTried::of(&reply);
@@ -64,11 +70,14 @@ pub fn pass_put_back(handle: &mut ThpPass, alloc: Global, caller: u32, back: &mu
     ensures known { IsPassCode result }
     ensures kept { OnErr (pass_answer_of result) (back.new ≡ back.old) }
 {
-    let Some((room, mut shared)) = handle.take(alloc) else {
+    let Some(mut room) = handle.lend(alloc) else {
         return pass_code(Err(PassFault::Plain(Fault::Empty)));
     };
-    let answer = shared.put_back(caller);
-    *handle = ThpPass::put(room, shared);
+    let answer = match &mut room.shared {
+        Some(shared) => shared.put_back(caller),
+        None => Err(PassFault::Plain(Fault::Empty)),
+    };
+    *handle = ThpPass::of_room(room);
     match answer {
         Ok(reply) => {
             *back = ThpBack::of(&reply);
@@ -83,10 +92,13 @@ pub fn pass_abandon(handle: &mut ThpPass, alloc: Global, caller: u32) -> u32
     ensures does { PassDoes (pass_of handle.old.held) (pass_of handle.new.held) (pass_answer_of result) (PassAbandon caller) }
     ensures known { IsPassCode result }
 {
-    let Some((room, mut shared)) = handle.take(alloc) else {
+    let Some(mut room) = handle.lend(alloc) else {
         return pass_code(Err(PassFault::Plain(Fault::Empty)));
     };
-    let answer = shared.abandon(caller);
-    *handle = ThpPass::put(room, shared);
+    let answer = match &mut room.shared {
+        Some(shared) => shared.abandon(caller),
+        None => Err(PassFault::Plain(Fault::Empty)),
+    };
+    *handle = ThpPass::of_room(room);
     pass_code(answer)
 }

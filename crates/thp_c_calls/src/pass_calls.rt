@@ -182,11 +182,14 @@ pub fn pass_alloc(handle: &mut ThpPass, alloc: Global, caller: u32, page: &mut u
     ensures known { IsPassCode result }
     ensures kept { OnErr (pass_answer_of result) (page.new ≡ page.old) }
 {
-    let Some((room, mut shared)) = handle.take(alloc) else {
+    let Some(mut room) = handle.lend(alloc) else {
         return pass_code(Err(PassFault::Plain(Fault::Empty)));
     };
-    let answer = shared.alloc_page(caller);
-    *handle = ThpPass::put(room, shared);
+    let answer = match &mut room.shared {
+        Some(shared) => shared.alloc_page(caller),
+        None => Err(PassFault::Plain(Fault::Empty)),
+    };
+    *handle = ThpPass::of_room(room);
     match answer {
         Ok(number) => {
             *page = number.0;
@@ -201,11 +204,14 @@ pub fn pass_split_pmd(handle: &mut ThpPass, alloc: Global, caller: u32, page: u6
     ensures does { PassDoes (pass_of handle.old.held) (pass_of handle.new.held) (pass_answer_of result) (PassOne caller (call.split_pmd page) (What.SplitPmd page)) }
     ensures known { IsPassCode result }
 {
-    let Some((room, mut shared)) = handle.take(alloc) else {
+    let Some(mut room) = handle.lend(alloc) else {
         return pass_code(Err(PassFault::Plain(Fault::Empty)));
     };
-    let answer = shared.split_pmd(caller, PageId(page));
-    *handle = ThpPass::put(room, shared);
+    let answer = match &mut room.shared {
+        Some(shared) => shared.split_pmd(caller, PageId(page)),
+        None => Err(PassFault::Plain(Fault::Empty)),
+    };
+    *handle = ThpPass::of_room(room);
     pass_code(answer)
 }
 
@@ -223,11 +229,14 @@ pub fn pass_unmap_sub(
     ensures known { IsPassCode result }
     ensures kept { OnErr (pass_answer_of result) (done.new ≡ done.old) }
 {
-    let Some((room, mut shared)) = handle.take(alloc) else {
+    let Some(mut room) = handle.lend(alloc) else {
         return pass_code(Err(PassFault::Plain(Fault::Empty)));
     };
-    let answer = shared.unmap_sub(caller, PageId(page), first, count);
-    *handle = ThpPass::put(room, shared);
+    let answer = match &mut room.shared {
+        Some(shared) => shared.unmap_sub(caller, PageId(page), first, count),
+        None => Err(PassFault::Plain(Fault::Empty)),
+    };
+    *handle = ThpPass::of_room(room);
     match answer {
         Ok(did) => {
             *done = ThpDone::of(&did);
@@ -242,11 +251,14 @@ pub fn pass_map_whole(handle: &mut ThpPass, alloc: Global, caller: u32, page: u6
     ensures does { PassDoes (pass_of handle.old.held) (pass_of handle.new.held) (pass_answer_of result) (PassOne caller (call.map_whole page) (What.MapWhole page)) }
     ensures known { IsPassCode result }
 {
-    let Some((room, mut shared)) = handle.take(alloc) else {
+    let Some(mut room) = handle.lend(alloc) else {
         return pass_code(Err(PassFault::Plain(Fault::Empty)));
     };
-    let answer = shared.map_whole(caller, PageId(page));
-    *handle = ThpPass::put(room, shared);
+    let answer = match &mut room.shared {
+        Some(shared) => shared.map_whole(caller, PageId(page)),
+        None => Err(PassFault::Plain(Fault::Empty)),
+    };
+    *handle = ThpPass::of_room(room);
     pass_code(answer)
 }
 
@@ -262,11 +274,14 @@ pub fn pass_map_sub(
     ensures does { PassDoes (pass_of handle.old.held) (pass_of handle.new.held) (pass_answer_of result) (PassOne caller (call.map_sub page first count) (What.MapSub page first count)) }
     ensures known { IsPassCode result }
 {
-    let Some((room, mut shared)) = handle.take(alloc) else {
+    let Some(mut room) = handle.lend(alloc) else {
         return pass_code(Err(PassFault::Plain(Fault::Empty)));
     };
-    let answer = shared.map_sub(caller, PageId(page), first, count);
-    *handle = ThpPass::put(room, shared);
+    let answer = match &mut room.shared {
+        Some(shared) => shared.map_sub(caller, PageId(page), first, count),
+        None => Err(PassFault::Plain(Fault::Empty)),
+    };
+    *handle = ThpPass::of_room(room);
     pass_code(answer)
 }
 
@@ -275,11 +290,14 @@ pub fn pass_pin(handle: &mut ThpPass, alloc: Global, caller: u32, page: u64) -> 
     ensures does { PassDoes (pass_of handle.old.held) (pass_of handle.new.held) (pass_answer_of result) (PassOne caller (call.pin page) (What.Pin page)) }
     ensures known { IsPassCode result }
 {
-    let Some((room, mut shared)) = handle.take(alloc) else {
+    let Some(mut room) = handle.lend(alloc) else {
         return pass_code(Err(PassFault::Plain(Fault::Empty)));
     };
-    let answer = shared.pin(caller, PageId(page));
-    *handle = ThpPass::put(room, shared);
+    let answer = match &mut room.shared {
+        Some(shared) => shared.pin(caller, PageId(page)),
+        None => Err(PassFault::Plain(Fault::Empty)),
+    };
+    *handle = ThpPass::of_room(room);
     pass_code(answer)
 }
 
@@ -295,11 +313,14 @@ pub fn pass_write(
     ensures does { PassDoes (pass_of handle.old.held) (pass_of handle.new.held) (pass_answer_of result) (PassOne caller (call.write page first count) (What.Write page first count)) }
     ensures known { IsPassCode result }
 {
-    let Some((room, mut shared)) = handle.take(alloc) else {
+    let Some(mut room) = handle.lend(alloc) else {
         return pass_code(Err(PassFault::Plain(Fault::Empty)));
     };
-    let answer = shared.write(caller, PageId(page), first, count);
-    *handle = ThpPass::put(room, shared);
+    let answer = match &mut room.shared {
+        Some(shared) => shared.write(caller, PageId(page), first, count),
+        None => Err(PassFault::Plain(Fault::Empty)),
+    };
+    *handle = ThpPass::of_room(room);
     pass_code(answer)
 }
 
@@ -315,11 +336,14 @@ pub fn pass_zero(
     ensures does { PassDoes (pass_of handle.old.held) (pass_of handle.new.held) (pass_answer_of result) (PassOne caller (call.zero_fill page first count) (What.Zero page first count)) }
     ensures known { IsPassCode result }
 {
-    let Some((room, mut shared)) = handle.take(alloc) else {
+    let Some(mut room) = handle.lend(alloc) else {
         return pass_code(Err(PassFault::Plain(Fault::Empty)));
     };
-    let answer = shared.zero(caller, PageId(page), first, count);
-    *handle = ThpPass::put(room, shared);
+    let answer = match &mut room.shared {
+        Some(shared) => shared.zero(caller, PageId(page), first, count),
+        None => Err(PassFault::Plain(Fault::Empty)),
+    };
+    *handle = ThpPass::of_room(room);
     pass_code(answer)
 }
 
@@ -328,11 +352,14 @@ pub fn pass_close(handle: &mut ThpPass, alloc: Global, caller: u32) -> u32
     ensures does { PassDoes (pass_of handle.old.held) (pass_of handle.new.held) (pass_answer_of result) (PassOne caller call.close What.Close) }
     ensures known { IsPassCode result }
 {
-    let Some((room, mut shared)) = handle.take(alloc) else {
+    let Some(mut room) = handle.lend(alloc) else {
         return pass_code(Err(PassFault::Plain(Fault::Empty)));
     };
-    let answer = shared.close(caller);
-    *handle = ThpPass::put(room, shared);
+    let answer = match &mut room.shared {
+        Some(shared) => shared.close(caller),
+        None => Err(PassFault::Plain(Fault::Empty)),
+    };
+    *handle = ThpPass::of_room(room);
     pass_code(answer)
 }
 
@@ -348,11 +375,14 @@ pub fn pass_unmap_whole(
     ensures known { IsPassCode result }
     ensures kept { OnErr (pass_answer_of result) (done.new ≡ done.old) }
 {
-    let Some((room, mut shared)) = handle.take(alloc) else {
+    let Some(mut room) = handle.lend(alloc) else {
         return pass_code(Err(PassFault::Plain(Fault::Empty)));
     };
-    let answer = shared.unmap_whole(caller, PageId(page));
-    *handle = ThpPass::put(room, shared);
+    let answer = match &mut room.shared {
+        Some(shared) => shared.unmap_whole(caller, PageId(page)),
+        None => Err(PassFault::Plain(Fault::Empty)),
+    };
+    *handle = ThpPass::of_room(room);
     match answer {
         Ok(did) => {
             *done = ThpDone::of(&did);
@@ -374,11 +404,14 @@ pub fn pass_unpin(
     ensures known { IsPassCode result }
     ensures kept { OnErr (pass_answer_of result) (done.new ≡ done.old) }
 {
-    let Some((room, mut shared)) = handle.take(alloc) else {
+    let Some(mut room) = handle.lend(alloc) else {
         return pass_code(Err(PassFault::Plain(Fault::Empty)));
     };
-    let answer = shared.unpin(caller, PageId(page));
-    *handle = ThpPass::put(room, shared);
+    let answer = match &mut room.shared {
+        Some(shared) => shared.unpin(caller, PageId(page)),
+        None => Err(PassFault::Plain(Fault::Empty)),
+    };
+    *handle = ThpPass::of_room(room);
     match answer {
         Ok(did) => {
             *done = ThpDone::of(&did);
@@ -400,11 +433,14 @@ pub fn pass_scan(
     ensures known { IsPassCode result }
     ensures kept { OnErr (pass_answer_of result) (scan.new ≡ scan.old) }
 {
-    let Some((room, mut shared)) = handle.take(alloc) else {
+    let Some(mut room) = handle.lend(alloc) else {
         return pass_code(Err(PassFault::Plain(Fault::Empty)));
     };
-    let answer = shared.scan(caller, n);
-    *handle = ThpPass::put(room, shared);
+    let answer = match &mut room.shared {
+        Some(shared) => shared.scan(caller, n),
+        None => Err(PassFault::Plain(Fault::Empty)),
+    };
+    *handle = ThpPass::of_room(room);
     match answer {
         Ok(reply) => {
             *scan = ThpScan::of(&reply);
@@ -420,10 +456,19 @@ pub fn pass_count(handle: &mut ThpPass, alloc: Global, pages: &mut u32) -> u32
     ensures known { IsPassCode result }
     ensures kept { OnErr (pass_answer_of result) (pages.new ≡ pages.old) }
 {
-    let Some((room, mut shared)) = handle.take(alloc) else {
+    let Some(mut room) = handle.lend(alloc) else {
         return pass_code(Err(PassFault::Plain(Fault::Empty)));
     };
-    *pages = shared.count();
-    *handle = ThpPass::put(room, shared);
-    pass_code(Ok(()))
+    let answer = match &mut room.shared {
+        Some(shared) => Ok(shared.count()),
+        None => Err(PassFault::Plain(Fault::Empty)),
+    };
+    *handle = ThpPass::of_room(room);
+    match answer {
+        Ok(count) => {
+            *pages = count;
+            pass_code(Ok(()))
+        }
+        Err(fault) => pass_code(Err(fault)),
+    }
 }

@@ -94,6 +94,28 @@ impl ThpPass {
         Some((room, shared))
     }
 
+    /// Takes the room with the pass out, if the handle leads to one.
+    pub fn lend(&mut self, alloc: Global) -> Option<Box<PassRoom>>
+        ensures none { IfNone result (pass_of self.old.held ≡ None) }
+        ensures some { IfSome result (λ room. room.value.shared ≡ pass_of self.old.held) }
+        ensures full { IfSome result (λ room. IsSome room.value.shared) }
+        ensures empty { pass_of self.new.held ≡ None }
+    {
+        let room = self.open(alloc)?;
+        if room.shared.is_some() {
+            Some(room)
+        } else {
+            None
+        }
+    }
+
+    /// The handle of what lies in this room.
+    pub fn of_room(room: Box<PassRoom>) -> ThpPass
+        ensures { pass_of result.held ≡ room.value.shared }
+    {
+        ThpPass::full(room)
+    }
+
     /// The handle of a pass, which lies in this room from then on.
     pub fn put(room: Box<PassRoom>, shared: SharedPass) -> ThpPass
         ensures { pass_of result.held ≡ Some shared }
