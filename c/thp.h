@@ -3,7 +3,7 @@
  * @brief libthp: a proved deferred split queue for transparent huge pages.
  *
  * A node is a set of huge pages, their deferred split queue, and the journal of all that happened on them. What each call does
- * to a node is proved (crates/thp_c, in the words of crates/thp_model); docs/C.md tells, call by call, what is proved and what
+ * to a node is proved (crates/thp_c_calls, in the words of crates/thp_model); docs/C.md tells, call by call, what is proved and what
  * the caller owes. This header and thp.c are what isn't proved: they were written by hand, and tests compare them with the
  * proved functions.
  *

@@ -1,7 +1,7 @@
 """Builds the archive of the library for C from the libraries that `rt ci` has proved and left: `rt ci` proves crates/thp_c from
-nothing, but builds nothing of it, and `rt lib` would prove all libraries below it once more. The build begins with what `rt check`,
-or a build before, kept in the crate's folder: so where nothing changed since it proves nothing twice. The gate's word on the crate's
-proof is `rt ci`'s alone.
+nothing, but builds nothing of it, and `rt lib` would prove all libraries below it once more. The crate has the exports alone, so
+that the second proof is short. The build begins with what `rt check`, or a build before, kept in the crate's folder: so where
+nothing changed since it proves nothing twice. The gate's word on the crate's proof is `rt ci`'s alone.
 
     python3 tests/archive.py TO
 """

@@ -13,6 +13,7 @@ import re
 import sys
 import tempfile
 from dataclasses import dataclass
+from itertools import groupby
 from pathlib import Path
 from typing import Iterator, Optional
 from xml.etree import ElementTree
@@ -77,6 +78,31 @@ def shortened(event: str) -> str:
     return event if len(event) <= 70 else f"{event[:67]} .."
 
 
+FEW_ROWS, MOST_ROWS, MOST_TURNS = 24, 60, 4000
+"""Up to so many rows of pages are far apart; more rows, and bars that begin and end more often, aren't drawn."""
+
+
+def bars(drawn: Drawn) -> list[str]:
+    """The paths of the bars in a node's rows, a stage after the other, by what its table tells; none where it has no rows."""
+    width, end = drawn.width(), len(drawn.prefixes)
+    letters = [drawn.prefixes[min(first + width, end) - 1].letters for first in range(0, end, width)]
+    count = drawn.node.allocated
+    if not 1 <= count <= MOST_ROWS:
+        return []
+    place = [6000 * column // len(letters) for column in range(len(letters) + 1)]
+    high = 140 if count <= FEW_ROWS else 90
+    paths = {letter: "" for letter in "amqbs"}
+    for page in range(count):
+        at = 0
+        for letter, run_of in groupby(letters, key=lambda column: column[page]):
+            first, at = at, at + len(list(run_of))
+            if letter != "-":
+                paths[letter] += f"M{place[first]} {high * page + high // 2}H{place[at]}"
+    turns = sum(path.count("M") + path.count("H") for path in paths.values())
+    ends = sum(path.count(f"H{place[-1]}") for path in paths.values())
+    return [path for path in paths.values() if path] if turns - ends <= MOST_TURNS else []
+
+
 @dataclass(frozen=True)
 class Picture:
     """A journal, whose picture is looked at."""
@@ -107,7 +133,11 @@ class Picture:
         if (root.tag, left, top, wide) != (f"{SVG}svg", 0, 0, WIDE):
             return f"it begins with {root.tag} and {root.get('viewBox')}"
         texts = " ".join(it.text or "" for it in root.iter(f"{SVG}text"))
-        illegal = [drawn.illegal for drawn in drawn_nodes(self.text.decode().split("\n")[:-1])]
+        nodes = drawn_nodes(self.text.decode().split("\n")[:-1])
+        found = [it.get("d") for it in root.iter(f"{SVG}path") if it.get("class", "").startswith("bar ") and it.get("d")]
+        if found != [path for drawn in nodes for path in bars(drawn)]:
+            return f"its bars are {found}"
+        illegal = [drawn.illegal for drawn in nodes]
         wanted = [f"illegal line {line}: {shortened(event)}" for line, event in illegal if line != "-"]
         lacks = [words for words in wanted if words not in texts]
         return f"it doesn't say {lacks[0]}" if lacks else None
@@ -120,16 +150,47 @@ def pictures() -> Iterator[Picture]:
             yield Picture(f"{path.name}, {source.name.lower()}", path.read_bytes(), source)
     for name, text in {"the first script's": FIRST_JOURNAL, "several nodes": SEVERAL}.items():
         yield Picture(name, text)
+    yield Picture("more than 1,200 events", wide())
     for text, _ in faulty_texts.ILLEGAL:
         yield Picture(repr(text[-60:]), text + b"end\n")
 
 
+def wide(pages: int = 240) -> bytes:
+    """A journal of more than 1,200 events: pages that are queued, tried 15 or so at once, and freed later; a seventh is pinned."""
+    lines = ["thp-journal 1", "node 0 blocks 256"]
+    queue, split = [], []
+    tries = {}
+    for page in range(pages):
+        caller = page // 8 % 5
+        lines += [f"{caller} alloc {page}", f"{caller} splitpmd {page}", f"{caller} unmapsub {page} 256 256 queued -"]
+        queue.append(page)
+        if page % 7 == 3:
+            lines.append(f"{caller} pin {page}")
+            tries[page] = 0
+        if page % 16 == 15:
+            taken, queue = queue[: 12 + page % 5], queue[12 + page % 5 :]
+            lines += [f"{caller} taken {it}" for it in taken]
+            lines += [f"{caller} pinned {it}" if it in tries else f"{caller} split {it} 256-511" for it in taken]
+            split += [it for it in taken if it not in tries]
+            back = [it for it in taken if it in tries]
+            lines += [f"{caller} back {it}" for it in back]
+            queue += back
+            for it in back:
+                tries[it] += 1
+                if tries[it] == 3:
+                    del tries[it]
+                    lines.append(f"{caller} unpin {it} stays -")
+        if page % 3 == 0 and len(split) > 20:
+            lines.append(f"{caller} unmapsub {split.pop(0)} 0 256 freed 0-255")
+    return "\n".join([*lines, "end", ""]).encode()
+
+
 def stored() -> Iterator[Row]:
     """The pictures in docs/, byte for byte, of the journals that they are of."""
+    of = {"first": FIRST_JOURNAL, "wide": wide()}
     for path in sorted((ROOT / "docs/pictures").glob("*.svg")):
-        example = ROOT / "examples" / f"{path.stem}.journal"
-        text = example.read_bytes() if example.exists() else FIRST_JOURNAL
-        yield Row("stored pictures", path.name, Call((), text), Ended(0, path.read_bytes()))
+        text = of.get(path.stem) or (ROOT / "examples" / f"{path.stem}.journal").read_bytes()
+        yield Row("stored pictures", path.name, Call((), text), Ended(table(text).status, path.read_bytes()))
 
 
 def faults() -> Iterator[Row]:

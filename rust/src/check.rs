@@ -25,7 +25,7 @@ pub struct Check {
 }
 
 // SAFETY: what a handle leads to is plain data and memory of its own: proved, `check_handle_send` in
-// crates/thp_c/proofs/CheckCrossings.antt. The allocator that the handle's memory goes back to, the C library's, takes memory of any
+// crates/thp_c_calls/proofs/CheckCrossings.antt. The allocator that the handle's memory goes back to, the C library's, takes memory of any
 // thread.
 unsafe impl Send for Check {}
 

@@ -152,7 +152,7 @@ pub struct Node {
     handle: sys::Handle,
 }
 
-// SAFETY: what a handle leads to is plain data and memory of its own: proved, `handle_send` in crates/thp_c/proofs/Crossings.antt.
+// SAFETY: what a handle leads to is plain data and memory of its own: proved, `handle_send` in crates/thp_c_calls/proofs/Crossings.antt.
 // The allocator that the handle's memory goes back to, the C library's, takes memory of any thread.
 unsafe impl Send for Node {}
 

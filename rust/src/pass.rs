@@ -33,7 +33,7 @@ pub struct Pass {
 }
 
 // SAFETY: what a handle leads to is a pass and a share of its cell, which may go to another thread: proved, `pass_handle_send` in
-// crates/thp_c/proofs/PassCrossings.antt. The allocator, the C library's, takes memory of any thread.
+// crates/thp_c_calls/proofs/PassCrossings.antt. The allocator, the C library's, takes memory of any thread.
 unsafe impl Send for Pass {}
 
 impl Pass {

@@ -15,8 +15,6 @@ use event::{Refusal, Shape};
 use node::{Node, Tried};
 use std::hint::black_box;
 
-const TRIES: usize = 15;
-const NODES: usize = 400;
 const ROUNDS: usize = 250;
 const EVENTS: usize = 5;
 const LONG: usize = 300_000;
@@ -94,10 +92,16 @@ fn live(node: &mut Node, _: u64) {
     black_box(node.unmap_sub(0, page, 256, 256).unwrap());
 }
 
+// how many tries, and how many nodes each of them makes: the program's arguments
+fn asked(number: usize, otherwise: usize) -> usize {
+    std::env::args().nth(number).and_then(|word| word.parse().ok()).unwrap_or(otherwise)
+}
+
 fn time_rounds(what: &str, calls: usize, round: fn(&mut Node, u64)) {
-    let spent = (0..TRIES).map(|_| {
+    let (tries, nodes) = (asked(1, 15), asked(2, 400));
+    let spent = (0..tries).map(|_| {
         let mut spent = 0.0;
-        for _ in 0..NODES {
+        for _ in 0..nodes {
             let (mut node, page) = made(ROUNDS * (EVENTS + 1) + 1);
             let start = now();
             for _ in 0..ROUNDS {
@@ -108,11 +112,11 @@ fn time_rounds(what: &str, calls: usize, round: fn(&mut Node, u64)) {
         spent
     });
     let best = spent.fold(f64::INFINITY, f64::min);
-    println!("{what}|{:.1}", best / (NODES * ROUNDS * calls) as f64);
+    println!("{what}|{:.1}", best / (nodes * ROUNDS * calls) as f64);
 }
 
 fn time_growing(what: &str) {
-    let spent = (0..TRIES).map(|_| {
+    let spent = (0..asked(1, 15)).map(|_| {
         let (mut node, page) = made(0);
         let start = now();
         for _ in 0..LONG {
@@ -132,5 +136,7 @@ fn main() {
     time_rounds("map_sub and unmap_sub, 64", 2, some_subpages);
     time_rounds("map_sub and unmap_sub, 512", 2, all_subpages);
     time_rounds("alloc, split_pmd, unmap_sub 256, scan, unmap_sub 256", 5, live);
-    time_growing("pin and unpin, 600,000 calls on one growing journal");
+    if asked(2, 400) > 1 {
+        time_growing("pin and unpin, 600,000 calls on one growing journal");
+    }
 }

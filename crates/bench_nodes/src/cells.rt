@@ -1,6 +1,7 @@
 //! Times of the calls of a shared node: beside those of a bare node, and by 1, 2 and 4 threads, on one cell and on a cell
 //! each. A round is a pin and an unpin of the thread's own page; a call that finds the node taken is counted and not made
-//! again.
+//! again. Then the times of single calls by one thread.
+mod pass_calls;
 mod rounds;
 mod threads;
 
@@ -9,16 +10,17 @@ use crate::nodes::new_cell;
 use anyhow::{Context, Result};
 use std::fmt::Display;
 use std::thread::Threads;
-use std::time::{Clock, Instant};
+use std::time::{Clock, CpuClock, Instant};
 
 /// Makes so many rounds in each thread.
-pub(crate) fn time_all<R: Clock + Eprint + AllocGlobal + Threads + Sync>(
+pub(crate) fn time_all<R: Clock + CpuClock + Eprint + AllocGlobal + Threads + Sync>(
     rt: &R,
     rounds: u32,
 ) -> Result<()> {
     time_one(rt, rounds)?;
     time_one_cell(rt, rounds)?;
-    time_cell_each(rt, rounds)
+    time_cell_each(rt, rounds)?;
+    pass_calls::time_rounds(rt, rounds)
 }
 
 // One thread, on a bare node and through a cell.

@@ -27,9 +27,20 @@ impl Stopwatch {
         sum: u64,
     ) -> Result<()> {
         let spent = rt.thread_cpu_time()?.saturating_sub(self.start);
-        let tenths = spent.as_nanos().saturating_mul(10) / u128::from(rounds.max(1));
-        let (nanos, tenth) = (tenths / 10, tenths % 10);
-        eprintln!(rt; "{what}: {nanos}.{tenth} ns a round (answers: {sum})")?;
-        Ok(())
+        tell_nanos(rt, what, rounds, spent.as_nanos(), sum)
     }
+}
+
+/// Prints the nanoseconds of one of these rounds, which took so many in all, on standard error, with the sum of the answers.
+pub(crate) fn tell_nanos<R: Eprint, D: Display + Drop>(
+    rt: &R,
+    what: D,
+    rounds: u32,
+    nanos: u128,
+    sum: u64,
+) -> Result<()> {
+    let tenths = nanos.saturating_mul(10) / u128::from(rounds.max(1));
+    let (nanos, tenth) = (tenths / 10, tenths % 10);
+    eprintln!(rt; "{what}: {nanos}.{tenth} ns a round (answers: {sum})")?;
+    Ok(())
 }

@@ -1,6 +1,8 @@
-//! Times of the calls of links and pages, at small and at large numbers of entries, and the sizes of what they keep.
+//! Times of the calls of links and pages, at small and at large numbers of entries, and of a node; and the sizes of what they
+//! keep.
 mod blocks;
 mod links;
+mod node_calls;
 mod one_page;
 
 use anyhow::Result;
@@ -20,7 +22,8 @@ const COUNTS: [u32; 3] = [1, 64, 512];
 pub(crate) fn time_all<R: CpuClock + Eprint + AllocGlobal>(rt: &R, rounds: u32) -> Result<()> {
     tell_sizes(rt)?;
     time_tables(rt, rounds)?;
-    time_pages(rt, rounds)
+    time_pages(rt, rounds)?;
+    node_calls::time_rounds(rt, rounds)
 }
 
 // The bytes of what a journal keeps for each event, and a node for each page.

@@ -2,27 +2,28 @@
 use crate::nodes::{LARGE, first_run, followed};
 use thp_drawing::{DrawnNode, put_escaped, put_picture};
 
-// As a plain program outside drew it, and with the tries; looked at in a browser, on a light and on a dark ground.
-const PICTURE: &[u8] = b"<svg xmlns=\"http://www.w3.org/2000/svg\" viewBox=\"0 0 7200 6680\">\n\
+// As it was worked out by hand; looked at in a browser, on a light and on a dark ground.
+const PICTURE: &[u8] = b"<svg xmlns=\"http://www.w3.org/2000/svg\" viewBox=\"0 0 7200 5820\">\n\
 <style>\n\
 svg{display:block;width:100%;max-width:1080px;height:auto;margin:0 auto;color-scheme:light dark}\n\
 text{font:120px system-ui,sans-serif;font-variant-numeric:tabular-nums}\n\
 .h{font-size:150px;font-weight:600}.hh{font-size:190px;font-weight:600}.e{text-anchor:end}.c{text-anchor:middle}\n\
 path{shape-rendering:crispEdges}.pale{fill-opacity:.35}.rule,.zero{fill:none;shape-rendering:auto;stroke-width:6}\n\
+.s0,.s1,.s2,.s3,.s4{fill:currentColor}.bar{fill:none;stroke:currentColor;stroke-width:90}.thin{stroke-width:60}\n\
 svg{background:#ffffff}.bg{fill:#ffffff}.ink{fill:#1c2128}.soft{fill:#5d6673}.bad{fill:#c8102e}\n\
 .rule{stroke:#e4e7ec}.zero{stroke:#1c2128}.held{fill:#64748b}.given{fill:#a4582a}.pin{fill:#868d97}\n\
-.s0{fill:#b6bfc9}.s1{fill:#e79700}.s2{fill:#3652b8}.s3{fill:#bd61ab}.s4{fill:#428452}\n\
+.s0{color:#b6bfc9}.s1{color:#e79700}.s2{color:#3652b8}.s3{color:#bd61ab}.s4{color:#428452}\n\
 @media(prefers-color-scheme:dark){\n\
 svg{background:#14171c}.bg{fill:#14171c}.ink{fill:#e8ebf0}.soft{fill:#a3acb9}.bad{fill:#ff6b78}\n\
 .rule{stroke:#2a3038}.zero{stroke:#e8ebf0}.held{fill:#8b9ab0}.given{fill:#d28a55}.pin{fill:#7f8793}\n\
-.s0{fill:#4d5663}.s1{fill:#f9a726}.s2{fill:#4280ff}.s3{fill:#d764a1}.s4{fill:#45a670}\n\
+.s0{color:#4d5663}.s1{color:#f9a726}.s2{color:#4280ff}.s3{color:#d764a1}.s4{color:#45a670}\n\
 }</style>\n\
-<rect class=\"bg\" x=\"0\" y=\"0\" width=\"7200\" height=\"6680\"/>\n\
+<rect class=\"bg\" x=\"0\" y=\"0\" width=\"7200\" height=\"5820\"/>\n\
 <text class=\"ink hh\" x=\"150\" y=\"300\">Deferred split queues</text>\n\
 <text class=\"soft\" x=\"150\" y=\"480\">The events of a node follow each other from left to right; those of two node\
 s have no common time.</text>\n\
-<text class=\"soft\" x=\"150\" y=\"640\">Full colour reaches the least number of a column's events, pale the greatest\
-; stages have their mean.</text>\n\
+<text class=\"soft\" x=\"150\" y=\"640\">Full colour reaches a column's least number, pale its greatest; stacks show \
+its mean, bars its last stage.</text>\n\
 <g transform=\"translate(0 660)\">\n\
 <text class=\"ink h\" x=\"150\" y=\"240\">node 0: 16 blocks of 2^9 frames, underused off, 5 legal events</text>\n\
 <g transform=\"translate(900 280)\">\n\
@@ -89,7 +90,7 @@ s have no common time.</text>\n\
 </g>\n\
 </g>\n\
 <g transform=\"translate(900 4360)\">\n\
-<text class=\"soft e\" x=\"-60\" y=\"150\">pages</text>\n\
+<text class=\"soft e\" x=\"-60\" y=\"150\">page</text>\n\
 <rect class=\"s0\" x=\"0\" y=\"72\" width=\"80\" height=\"80\"/>\n\
 <text class=\"ink\" x=\"130\" y=\"150\">allocated</text>\n\
 <rect class=\"s2\" x=\"2400\" y=\"72\" width=\"80\" height=\"80\"/>\n\
@@ -99,20 +100,16 @@ s have no common time.</text>\n\
 <rect class=\"s4\" x=\"4800\" y=\"72\" width=\"80\" height=\"80\"/>\n\
 <text class=\"ink\" x=\"4930\" y=\"150\">split</text>\n\
 <g transform=\"translate(0 260)\">\n\
-<path class=\"rule\" d=\"M0 0v1000M1000 0v1000M2000 0v1000M3000 0v1000M4000 0v1000M5000 0v1000\"/>\n\
-<g transform=\"translate(0 1000)\">\n\
-<path class=\"rule\" d=\"M0 -1000h6000\"/>\n\
-<text class=\"soft e\" x=\"-60\" y=\"-1000\" dy=\"40\">1</text>\n\
-<path class=\"s4\" d=\"M0 0V-0H1000V-1000H2000V-1000H3000V-1000H4000V-1000H5000V-1000H6000V0z\"/>\n\
-<path class=\"s3\" d=\"M0 0V-0H1000V-1000H2000V-1000H3000V-1000H4000V-1000H5000V-0H6000V0z\"/>\n\
-<path class=\"s2\" d=\"M0 0V-0H1000V-1000H2000V-1000H3000V-1000H4000V-0H5000V-0H6000V0z\"/>\n\
-<path class=\"s0\" d=\"M0 0V-0H1000V-1000H2000V-1000H3000V-0H4000V-0H5000V-0H6000V0z\"/>\n\
-<path class=\"zero\" d=\"M0 0h6000\"/>\n\
-<text class=\"soft e\" x=\"-60\" y=\"0\" dy=\"40\">0</text>\n\
+<path class=\"rule\" d=\"M0 0v140M1000 0v140M2000 0v140M3000 0v140M4000 0v140M5000 0v140\"/>\n\
+<path class=\"rule\" d=\"M0 70h6000\"/>\n\
+<text class=\"soft e\" x=\"-60\" y=\"70\" dy=\"40\">0</text>\n\
+<path class=\"bar s0\" d=\"M1000 70H3000\"/>\n\
+<path class=\"bar s2\" d=\"M3000 70H4000\"/>\n\
+<path class=\"bar s3\" d=\"M4000 70H5000\"/>\n\
+<path class=\"bar s4\" d=\"M5000 70H6000\"/>\n\
 </g>\n\
 </g>\n\
-</g>\n\
-<g transform=\"translate(900 5830)\">\n\
+<g transform=\"translate(900 4970)\">\n\
 <text class=\"soft e\" x=\"-130\" y=\"0\">event</text>\n\
 <text class=\"soft c\" x=\"0\" y=\"0\">0</text>\n\
 <text class=\"soft c\" x=\"1000\" y=\"0\">1</text>\n\

@@ -17,9 +17,9 @@ use std::io::{Read, Write};
 use std::time::Clock;
 use thp_check::Misfit;
 use thp_journal_reader::{Illegal, LongCheck, SummedCheck};
+use thp_journal_writer::Totals;
 use thp_model::{Outcome, Refusal, What};
 use thp_streams::{LongRunFault, Program, Watched};
-use thp_journal_writer::Totals;
 
 /// What a journal tells.
 #[derive(Drop)]

@@ -10,7 +10,8 @@ length: memory is taken for what lives on one node, and for at most 600 columns 
     thpsplit --report journal < SCRIPT | thpdraw > picture.svg
 
 Each node is drawn over its events, from left to right: how many pages are queued and in batches, how many frames are held and
-were given back, and how many pages are in each stage. Of a node with an illegal event all stands up to its first.
+were given back, and the life of each page as a bar, or of more than 60 pages how many are in each stage. Of a node with an
+illegal event all stands up to its first.
 
 With --progress, and also without it where standard error is a terminal and a second has passed, standard error shows how far
 the reading is, a line a second, which is taken away before anything is written:

@@ -36,19 +36,20 @@ event_step d = step_among round_steps (events_of d)
 abbrev pub event_at : ℕ → ℕ → ℕ
 event_at room event = scaled 6000 event room
 
--- an upright line at a place
-unfoldable pub upright : ℕ → List ℕ
-upright x = codes "M" ++ decimal x ++ codes " 0v1000"
+-- an upright line at a place, so high
+unfoldable pub upright : ℕ → ℕ → List ℕ
+upright high x = codes "M" ++ decimal x ++ codes " 0v" ++ decimal high
 
 -- the first k upright lines behind the axis, one for each step of events
-abbrev pub uprights : ℕ → ℕ → ℕ → List ℕ
-uprights step room zero = []
-uprights step room (suc k) = uprights step room k ++ upright (event_at room (times step (suc k)))
+abbrev pub uprights : ℕ → ℕ → ℕ → ℕ → List ℕ
+uprights high step room zero = []
+uprights high step room (suc k) = uprights high step room k ++ upright high (event_at room (times step (suc k)))
 
-unfoldable pub event_rules : DrawnNode → List ℕ
-event_rules d =
-    codes "<path class=\"rule\" d=\"M0 0v1000" ++ uprights (event_step d) (room_of d) (steps_in (event_step d) (events_of d))
-    ++ codes "\"/>\n"
+-- these and the axis, in a panel that is so high
+unfoldable pub event_rules : ℕ → DrawnNode → List ℕ
+event_rules high d =
+    codes "<path class=\"rule\" d=\"M0 0v" ++ decimal high
+    ++ uprights high (event_step d) (room_of d) (steps_in (event_step d) (events_of d)) ++ codes "\"/>\n"
 
 -- the number of an event, below its line
 abbrev pub event_number : ℕ → ℕ → List ℕ

@@ -1,12 +1,15 @@
 pub mod Areas
 pub mod Axes
+pub mod Bars
 pub mod Drawn
 pub mod Elements
 pub mod Escapes
+pub mod Laws
 pub mod Overviews
 pub mod Panels
 pub mod Pictures
 pub mod Quantities
+pub mod Rows
 pub mod Scales
 pub mod Styles
 pub mod Tables

@@ -80,7 +80,7 @@ panel_halves p most d =
 
 unfoldable pub panel_drawn : Panel → ℕ → DrawnNode → List ℕ
 panel_drawn p y d =
-    group_start 900 y ++ panel_title p d ++ group_start 0 260 ++ event_rules d ++ panel_halves p (panel_most p d) d
+    group_start 900 y ++ panel_title p d ++ group_start 0 260 ++ event_rules 1000 d ++ panel_halves p (panel_most p d) d
     ++ group_end ++ group_end
 
 -- a panel, from this height on
@@ -93,11 +93,13 @@ stage_item x at d =
     if nat_eq (most_in x d.columns.items) 0 then []
     else square_at (stage_class x) at 72 ++ text_at (codes "ink") (at + 130) 150 (stage_name x)
 
-unfoldable pub stages_title : DrawnNode → List ℕ
-stages_title d =
-    codes "<text class=\"soft e\" x=\"-60\" y=\"150\">pages</text>\n"
-    ++ stage_item Allocated 0 d ++ stage_item PartlyMapped 1200 d ++ stage_item Queued 2400 d
+unfoldable pub stage_items : DrawnNode → List ℕ
+stage_items d =
+    stage_item Allocated 0 d ++ stage_item PartlyMapped 1200 d ++ stage_item Queued 2400 d
     ++ stage_item InBatch 3600 d ++ stage_item Split 4800 d
+
+unfoldable pub stages_title : DrawnNode → List ℕ
+stages_title d = codes "<text class=\"soft e\" x=\"-60\" y=\"150\">pages</text>\n" ++ stage_items d
 
 -- the stages, the last on top
 unfoldable pub stage_areas : DrawnNode → List ℕ
@@ -112,7 +114,7 @@ stages_stacked most d =
 
 unfoldable pub stages_drawn : ℕ → DrawnNode → List ℕ
 stages_drawn y d =
-    group_start 900 y ++ stages_title d ++ group_start 0 260 ++ event_rules d ++ stages_stacked (pages_most d) d
+    group_start 900 y ++ stages_title d ++ group_start 0 260 ++ event_rules 1000 d ++ stages_stacked (pages_most d) d
     ++ group_end ++ group_end
 
 -- the panel of stages

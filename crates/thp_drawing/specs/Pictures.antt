@@ -6,6 +6,7 @@ use Rattle.thp_drawing.specs.Elements.{group_end, group_start, text_at}
 use Rattle.thp_drawing.specs.Overviews.{overview, overview_foot}
 use Rattle.thp_drawing.specs.Panels.{panel_at, panel_most, stages_panel}
 use Rattle.thp_drawing.specs.Quantities.{pages_most}
+use Rattle.thp_drawing.specs.Rows.{allocated_pages, has_rows, rows_height, rows_panel}
 use Rattle.thp_drawing.specs.Scales.{plus}
 use Rattle.thp_drawing.specs.Styles.{style}
 use Rattle.thp_drawing.specs.Titles.{illegal_text, node_words}
@@ -31,11 +32,18 @@ tries_top d = plus (frames_top d) (height_of (panel_most Frames d))
 abbrev pub underused_top : DrawnNode → ℕ
 underused_top d = plus (tries_top d) (height_of (panel_most Tries d))
 
-abbrev pub stages_top : DrawnNode → ℕ
-stages_top d = plus (underused_top d) (height_of (panel_most Underused d))
+abbrev pub lives_top : DrawnNode → ℕ
+lives_top d = plus (underused_top d) (height_of (panel_most Underused d))
+
+-- the pages' stages: a row for each page, or how many are in each stage
+abbrev pub lives_drawn : ℕ → DrawnNode → List ℕ
+lives_drawn y d = if has_rows d then rows_panel y d else stages_panel y d
+
+abbrev pub lives_height : DrawnNode → ℕ
+lives_height d = if has_rows d then plus 360 (rows_height (allocated_pages d)) else height_of (pages_most d)
 
 abbrev pub axis_top : DrawnNode → ℕ
-axis_top d = plus (stages_top d) (height_of (pages_most d))
+axis_top d = plus (lives_top d) (lives_height d)
 
 abbrev pub node_height : DrawnNode → ℕ
 node_height d = plus (axis_top d) 300
@@ -44,7 +52,7 @@ node_height d = plus (axis_top d) 300
 unfoldable pub panels_drawn : DrawnNode → List ℕ
 panels_drawn d =
     panel_at Pages (pages_top d.illegal) d ++ panel_at Frames (frames_top d) d ++ panel_at Tries (tries_top d) d
-    ++ panel_at Underused (underused_top d) d ++ stages_panel (stages_top d) d
+    ++ panel_at Underused (underused_top d) d ++ lives_drawn (lives_top d) d
 
 -- node n, from this height on
 unfoldable pub node_drawn : ℕ → ℕ → DrawnNode → List ℕ
@@ -79,7 +87,7 @@ unfoldable pub order_words : List ℕ
 order_words = codes "The events of a node follow each other from left to right; those of two nodes have no common time."
 
 unfoldable pub column_words : List ℕ
-column_words = codes "Full colour reaches the least number of a column's events, pale the greatest; stages have their mean."
+column_words = codes "Full colour reaches a column's least number, pale its greatest; stacks show its mean, bars its last stage."
 
 unfoldable pub title : List ℕ
 title =

@@ -7,11 +7,12 @@ letter_rules =
     codes "svg{display:block;width:100%;max-width:1080px;height:auto;margin:0 auto;color-scheme:light dark}\n"
     ++ codes "text{font:120px system-ui,sans-serif;font-variant-numeric:tabular-nums}\n"
 
--- sizes of letters, and lines
+-- sizes of letters, lines and bars; stages have their colour as that of letters
 unfoldable pub size_rules : List ℕ
 size_rules =
     codes ".h{font-size:150px;font-weight:600}.hh{font-size:190px;font-weight:600}.e{text-anchor:end}.c{text-anchor:middle}\n"
     ++ codes "path{shape-rendering:crispEdges}.pale{fill-opacity:.35}.rule,.zero{fill:none;shape-rendering:auto;stroke-width:6}\n"
+    ++ codes ".s0,.s1,.s2,.s3,.s4{fill:currentColor}.bar{fill:none;stroke:currentColor;stroke-width:90}.thin{stroke-width:60}\n"
 
 -- on a light ground: letters, lines, and frames
 unfoldable pub light_inks : List ℕ
@@ -22,7 +23,7 @@ light_inks =
 -- the stages of pages; queue and batches have the colours of theirs
 unfoldable pub light_stages : List ℕ
 light_stages =
-    codes ".s0{fill:#b6bfc9}.s1{fill:#e79700}.s2{fill:#3652b8}.s3{fill:#bd61ab}.s4{fill:#428452}\n"
+    codes ".s0{color:#b6bfc9}.s1{color:#e79700}.s2{color:#3652b8}.s3{color:#bd61ab}.s4{color:#428452}\n"
 
 -- on a dark ground
 unfoldable pub dark_inks : List ℕ
@@ -33,7 +34,7 @@ dark_inks =
 -- the stages
 unfoldable pub dark_stages : List ℕ
 dark_stages =
-    codes ".s0{fill:#4d5663}.s1{fill:#f9a726}.s2{fill:#4280ff}.s3{fill:#d764a1}.s4{fill:#45a670}\n"
+    codes ".s0{color:#4d5663}.s1{color:#f9a726}.s2{color:#4280ff}.s3{color:#d764a1}.s4{color:#45a670}\n"
 
 unfoldable pub light_rules : List ℕ
 light_rules = light_inks ++ light_stages

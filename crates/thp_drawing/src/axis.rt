@@ -44,8 +44,14 @@ pub(crate) fn put_ticks(
     Ok(())
 }
 
+/// Puts a number of an axis, and a line at its height.
 #[tactic(auto, using(crate::proofs::Pieces::nine), unfolding(crate::specs::Axes::tick))]
-fn put_tick(text: &mut Vec<u8>, sign: &[u8], number: u128, high: u128) -> Result<(), AllocError>
+pub(crate) fn put_tick(
+    text: &mut Vec<u8>,
+    sign: &[u8],
+    number: u128,
+    high: u128,
+) -> Result<(), AllocError>
     ensures { OnOk result (text.new.items ≡ text.old.items ++ tick sign.now number high) }
 {
     put(text, b"<path class=\"rule\" d=\"M0 ")?;
@@ -97,33 +103,51 @@ fn event_step(node: &DrawnNode) -> u128
     round_step(events_of(node))
 }
 
-/// Puts the upright lines of a panel.
-#[tactic(auto, using(crate::proofs::Pieces::three), unfolding(crate::specs::Axes::event_rules))]
-pub(crate) fn put_event_rules(text: &mut Vec<u8>, node: &DrawnNode) -> Result<(), AllocError>
-    ensures { OnOk result (text.new.items ≡ text.old.items ++ event_rules node.now) }
+/// Puts the upright lines of a panel that is so high.
+#[tactic(auto, using(crate::proofs::Pieces::four), unfolding(crate::specs::Axes::event_rules))]
+pub(crate) fn put_event_rules(
+    text: &mut Vec<u8>,
+    high: u128,
+    node: &DrawnNode,
+) -> Result<(), AllocError>
+    ensures { OnOk result (text.new.items ≡ text.old.items ++ event_rules high node.now) }
 {
     let step = event_step(node);
-    put(text, b"<path class=\"rule\" d=\"M0 0v1000")?;
-    put_uprights(text, step, room_of(node), steps_in(step, events_of(node)))?;
+    put(text, b"<path class=\"rule\" d=\"M0 0v")?;
+    put_decimal(text, high)?;
+    put_uprights(
+        text,
+        high,
+        step,
+        room_of(node),
+        steps_in(step, events_of(node)),
+    )?;
     put(text, b"\"/>\n")
 }
 
-fn put_uprights(text: &mut Vec<u8>, step: u128, room: u128, count: u128) -> Result<(), AllocError>
-    ensures { OnOk result (text.new.items ≡ text.old.items ++ uprights step room count) }
+fn put_uprights(
+    text: &mut Vec<u8>,
+    high: u128,
+    step: u128,
+    room: u128,
+    count: u128,
+) -> Result<(), AllocError>
+    ensures { OnOk result (text.new.items ≡ text.old.items ++ uprights high step room count) }
 {
     for before in 0..count {
-        put_upright(text, scaled(6000, times(step, before + 1), room))?;
+        put_upright(text, high, scaled(6000, times(step, before + 1), room))?;
     }
     Ok(())
 }
 
-#[tactic(auto, using(crate::proofs::Pieces::three), unfolding(crate::specs::Axes::upright))]
-fn put_upright(text: &mut Vec<u8>, x: u128) -> Result<(), AllocError>
-    ensures { OnOk result (text.new.items ≡ text.old.items ++ upright x) }
+#[tactic(auto, using(crate::proofs::Pieces::four), unfolding(crate::specs::Axes::upright))]
+fn put_upright(text: &mut Vec<u8>, high: u128, x: u128) -> Result<(), AllocError>
+    ensures { OnOk result (text.new.items ≡ text.old.items ++ upright high x) }
 {
     put(text, b"M")?;
     put_decimal(text, x)?;
-    put(text, b" 0v1000")
+    put(text, b" 0v")?;
+    put_decimal(text, high)
 }
 
 /// Puts the numbers of events at this height.

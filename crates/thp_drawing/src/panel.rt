@@ -111,7 +111,7 @@ fn put_panel_drawn(
     put_group(text, 900, y)?;
     put_panel_title(text, panel, node)?;
     put_group(text, 0, 260)?;
-    put_event_rules(text, node)?;
+    put_event_rules(text, 1000, node)?;
     put_panel_halves(text, panel, most, node)?;
     put_group_end(text)?;
     put_group_end(text)

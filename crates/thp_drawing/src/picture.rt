@@ -9,6 +9,9 @@ ghost use Rattle.thp_drawing.specs.Pictures.{
   ground,
   head,
   height_of,
+  lives_drawn,
+  lives_height,
+  lives_top,
   node_drawn,
   node_height,
   nodes_drawn,
@@ -16,7 +19,6 @@ ghost use Rattle.thp_drawing.specs.Pictures.{
   pages_top,
   panels_drawn,
   picture_text,
-  stages_top,
   svg_start,
   title,
   title_words,
@@ -30,6 +32,8 @@ use crate::illegal_event::IllegalEvent;
 use crate::node::DrawnNode;
 use crate::overview::{overview_foot, put_overview};
 use crate::panel::{Panel, put_panel};
+use crate::rows::{allocated_pages, has_rows, rows_height};
+use crate::rows_panel::put_rows_panel;
 use crate::scale::plus;
 use crate::stages::pages_most;
 use crate::stages_panel::put_stages_panel;
@@ -104,7 +108,7 @@ fn order_words() -> &'static [u8]
 fn column_words() -> &'static [u8]
     ensures { result.now ≡ column_words }
 {
-    b"Full colour reaches the least number of a column's events, pale the greatest; stages have their mean."
+    b"Full colour reaches a column's least number, pale its greatest; stacks show its mean, bars its last stage."
 }
 
 #[tactic(auto, using(crate::proofs::Pieces::three), unfolding(crate::specs::Pictures::title))]
@@ -160,7 +164,18 @@ fn put_panels(text: &mut Vec<u8>, node: &DrawnNode) -> Result<(), AllocError>
     put_panel(text, Panel::Frames, frames_top(node), node)?;
     put_panel(text, Panel::Tries, tries_top(node), node)?;
     put_panel(text, Panel::Underused, underused_top(node), node)?;
-    put_stages_panel(text, stages_top(node), node)
+    put_lives(text, lives_top(node), node)
+}
+
+// The pages' stages: a row for each page, or how many are in each stage.
+fn put_lives(text: &mut Vec<u8>, y: u128, node: &DrawnNode) -> Result<(), AllocError>
+    ensures { OnOk result (text.new.items ≡ text.old.items ++ lives_drawn y node.now) }
+{
+    if has_rows(node) {
+        put_rows_panel(text, y, node)
+    } else {
+        put_stages_panel(text, y, node)
+    }
 }
 
 // The height of a panel whose greatest number is this.
@@ -197,16 +212,26 @@ fn underused_top(node: &DrawnNode) -> u128
     plus(tries_top(node), height_of(Panel::Tries.most(node)))
 }
 
-fn stages_top(node: &DrawnNode) -> u128
-    ensures { result ≡ stages_top node.now }
+fn lives_top(node: &DrawnNode) -> u128
+    ensures { result ≡ lives_top node.now }
 {
     plus(underused_top(node), height_of(Panel::Underused.most(node)))
+}
+
+fn lives_height(node: &DrawnNode) -> u128
+    ensures { result ≡ lives_height node.now }
+{
+    if has_rows(node) {
+        plus(360, rows_height(allocated_pages(node)))
+    } else {
+        height_of(pages_most(node))
+    }
 }
 
 fn axis_top(node: &DrawnNode) -> u128
     ensures { result ≡ axis_top node.now }
 {
-    plus(stages_top(node), height_of(pages_most(node)))
+    plus(lives_top(node), lives_height(node))
 }
 
 fn node_height(node: &DrawnNode) -> u128

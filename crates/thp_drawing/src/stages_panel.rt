@@ -1,6 +1,6 @@
 //! The panel of the stages of pages.
 ghost use Rattle.std.specs.Prelude.{◌≡◌, ◌++◌, OnOk};
-ghost use Rattle.thp_drawing.specs.Panels.{stage_areas, stage_item, stages_drawn, stages_panel, stages_stacked, stages_title};
+ghost use Rattle.thp_drawing.specs.Panels.{stage_areas, stage_item, stage_items, stages_drawn, stages_panel, stages_stacked, stages_title};
 
 use crate::area::put_stage_area;
 use crate::axis::{put_base_line, put_event_rules, put_group_end, put_ticks};
@@ -34,13 +34,13 @@ fn put_stages_drawn(text: &mut Vec<u8>, y: u128, node: &DrawnNode) -> Result<(),
     put_group(text, 900, y)?;
     put_stages_title(text, node)?;
     put_group(text, 0, 260)?;
-    put_event_rules(text, node)?;
+    put_event_rules(text, 1000, node)?;
     put_stages_stacked(text, most, node)?;
     put_group_end(text)?;
     put_group_end(text)
 }
 
-#[tactic(auto, using(crate::proofs::Pieces::six), unfolding(crate::specs::Panels::stages_title))]
+#[tactic(auto, using(crate::proofs::Pieces::two), unfolding(crate::specs::Panels::stages_title))]
 fn put_stages_title(text: &mut Vec<u8>, node: &DrawnNode) -> Result<(), AllocError>
     ensures { OnOk result (text.new.items ≡ text.old.items ++ stages_title node.now) }
 {
@@ -48,6 +48,14 @@ fn put_stages_title(text: &mut Vec<u8>, node: &DrawnNode) -> Result<(), AllocErr
         text,
         b"<text class=\"soft e\" x=\"-60\" y=\"150\">pages</text>\n",
     )?;
+    put_stage_items(text, node)
+}
+
+/// Puts the colours and names of the stages that occur.
+#[tactic(auto, using(crate::proofs::Pieces::five), unfolding(crate::specs::Panels::stage_items))]
+pub(crate) fn put_stage_items(text: &mut Vec<u8>, node: &DrawnNode) -> Result<(), AllocError>
+    ensures { OnOk result (text.new.items ≡ text.old.items ++ stage_items node.now) }
+{
     put_stage_item(text, Stage::Allocated, 0, node)?;
     put_stage_item(text, Stage::PartlyMapped, 1200, node)?;
     put_stage_item(text, Stage::Queued, 2400, node)?;

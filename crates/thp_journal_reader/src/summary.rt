@@ -20,8 +20,8 @@ use crate::past_lines::PastLines;
 use crate::summed::Summed;
 use std::alloc::{AllocError, Global};
 use thp_check::Replay;
-use thp_model::{Event, Shape, What};
 use thp_journal_writer::Totals;
+use thp_model::{Event, Shape, What};
 
 /// A node whose events so far are legal.
 #[derive(Drop)]

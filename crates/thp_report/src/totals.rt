@@ -4,8 +4,8 @@ ghost use Rattle.thp_journal_writer.specs.Totals.{totals_of, totals_text};
 ghost use Rattle.thp_report.specs.Reports.{told_of};
 
 use std::alloc::{AllocError, Global};
-use thp_node::{Node, Recorder};
 use thp_journal_writer::{Totals, put_totals};
+use thp_node::{Node, Recorder};
 
 /// The totals of the nodes, in order, whatever the nodes keep of their events.
 pub fn totals_text<R: Recorder>(alloc: Global, nodes: &[Node<R>]) -> Result<Vec<u8>, AllocError>

@@ -5,6 +5,7 @@ use Rattle.thp_model.specs.History.{History}
 use Rattle.thp_model.specs.Legal.{IsLegal}
 use Rattle.thp_model.proofs.LegalSteps.{legal_push}
 use Rattle.thp_check.specs.Replays.{Replayed}
+use Rattle.thp_series.specs.Stuck.{AreStuck}
 use Rattle.thp_journal_reader.proofs.NumberLaws.{grows, stops, told_of}
 use Rattle.thp_journal_reader.proofs.numbering.Numbering.go_on.Goals as goal
 
@@ -23,6 +24,7 @@ returns-in-Err c =
     IfOk-weaker c.keep.result _ _
     (λ u stopped nodes told known placed.
     told_of _ c.keep.new.self.at_hand None c.keep.new.self.nodes.items c.keep.new.self.nodes.items (c.keep.ensures.at_hand ∙ c.requires.none)
-    (stops nodes c.args.node old.nodes.items known told c.args.event.now placed c.in-Err.stopped.misfit c.in-Err.ensures.misfit c.in-Err.ensures.why _ c.keep.new.self.nodes.items refl refl c.in-Err.ensures.numbers c.in-Err.ensures.columns stopped)
+    (stops nodes c.args.node old.nodes.items known told c.args.event.now placed c.in-Err.stopped.misfit c.in-Err.ensures.misfit c.in-Err.ensures.why _ c.keep.new.self.nodes.items refl refl c.in-Err.ensures.numbers c.in-Err.ensures.columns
+    (subst (λ (r : Replayed). AreStuck r.shape r.history c.in_ok-stuck.stuck.items) c.in-Err.ensures.waiting c.in_ok-stuck.ensures) stopped)
     refl)
     c.keep.ensures.nodes

@@ -1,0 +1,317 @@
+//! The calls of a node, exported.
+ghost use Rattle.std.specs.Prelude.{◌≡◌, ◌∷◌, ◌<◌, ◌≤◌, [], Ok, OnOk, OnErr, length};
+ghost use Rattle.thp_model.specs.Places.{queue};
+ghost use Rattle.thp_model.specs.Refusals as call;
+ghost use Rattle.thp_c_calls.specs.Calls.{OneCall, AllocCall, ScanCall, TakeCall, NextCall, BackCall, AbandonCall, ReserveCall, Written};
+ghost use Rattle.thp_c_calls.specs.Codes.{answer_of, answers, answer_with};
+ghost use Rattle.thp_c_calls.specs.Engines.{Does, Made, Emptied, shape_of};
+ghost use Rattle.thp_c_calls.specs.Replies.{LoseCall, stats_of, scan_of, tried_of, back_of};
+ghost use Rattle.thp_journal_writer.specs.Journals.{journal_text};
+
+use std::alloc::Global;
+use thp_c_calls::{ThpBack, ThpDone, ThpNode, ThpScan, ThpStats, ThpTried};
+use thp_model::What;
+
+/// Makes a node, and fills the handle with it. A threshold of 512 or more is none: the shrinker doesn't look for underused
+/// pages.
+#[unsafe(no_mangle)]
+pub extern "C" fn thp_c_node_create(
+    handle: &mut ThpNode,
+    alloc: Global,
+    blocks: u32,
+    order: u32,
+    underused: u32,
+) -> u32
+    ensures does { Made handle.old.held handle.new.held (shape_of blocks order underused) (answer_of result) }
+    ensures known { result < length answers }
+{
+    thp_c_calls::node_create(handle, alloc, blocks, order, underused)
+}
+
+/// Frees the node that the handle leads to, and leaves the handle empty.
+#[unsafe(no_mangle)]
+pub extern "C" fn thp_c_node_destroy(handle: &mut ThpNode, alloc: Global) -> u32
+    ensures does { Emptied handle.old.held handle.new.held (answer_of result) }
+    ensures known { result < length answers }
+{
+    thp_c_calls::node_destroy(handle, alloc)
+}
+
+/// A new page, mapped whole once. Its number is the count of allocations before it.
+#[unsafe(no_mangle)]
+pub extern "C" fn thp_c_node_alloc(
+    handle: &mut ThpNode,
+    alloc: Global,
+    caller: u32,
+    page: &mut u64,
+) -> u32
+    ensures does { Does handle.old.held handle.new.held (answer_of result) (λ old new answer. AllocCall caller old new (answer_with answer page.new)) }
+    ensures known { result < length answers }
+    ensures kept { OnErr (answer_of result) (page.new ≡ page.old) }
+{
+    thp_c_calls::node_alloc(handle, alloc, caller, page)
+}
+
+/// One more mapping of the whole page, by a PMD entry.
+#[unsafe(no_mangle)]
+pub extern "C" fn thp_c_node_map_whole(
+    handle: &mut ThpNode,
+    alloc: Global,
+    caller: u32,
+    page: u64,
+) -> u32
+    ensures does { Does handle.old.held handle.new.held (answer_of result) (OneCall caller (call.map_whole page) (What.MapWhole page)) }
+    ensures known { result < length answers }
+{
+    thp_c_calls::node_map_whole(handle, alloc, caller, page)
+}
+
+/// One more mapping of each of the `count` subpages from `first` on, by PTE entries.
+#[unsafe(no_mangle)]
+pub extern "C" fn thp_c_node_map_sub(
+    handle: &mut ThpNode,
+    alloc: Global,
+    caller: u32,
+    page: u64,
+    first: u32,
+    count: u32,
+) -> u32
+    ensures does { Does handle.old.held handle.new.held (answer_of result) (OneCall caller (call.map_sub page first count) (What.MapSub page first count)) }
+    ensures known { result < length answers }
+{
+    thp_c_calls::node_map_sub(handle, alloc, caller, page, first, count)
+}
+
+/// One PMD mapping of the page becomes a PTE mapping of each subpage.
+#[unsafe(no_mangle)]
+pub extern "C" fn thp_c_node_split_pmd(
+    handle: &mut ThpNode,
+    alloc: Global,
+    caller: u32,
+    page: u64,
+) -> u32
+    ensures does { Does handle.old.held handle.new.held (answer_of result) (OneCall caller (call.split_pmd page) (What.SplitPmd page)) }
+    ensures known { result < length answers }
+{
+    thp_c_calls::node_split_pmd(handle, alloc, caller, page)
+}
+
+/// One more pin of the page.
+#[unsafe(no_mangle)]
+pub extern "C" fn thp_c_node_pin(handle: &mut ThpNode, alloc: Global, caller: u32, page: u64) -> u32
+    ensures does { Does handle.old.held handle.new.held (answer_of result) (OneCall caller (call.pin page) (What.Pin page)) }
+    ensures known { result < length answers }
+{
+    thp_c_calls::node_pin(handle, alloc, caller, page)
+}
+
+/// Data is written to each of the `count` subpages from `first` on.
+#[unsafe(no_mangle)]
+pub extern "C" fn thp_c_node_write(
+    handle: &mut ThpNode,
+    alloc: Global,
+    caller: u32,
+    page: u64,
+    first: u32,
+    count: u32,
+) -> u32
+    ensures does { Does handle.old.held handle.new.held (answer_of result) (OneCall caller (call.write page first count) (What.Write page first count)) }
+    ensures known { result < length answers }
+{
+    thp_c_calls::node_write(handle, alloc, caller, page, first, count)
+}
+
+/// Zeros are written to each of the `count` subpages from `first` on.
+#[unsafe(no_mangle)]
+pub extern "C" fn thp_c_node_zero(
+    handle: &mut ThpNode,
+    alloc: Global,
+    caller: u32,
+    page: u64,
+    first: u32,
+    count: u32,
+) -> u32
+    ensures does { Does handle.old.held handle.new.held (answer_of result) (OneCall caller (call.zero_fill page first count) (What.Zero page first count)) }
+    ensures known { result < length answers }
+{
+    thp_c_calls::node_zero(handle, alloc, caller, page, first, count)
+}
+
+/// Closes the node: from here on nothing enters the queue and no page is allocated.
+#[unsafe(no_mangle)]
+pub extern "C" fn thp_c_node_close(handle: &mut ThpNode, alloc: Global, caller: u32) -> u32
+    ensures does { Does handle.old.held handle.new.held (answer_of result) (OneCall caller call.close What.Close) }
+    ensures known { result < length answers }
+{
+    thp_c_calls::node_close(handle, alloc, caller)
+}
+
+/// One mapping of the whole page less.
+#[unsafe(no_mangle)]
+pub extern "C" fn thp_c_node_unmap_whole(
+    handle: &mut ThpNode,
+    alloc: Global,
+    caller: u32,
+    page: u64,
+    done: &mut ThpDone,
+) -> u32
+    ensures does { Does handle.old.held handle.new.held (answer_of result) (λ old new answer. LoseCall caller (call.unmap_whole page) page (λ o released. What.UnmapWhole o page released) old new (answer_with answer done.new)) }
+    ensures known { result < length answers }
+    ensures kept { OnErr (answer_of result) (done.new ≡ done.old) }
+{
+    thp_c_calls::node_unmap_whole(handle, alloc, caller, page, done)
+}
+
+/// One mapping of each of the `count` subpages from `first` on less.
+#[unsafe(no_mangle)]
+pub extern "C" fn thp_c_node_unmap_sub(
+    handle: &mut ThpNode,
+    alloc: Global,
+    caller: u32,
+    page: u64,
+    first: u32,
+    count: u32,
+    done: &mut ThpDone,
+) -> u32
+    ensures does { Does handle.old.held handle.new.held (answer_of result) (λ old new answer. LoseCall caller (call.unmap_sub page first count) page (λ o released. What.UnmapSub o page first count released) old new (answer_with answer done.new)) }
+    ensures known { result < length answers }
+    ensures kept { OnErr (answer_of result) (done.new ≡ done.old) }
+{
+    thp_c_calls::node_unmap_sub(handle, alloc, caller, page, first, count, done)
+}
+
+/// One pin of the page less.
+#[unsafe(no_mangle)]
+pub extern "C" fn thp_c_node_unpin(
+    handle: &mut ThpNode,
+    alloc: Global,
+    caller: u32,
+    page: u64,
+    done: &mut ThpDone,
+) -> u32
+    ensures does { Does handle.old.held handle.new.held (answer_of result) (λ old new answer. LoseCall caller (call.unpin page) page (λ o released. What.Unpin o page released) old new (answer_with answer done.new)) }
+    ensures known { result < length answers }
+    ensures kept { OnErr (answer_of result) (done.new ≡ done.old) }
+{
+    thp_c_calls::node_unpin(handle, alloc, caller, page, done)
+}
+
+/// Takes up to `n` pages, the oldest first, tries each, and returns those that are pinned.
+#[unsafe(no_mangle)]
+pub extern "C" fn thp_c_node_scan(
+    handle: &mut ThpNode,
+    alloc: Global,
+    caller: u32,
+    n: u32,
+    scan: &mut ThpScan,
+) -> u32
+    ensures does { Does handle.old.held handle.new.held (answer_of result) (λ old new answer. ScanCall caller n old new (answer_with answer (scan_of scan.new))) }
+    ensures known { result < length answers }
+    ensures kept { OnErr (answer_of result) (scan.new ≡ scan.old) }
+{
+    thp_c_calls::node_scan(handle, alloc, caller, n, scan)
+}
+
+/// Takes up to `n` pages, the oldest first, into the caller's batch, which is open from then on.
+#[unsafe(no_mangle)]
+pub extern "C" fn thp_c_node_take(
+    handle: &mut ThpNode,
+    alloc: Global,
+    caller: u32,
+    n: u32,
+    count: &mut u32,
+) -> u32
+    ensures does { Does handle.old.held handle.new.held (answer_of result) (λ old new answer. TakeCall caller n old new (answer_with answer count.new)) }
+    ensures known { result < length answers }
+    ensures kept { OnErr (answer_of result) (count.new ≡ count.old) }
+{
+    thp_c_calls::node_take(handle, alloc, caller, n, count)
+}
+
+/// Tries the next page of the caller's open batch.
+#[unsafe(no_mangle)]
+pub extern "C" fn thp_c_node_split_next(
+    handle: &mut ThpNode,
+    alloc: Global,
+    caller: u32,
+    tried: &mut ThpTried,
+) -> u32
+    ensures does { Does handle.old.held handle.new.held (answer_of result) (λ old new answer. NextCall caller old new (answer_with answer (tried_of tried.new))) }
+    ensures known { result < length answers }
+    ensures kept { OnErr (answer_of result) (tried.new ≡ tried.old) }
+    ensures kind { OnOk (answer_of result) (tried.new.kind ≤ 3) }
+{
+    thp_c_calls::node_split_next(handle, alloc, caller, tried)
+}
+
+/// Returns the pages of the caller's open batch, which is closed then.
+#[unsafe(no_mangle)]
+pub extern "C" fn thp_c_node_put_back(
+    handle: &mut ThpNode,
+    alloc: Global,
+    caller: u32,
+    back: &mut ThpBack,
+) -> u32
+    ensures does { Does handle.old.held handle.new.held (answer_of result) (λ old new answer. BackCall caller old new (answer_with answer (back_of back.new))) }
+    ensures known { result < length answers }
+    ensures kept { OnErr (answer_of result) (back.new ≡ back.old) }
+{
+    thp_c_calls::node_put_back(handle, alloc, caller, back)
+}
+
+/// Lets the caller's open batch go: its pages stay in the caller's flight, out of the queue.
+#[unsafe(no_mangle)]
+pub extern "C" fn thp_c_node_abandon(handle: &mut ThpNode, alloc: Global, caller: u32) -> u32
+    ensures does { Does handle.old.held handle.new.held (answer_of result) (AbandonCall caller) }
+    ensures known { result < length answers }
+{
+    thp_c_calls::node_abandon(handle, alloc, caller)
+}
+
+/// Makes room in the journal for this many events, so that calls that record no more than that are never refused for want
+/// of memory. A scan counts as three events for each page that it takes.
+#[unsafe(no_mangle)]
+pub extern "C" fn thp_c_node_reserve(handle: &mut ThpNode, alloc: Global, events: u32) -> u32
+    ensures does { Does handle.old.held handle.new.held (answer_of result) (ReserveCall events) }
+    ensures known { result < length answers }
+{
+    thp_c_calls::node_reserve(handle, alloc, events)
+}
+
+/// How many pages are queued, which is what the shrinker counts.
+#[unsafe(no_mangle)]
+pub extern "C" fn thp_c_node_queue_length(
+    handle: &mut ThpNode,
+    alloc: Global,
+    pages: &mut u32,
+) -> u32
+    ensures does { Does handle.old.held handle.new.held (answer_of result) (λ old new answer. (new ≡ old) × (answer ≡ Ok tt) × (pages.new ≡ length (queue old.node.shape old.node.journal))) }
+    ensures known { result < length answers }
+    ensures kept { OnErr (answer_of result) (pages.new ≡ pages.old) }
+{
+    thp_c_calls::node_queue_length(handle, alloc, pages)
+}
+
+/// The node's numbers.
+#[unsafe(no_mangle)]
+pub extern "C" fn thp_c_node_stats(handle: &mut ThpNode, alloc: Global, stats: &mut ThpStats) -> u32
+    ensures does { Does handle.old.held handle.new.held (answer_of result) (λ old new answer. (new ≡ old) × (answer ≡ Ok tt) × (stats.new ≡ stats_of old.node)) }
+    ensures known { result < length answers }
+    ensures kept { OnErr (answer_of result) (stats.new ≡ stats.old) }
+{
+    thp_c_calls::node_stats(handle, alloc, stats)
+}
+
+/// The journal as text, and how long it is. It goes to the front of the buffer, if it fits there.
+#[unsafe(no_mangle)]
+pub extern "C" fn thp_c_node_journal(
+    handle: &mut ThpNode,
+    alloc: Global,
+    buffer: &mut [u8],
+    size: &mut usize,
+) -> u32
+    ensures does { Does handle.old.held handle.new.held (answer_of result) (λ old new answer. (new ≡ old) × Written (journal_text ((old.node.shape, old.node.journal) ∷ [])) buffer.old buffer.new size.old size.new answer) }
+    ensures known { result < length answers }
+{
+    thp_c_calls::node_journal(handle, alloc, buffer, size)
+}

@@ -1,0 +1,169 @@
+//! The check of journals of any length, for C: its text comes in parts.
+ghost use Rattle.std.specs.Prelude.{◌≡◌, [], IfErr, IfOk, Some};
+ghost use Rattle.thp_explanations.specs.Explanations.{explanation};
+ghost use Rattle.thp_c_calls.specs.CheckCodes.{check_answer_of, IsCheckCode};
+ghost use Rattle.thp_c_calls.specs.CheckHandle.{check_of};
+ghost use Rattle.thp_c_calls.specs.LongChecks.{CheckMade, CheckEmptied, CheckReads, CheckEnds, CheckTells, HasRead, Judges, ReadsOn, WhyNoReason, reason_of, verdict_numbers};
+
+use crate::check_codes::{CheckFault, check_code};
+use crate::check_handle::ThpCheck;
+use crate::check_room::Stage;
+use crate::checks::code_of_kind;
+use crate::codes::Fault;
+use crate::node_calls::put;
+use std::alloc::{AllocError, Global};
+use thp_explanations::put_explanation;
+use thp_journal_reader::{Illegal, LongCheck, TextFault};
+use thp_model::Refusal;
+
+/// Makes a check to which nothing has come, and fills the handle with it.
+pub fn check_create(handle: &mut ThpCheck, alloc: Global) -> u32
+    ensures does { CheckMade (check_of handle.old.held) (check_of handle.new.held) (check_answer_of result) }
+    ensures known { IsCheckCode result }
+{
+    if let Some((room, stage)) = handle.take(alloc) {
+        *handle = ThpCheck::put(room, stage);
+        return check_code(Err(CheckFault::Plain(Fault::InUse)));
+    }
+    let Some(room) = ThpCheck::room(alloc) else {
+        return check_code(Err(CheckFault::Plain(Fault::Refused(Refusal::OutOfMemory))));
+    };
+    *handle = ThpCheck::put(room, Stage::Reading(begun(alloc)));
+    check_code(Ok(()))
+}
+
+// A check to which nothing has come.
+fn begun(alloc: Global) -> LongCheck
+    ensures { HasRead result [] }
+{
+    LongCheck::new(alloc)
+}
+
+/// Frees the check that the handle leads to, and leaves the handle empty.
+pub fn check_destroy(handle: &mut ThpCheck, alloc: Global) -> u32
+    ensures does { CheckEmptied (check_of handle.old.held) (check_of handle.new.held) (check_answer_of result) }
+    ensures known { IsCheckCode result }
+{
+    match handle.take(alloc) {
+        Some(_taken) => check_code(Ok(())),
+        None => check_code(Err(CheckFault::Plain(Fault::Empty))),
+    }
+}
+
+/// Reads the next part of the text. Where memory for that is refused the check is lost, and the handle leads to nothing.
+pub fn check_read(handle: &mut ThpCheck, alloc: Global, part: &[u8]) -> u32
+    ensures does { CheckReads part.now (check_of handle.old.held) (check_of handle.new.held) (check_answer_of result) }
+    ensures known { IsCheckCode result }
+{
+    let Some((room, stage)) = handle.take(alloc) else {
+        return check_code(Err(CheckFault::Plain(Fault::Empty)));
+    };
+    match stage {
+        Stage::Judged(verdict) => {
+            *handle = ThpCheck::put(room, Stage::Judged(verdict));
+            check_code(Err(CheckFault::Finished))
+        }
+        Stage::Reading(check) => match read_on(check, part) {
+            Ok(check) => {
+                *handle = ThpCheck::put(room, Stage::Reading(check));
+                check_code(Ok(()))
+            }
+            Err(_) => check_code(Err(CheckFault::Plain(Fault::Refused(Refusal::OutOfMemory)))),
+        },
+    }
+}
+
+// The check with one part more. Fails for want of memory.
+fn read_on(check: LongCheck, part: &[u8]) -> Result<LongCheck, AllocError>
+    ensures { IfOk result (ReadsOn part.now check) }
+{
+    check.read_part(part)
+}
+
+// The verdict, which is made here if it isn't there.
+fn judge(stage: Stage) -> Result<Option<Illegal>, TextFault>
+    ensures { Judges stage result }
+{
+    match stage {
+        Stage::Reading(check) => check.finish(),
+        Stage::Judged(verdict) => verdict,
+    }
+}
+
+// The code of a verdict, and its line.
+fn numbers(verdict: &Result<Option<Illegal>, TextFault>) -> (u32, u64)
+    ensures { (result.0, result.1) ≡ verdict_numbers verdict.now }
+{
+    match verdict {
+        Ok(None) => (0, 0),
+        Ok(Some(illegal)) => (21, illegal.line),
+        Err(fault) => (code_of_kind(fault.kind), fault.line),
+    }
+}
+
+/// Finishes the check, if it isn't yet: 0 where the text that came is legal, 21 and the line of the first illegal event, or 22 to
+/// 29 and the line of the text's first fault of this kind. The line is 0 where none is told.
+pub fn check_finish(handle: &mut ThpCheck, alloc: Global, line: &mut u64) -> u32
+    ensures { CheckEnds (check_of handle.old.held) (check_of handle.new.held) result line.old line.new }
+{
+    let Some((room, stage)) = handle.take(alloc) else {
+        return 12;
+    };
+    let verdict = judge(stage);
+    let (code, at) = numbers(&verdict);
+    *handle = ThpCheck::put(room, Stage::Judged(verdict));
+    *line = at;
+    code
+}
+
+// Why the first illegal event doesn't fit, in words.
+fn reason(alloc: Global, stage: &Stage) -> Result<Vec<u8>, CheckFault>
+    ensures text { IfOk result (λ text. reason_of stage.now ≡ Some text.items) }
+    ensures why { IfErr result (WhyNoReason (reason_of stage.now)) }
+{
+    match stage {
+        Stage::Judged(Ok(Some(illegal))) => match explained(alloc, illegal) {
+            Ok(text) => Ok(text),
+            Err(_) => Err(CheckFault::Plain(Fault::Refused(Refusal::OutOfMemory))),
+        },
+        Stage::Judged(Ok(None)) => Err(CheckFault::NoReason),
+        Stage::Judged(Err(_)) => Err(CheckFault::NoReason),
+        Stage::Reading(_) => Err(CheckFault::NoReason),
+    }
+}
+
+// What is said of an illegal event.
+fn explained(alloc: Global, illegal: &Illegal) -> Result<Vec<u8>, AllocError>
+    ensures { IfOk result (λ text. text.items ≡ explanation illegal.now.line illegal.now.event illegal.now.misfit) }
+{
+    let mut text = Vec::new(alloc);
+    put_explanation(&mut text, illegal.line, &illegal.event, &illegal.misfit)?;
+    Ok(text)
+}
+
+/// Why the first illegal event doesn't fit, as text, and how long that is. It goes to the front of the buffer, if it fits there.
+pub fn check_reason(
+    handle: &mut ThpCheck,
+    alloc: Global,
+    buffer: &mut [u8],
+    size: &mut usize,
+) -> u32
+    ensures does { CheckTells (check_of handle.old.held) (check_of handle.new.held) buffer.old buffer.new size.old size.new (check_answer_of result) }
+    ensures known { IsCheckCode result }
+{
+    let Some((room, stage)) = handle.take(alloc) else {
+        return check_code(Err(CheckFault::Plain(Fault::Empty)));
+    };
+    let text = reason(alloc, &stage);
+    *handle = ThpCheck::put(room, stage);
+    match text {
+        Ok(text) => {
+            *size = text.len();
+            match put(buffer, &text) {
+                Ok(()) => check_code(Ok(())),
+                Err(fault) => check_code(Err(CheckFault::Plain(fault))),
+            }
+        }
+        Err(fault) => check_code(Err(fault)),
+    }
+}

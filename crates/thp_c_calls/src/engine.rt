@@ -1,0 +1,390 @@
+//! What a node's handle leads to: a node, and the batches that its callers have open.
+ghost use Rattle.std.specs.Prelude.{◌≡◌, ◌<◌, None, IsSome, IfSome, IfNone, IfOk, IfErr, OnOk, length};
+ghost use Rattle.thp_model.specs.Places.{queue};
+ghost use Rattle.thp_model.specs.Refusals as call;
+ghost use Rattle.thp_c_calls.specs.Calls.{OneCall, Allowed, Loses, TellsOutcome, TellsReleased, FailsAt, AllocCall, ScanCall, TakeCall, NextCall, BackReplies, BackRecords, BackFails, ReserveCall, AbandonCall};
+ghost use Rattle.thp_c_calls.specs.Engines.{NoneOpen, OthersOpen, open_of};
+ghost use Rattle.thp_c_calls.specs.Replies.{stats_of};
+
+use crate::codes::Fault;
+use crate::open_batches::{is_open, none_open, put_at, take_at};
+use crate::stats::{ThpStats, narrow};
+use std::alloc::{AllocError, Global};
+use std::marker::Model;
+use thp_journal_writer::{NodeHistory, journal_text};
+use thp_model::{Done, MAX_BATCH, MAX_CALLERS, PageId, Shape, What};
+use thp_node::{BackReply, Batch, NewFault, Node, ScanReply, Tried};
+
+/// A node, and the open batches of its callers, each of whose pages come first in their caller's flight.
+#[derive(Drop)]
+pub struct Engine {
+    node: Node,
+    // the open batches by caller
+    batches: Vec<Option<Batch>>,
+}
+
+impl Model for Engine {
+    ghost use Rattle.thp_c_calls.specs.Engines.{EngineState, IsEngine};
+
+    ghost Value = { EngineState };
+
+    ghost view = { λ e. record { node = e.node; batches = e.batches.items } };
+
+    ghost invariant = { λ e. IsEngine (record { node = e.node; batches = e.batches.items }) };
+}
+
+impl Engine {
+    ghost use Rattle.std.specs.Prelude.{[], ◌∷◌, ◌↔◌, Err};
+    ghost use Rattle.thp_model.specs.Shapes.{IsShape};
+    ghost use Rattle.thp_journal_writer.specs.Journals.{journal_text as text_of};
+
+    /// A node with no page.
+    pub fn new(alloc: Global, shape: Shape) -> Result<Engine, NewFault>
+        ensures bad_size { (result ≡ Err NewFault.BadSize) ↔ ¬ IsShape shape }
+        ensures shape { IfOk result (λ e. e.node.shape ≡ shape) }
+        ensures journal { IfOk result (λ e. e.node.journal ≡ []) }
+        ensures none_open { IfOk result NoneOpen }
+    {
+        let node = match Node::new(alloc, shape) {
+            Ok(node) => node,
+            Err(fault) => return Err(fault),
+        };
+        match none_open(alloc, MAX_CALLERS) {
+            Some(batches) => Ok(Engine { node, batches }),
+            None => Err(NewFault::OutOfMemory),
+        }
+    }
+
+    /// Has another node, which was made elsewhere, in place of its own.
+    pub fn replace(&mut self, node: Node)
+        requires none_open { NoneOpen self.old }
+        ensures node { self.new.node ≡ node }
+        ensures none_open { NoneOpen self.new }
+    {
+        self.node = node;
+    }
+
+    /// A new page, mapped whole once.
+    pub fn alloc_page(&mut self, caller: u32) -> Result<PageId, Fault>
+        ensures { AllocCall caller self.old self.new result }
+    {
+        if caller >= MAX_CALLERS {
+            return Err(Fault::BadCaller);
+        }
+        match self.node.alloc_page(caller) {
+            Ok(page) => Ok(page),
+            Err(refusal) => Err(Fault::Refused(refusal)),
+        }
+    }
+
+    /// One more mapping of the whole page, by a PMD entry.
+    pub fn map_whole(&mut self, caller: u32, page: PageId) -> Result<(), Fault>
+        ensures { OneCall caller (call.map_whole page) (What.MapWhole page) self.old self.new result }
+    {
+        if caller >= MAX_CALLERS {
+            return Err(Fault::BadCaller);
+        }
+        match self.node.map_whole(caller, page) {
+            Ok(()) => Ok(()),
+            Err(refusal) => Err(Fault::Refused(refusal)),
+        }
+    }
+
+    /// One more mapping of each of the `count` subpages from `first` on, by PTE entries.
+    pub fn map_sub(
+        &mut self,
+        caller: u32,
+        page: PageId,
+        first: u32,
+        count: u32,
+    ) -> Result<(), Fault>
+        ensures { OneCall caller (call.map_sub page first count) (What.MapSub page first count) self.old self.new result }
+    {
+        if caller >= MAX_CALLERS {
+            return Err(Fault::BadCaller);
+        }
+        match self.node.map_sub(caller, page, first, count) {
+            Ok(()) => Ok(()),
+            Err(refusal) => Err(Fault::Refused(refusal)),
+        }
+    }
+
+    /// One PMD mapping of the page becomes a PTE mapping of each subpage.
+    pub fn split_pmd(&mut self, caller: u32, page: PageId) -> Result<(), Fault>
+        ensures { OneCall caller (call.split_pmd page) (What.SplitPmd page) self.old self.new result }
+    {
+        if caller >= MAX_CALLERS {
+            return Err(Fault::BadCaller);
+        }
+        match self.node.split_pmd(caller, page) {
+            Ok(()) => Ok(()),
+            Err(refusal) => Err(Fault::Refused(refusal)),
+        }
+    }
+
+    /// One more pin of the page.
+    pub fn pin(&mut self, caller: u32, page: PageId) -> Result<(), Fault>
+        ensures { OneCall caller (call.pin page) (What.Pin page) self.old self.new result }
+    {
+        if caller >= MAX_CALLERS {
+            return Err(Fault::BadCaller);
+        }
+        match self.node.pin(caller, page) {
+            Ok(()) => Ok(()),
+            Err(refusal) => Err(Fault::Refused(refusal)),
+        }
+    }
+
+    /// Data is written to each of the `count` subpages from `first` on.
+    pub fn write(&mut self, caller: u32, page: PageId, first: u32, count: u32) -> Result<(), Fault>
+        ensures { OneCall caller (call.write page first count) (What.Write page first count) self.old self.new result }
+    {
+        if caller >= MAX_CALLERS {
+            return Err(Fault::BadCaller);
+        }
+        match self.node.write(caller, page, first, count) {
+            Ok(()) => Ok(()),
+            Err(refusal) => Err(Fault::Refused(refusal)),
+        }
+    }
+
+    /// Zeros are written to each of the `count` subpages from `first` on.
+    pub fn zero(&mut self, caller: u32, page: PageId, first: u32, count: u32) -> Result<(), Fault>
+        ensures { OneCall caller (call.zero_fill page first count) (What.Zero page first count) self.old self.new result }
+    {
+        if caller >= MAX_CALLERS {
+            return Err(Fault::BadCaller);
+        }
+        match self.node.zero(caller, page, first, count) {
+            Ok(()) => Ok(()),
+            Err(refusal) => Err(Fault::Refused(refusal)),
+        }
+    }
+
+    /// Closes the node: from here on nothing enters the queue and no page is allocated.
+    pub fn close(&mut self, caller: u32) -> Result<(), Fault>
+        ensures { OneCall caller call.close What.Close self.old self.new result }
+    {
+        if caller >= MAX_CALLERS {
+            return Err(Fault::BadCaller);
+        }
+        match self.node.close(caller) {
+            Ok(()) => Ok(()),
+            Err(refusal) => Err(Fault::Refused(refusal)),
+        }
+    }
+
+    /// One mapping of the whole page less.
+    pub fn unmap_whole(&mut self, caller: u32, page: PageId) -> Result<Done, Fault>
+        ensures batches { self.new.batches ≡ self.old.batches }
+        ensures allowed { OnOk result (Allowed self.old (call.unmap_whole page)) }
+        ensures recorded { IfOk result (Loses caller (λ o released. What.UnmapWhole o page released) self.old self.new) }
+        ensures outcome { IfOk result (TellsOutcome page self.old self.new) }
+        ensures released { IfOk result (TellsReleased page self.old self.new) }
+        ensures failed { IfErr result (FailsAt caller (call.unmap_whole page) self.old self.new) }
+    {
+        if caller >= MAX_CALLERS {
+            return Err(Fault::BadCaller);
+        }
+        match self.node.unmap_whole(caller, page) {
+            Ok(done) => Ok(done),
+            Err(refusal) => Err(Fault::Refused(refusal)),
+        }
+    }
+
+    /// One mapping of each of the `count` subpages from `first` on less.
+    pub fn unmap_sub(
+        &mut self,
+        caller: u32,
+        page: PageId,
+        first: u32,
+        count: u32,
+    ) -> Result<Done, Fault>
+        ensures batches { self.new.batches ≡ self.old.batches }
+        ensures allowed { OnOk result (Allowed self.old (call.unmap_sub page first count)) }
+        ensures recorded { IfOk result (Loses caller (λ o released. What.UnmapSub o page first count released) self.old self.new) }
+        ensures outcome { IfOk result (TellsOutcome page self.old self.new) }
+        ensures released { IfOk result (TellsReleased page self.old self.new) }
+        ensures failed { IfErr result (FailsAt caller (call.unmap_sub page first count) self.old self.new) }
+    {
+        if caller >= MAX_CALLERS {
+            return Err(Fault::BadCaller);
+        }
+        match self.node.unmap_sub(caller, page, first, count) {
+            Ok(done) => Ok(done),
+            Err(refusal) => Err(Fault::Refused(refusal)),
+        }
+    }
+
+    /// One pin of the page less.
+    pub fn unpin(&mut self, caller: u32, page: PageId) -> Result<Done, Fault>
+        ensures batches { self.new.batches ≡ self.old.batches }
+        ensures allowed { OnOk result (Allowed self.old (call.unpin page)) }
+        ensures recorded { IfOk result (Loses caller (λ o released. What.Unpin o page released) self.old self.new) }
+        ensures outcome { IfOk result (TellsOutcome page self.old self.new) }
+        ensures released { IfOk result (TellsReleased page self.old self.new) }
+        ensures failed { IfErr result (FailsAt caller (call.unpin page) self.old self.new) }
+    {
+        if caller >= MAX_CALLERS {
+            return Err(Fault::BadCaller);
+        }
+        match self.node.unpin(caller, page) {
+            Ok(done) => Ok(done),
+            Err(refusal) => Err(Fault::Refused(refusal)),
+        }
+    }
+
+    /// Takes up to `n` pages, the oldest first, tries each, and returns those that are pinned.
+    pub fn scan(&mut self, caller: u32, n: u32) -> Result<ScanReply, Fault>
+        ensures { ScanCall caller n self.old self.new result }
+    {
+        if caller >= MAX_CALLERS {
+            return Err(Fault::BadCaller);
+        }
+        if n as usize > MAX_BATCH {
+            return Err(Fault::BadCount);
+        }
+        match self.node.scan(caller, n) {
+            Ok(reply) => Ok(reply),
+            Err(refusal) => Err(Fault::Refused(refusal)),
+        }
+    }
+
+    /// Takes up to `n` pages, the oldest first, into the caller's batch, which is open from then on. Answers how many.
+    pub fn take(&mut self, caller: u32, n: u32) -> Result<u32, Fault>
+        ensures { TakeCall caller n self.old self.new result }
+    {
+        if caller >= MAX_CALLERS {
+            return Err(Fault::BadCaller);
+        }
+        if n as usize > MAX_BATCH {
+            return Err(Fault::BadCount);
+        }
+        if is_open(&self.batches, caller as usize) {
+            return Err(Fault::BatchOpen);
+        }
+        match self.node.take(caller, n) {
+            Ok(batch) => {
+                let count = batch.pages().len() as u32;
+                put_at(&mut self.batches, caller as usize, batch);
+                Ok(count)
+            }
+            Err(refusal) => Err(Fault::Refused(refusal)),
+        }
+    }
+
+    // The place of the caller's batch, if it is a caller.
+    fn place(&self, caller: u32) -> Option<usize>
+        ensures at { IfSome result (λ place. place ≡ caller) }
+        ensures inside { IfSome result (λ place. place < length self.now.batches) }
+        ensures none { IfNone result (open_of self.now caller ≡ None) }
+    {
+        let place = caller as usize;
+        if place < self.batches.len() {
+            Some(place)
+        } else {
+            None
+        }
+    }
+
+    /// Tries the next page of the caller's open batch.
+    pub fn split_next(&mut self, caller: u32) -> Result<Tried, Fault>
+        ensures { NextCall caller self.old self.new result }
+    {
+        let Some(place) = self.place(caller) else {
+            return Err(Fault::NoBatch);
+        };
+        let Some(batch) = &mut self.batches[place] else {
+            return Err(Fault::NoBatch);
+        };
+        match self.node.split_next(batch) {
+            Ok(tried) => Ok(tried),
+            Err(refusal) => Err(Fault::Refused(refusal)),
+        }
+    }
+
+    /// Returns the pages of the caller's open batch, which is closed then.
+    pub fn put_back(&mut self, caller: u32) -> Result<BackReply, Fault>
+        ensures open { OnOk result (IsSome (open_of self.old caller)) }
+        ensures shut { OnOk result (open_of self.new caller ≡ None) }
+        ensures others { OthersOpen caller self.old self.new }
+        ensures reply { IfOk result (BackReplies caller self.old) }
+        ensures recorded { OnOk result (BackRecords caller self.old self.new) }
+        ensures failed { IfErr result (BackFails caller self.old self.new) }
+    {
+        let Some(place) = self.place(caller) else {
+            return Err(Fault::NoBatch);
+        };
+        let Some(batch) = take_at(&mut self.batches, place) else {
+            return Err(Fault::NoBatch);
+        };
+        match self.node.put_back(batch) {
+            Ok(reply) => Ok(reply),
+            Err((batch, refusal)) => {
+                put_at(&mut self.batches, place, batch);
+                Err(Fault::Refused(refusal))
+            }
+        }
+    }
+
+    /// Lets the caller's open batch go: its pages stay in the caller's flight, out of the queue.
+    pub fn abandon(&mut self, caller: u32) -> Result<(), Fault>
+        ensures { AbandonCall caller self.old self.new result }
+    {
+        let Some(place) = self.place(caller) else {
+            return Err(Fault::NoBatch);
+        };
+        let Some(batch) = take_at(&mut self.batches, place) else {
+            return Err(Fault::NoBatch);
+        };
+        batch.abandon();
+        Ok(())
+    }
+
+    /// Makes room in the journal for this many events.
+    pub fn reserve(&mut self, events: u32) -> Result<(), Fault>
+        ensures { ReserveCall events self.old self.new result }
+    {
+        match self.node.reserve(events) {
+            Ok(()) => Ok(()),
+            Err(refusal) => Err(Fault::Refused(refusal)),
+        }
+    }
+
+    /// How many pages are queued.
+    pub fn queue_length(&self) -> u32
+        ensures { result ≡ length (queue self.now.node.shape self.now.node.journal) }
+    {
+        self.node.queue_len()
+    }
+
+    /// The node's numbers.
+    pub fn stats(&self) -> ThpStats
+        ensures { result ≡ stats_of self.now.node }
+    {
+        let counters = self.node.counters();
+        ThpStats {
+            events: self.node.event_count(),
+            allocations: self.node.allocations(),
+            queued: u64::from(self.node.queue_len()),
+            frames_given: narrow(self.node.frames_given()),
+            frames_held: narrow(self.node.frames_held()),
+            split_page: counters.split_page,
+            split_page_failed: counters.split_page_failed,
+            deferred_split_page: counters.deferred_split_page,
+            underused_split_page: counters.underused_split_page,
+            split_pmd: narrow(counters.split_pmd),
+        }
+    }
+
+    /// The text of the node's journal.
+    pub fn text(&self, alloc: Global) -> Result<Vec<u8>, AllocError>
+        ensures { IfOk result (λ text. text.items ≡ text_of ((self.now.node.shape, self.now.node.journal) ∷ [])) }
+    {
+        let node = NodeHistory {
+            shape: self.node.shape(),
+            events: self.node.journal(),
+        };
+        journal_text(alloc, &[node])
+    }
+}

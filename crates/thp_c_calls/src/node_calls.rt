@@ -1,0 +1,464 @@
+//! The calls of a node, for C.
+ghost use Rattle.std.specs.Prelude.{◌≡◌, ◌∷◌, ◌++◌, ◌<◌, ◌≤◌, [], Ok, OnOk, OnErr, IfErr, drop, length};
+ghost use Rattle.thp_model.specs.Places.{queue};
+ghost use Rattle.thp_model.specs.Refusals as call;
+ghost use Rattle.thp_c_calls.specs.Calls.{OneCall, AllocCall, ScanCall, TakeCall, NextCall, BackCall, AbandonCall, ReserveCall, Written};
+ghost use Rattle.thp_c_calls.specs.Codes.{answer_of, answers, answer_with};
+ghost use Rattle.thp_c_calls.specs.Engines.{Does, Made, Emptied, shape_of};
+ghost use Rattle.thp_c_calls.specs.Replies.{LoseCall, stats_of, scan_of, tried_of, back_of};
+ghost use Rattle.thp_journal_writer.specs.Journals.{journal_text};
+
+use crate::codes::{Fault, code};
+use crate::engine::Engine;
+use crate::node_handle::ThpNode;
+use crate::replies::{ThpBack, ThpDone, ThpScan, ThpTried};
+use crate::stats::ThpStats;
+use std::alloc::Global;
+use thp_model::{PageId, Refusal, Shape, What};
+use thp_node::NewFault;
+
+/// Makes a node, and fills the handle with it. A threshold of 512 or more is none: the shrinker doesn't look for underused
+/// pages.
+pub fn node_create(
+    handle: &mut ThpNode,
+    alloc: Global,
+    blocks: u32,
+    order: u32,
+    underused: u32,
+) -> u32
+    ensures does { Made handle.old.held handle.new.held (shape_of blocks order underused) (answer_of result) }
+    ensures known { result < length answers }
+{
+    if let Some(engine) = handle.open(alloc) {
+        *handle = ThpNode::full(engine);
+        return code(Err(Fault::InUse));
+    }
+    match Engine::new(alloc, shape(blocks, order, underused)) {
+        Ok(engine) => match Box::new(alloc, engine) {
+            Ok(engine) => {
+                *handle = ThpNode::full(engine);
+                code(Ok(()))
+            }
+            Err(_) => code(Err(Fault::Refused(Refusal::OutOfMemory))),
+        },
+        Err(NewFault::BadSize) => code(Err(Fault::BadSize)),
+        Err(NewFault::OutOfMemory) => code(Err(Fault::Refused(Refusal::OutOfMemory))),
+    }
+}
+
+pub(crate) fn shape(blocks: u32, order: u32, underused: u32) -> Shape
+    ensures { result ≡ shape_of blocks order underused }
+{
+    Shape {
+        blocks,
+        order,
+        underused: if underused < 512 {
+            Some(underused)
+        } else {
+            None
+        },
+    }
+}
+
+/// Frees the node that the handle leads to, and leaves the handle empty.
+pub fn node_destroy(handle: &mut ThpNode, alloc: Global) -> u32
+    ensures does { Emptied handle.old.held handle.new.held (answer_of result) }
+    ensures known { result < length answers }
+{
+    match handle.open(alloc) {
+        Some(_engine) => code(Ok(())),
+        None => code(Err(Fault::Empty)),
+    }
+}
+
+/// A new page, mapped whole once. Its number is the count of allocations before it.
+pub fn node_alloc(handle: &mut ThpNode, alloc: Global, caller: u32, page: &mut u64) -> u32
+    ensures does { Does handle.old.held handle.new.held (answer_of result) (λ old new answer. AllocCall caller old new (answer_with answer page.new)) }
+    ensures known { result < length answers }
+    ensures kept { OnErr (answer_of result) (page.new ≡ page.old) }
+{
+    let Some(mut engine) = handle.open(alloc) else {
+        return code(Err(Fault::Empty));
+    };
+    let answer = engine.alloc_page(caller);
+    *handle = ThpNode::full(engine);
+    match answer {
+        Ok(number) => {
+            *page = number.0;
+            code(Ok(()))
+        }
+        Err(fault) => code(Err(fault)),
+    }
+}
+
+/// One more mapping of the whole page, by a PMD entry.
+pub fn node_map_whole(handle: &mut ThpNode, alloc: Global, caller: u32, page: u64) -> u32
+    ensures does { Does handle.old.held handle.new.held (answer_of result) (OneCall caller (call.map_whole page) (What.MapWhole page)) }
+    ensures known { result < length answers }
+{
+    let Some(mut engine) = handle.open(alloc) else {
+        return code(Err(Fault::Empty));
+    };
+    let answer = engine.map_whole(caller, PageId(page));
+    *handle = ThpNode::full(engine);
+    code(answer)
+}
+
+/// One more mapping of each of the `count` subpages from `first` on, by PTE entries.
+pub fn node_map_sub(
+    handle: &mut ThpNode,
+    alloc: Global,
+    caller: u32,
+    page: u64,
+    first: u32,
+    count: u32,
+) -> u32
+    ensures does { Does handle.old.held handle.new.held (answer_of result) (OneCall caller (call.map_sub page first count) (What.MapSub page first count)) }
+    ensures known { result < length answers }
+{
+    let Some(mut engine) = handle.open(alloc) else {
+        return code(Err(Fault::Empty));
+    };
+    let answer = engine.map_sub(caller, PageId(page), first, count);
+    *handle = ThpNode::full(engine);
+    code(answer)
+}
+
+/// One PMD mapping of the page becomes a PTE mapping of each subpage.
+pub fn node_split_pmd(handle: &mut ThpNode, alloc: Global, caller: u32, page: u64) -> u32
+    ensures does { Does handle.old.held handle.new.held (answer_of result) (OneCall caller (call.split_pmd page) (What.SplitPmd page)) }
+    ensures known { result < length answers }
+{
+    let Some(mut engine) = handle.open(alloc) else {
+        return code(Err(Fault::Empty));
+    };
+    let answer = engine.split_pmd(caller, PageId(page));
+    *handle = ThpNode::full(engine);
+    code(answer)
+}
+
+/// One more pin of the page.
+pub fn node_pin(handle: &mut ThpNode, alloc: Global, caller: u32, page: u64) -> u32
+    ensures does { Does handle.old.held handle.new.held (answer_of result) (OneCall caller (call.pin page) (What.Pin page)) }
+    ensures known { result < length answers }
+{
+    let Some(mut engine) = handle.open(alloc) else {
+        return code(Err(Fault::Empty));
+    };
+    let answer = engine.pin(caller, PageId(page));
+    *handle = ThpNode::full(engine);
+    code(answer)
+}
+
+/// Data is written to each of the `count` subpages from `first` on.
+pub fn node_write(
+    handle: &mut ThpNode,
+    alloc: Global,
+    caller: u32,
+    page: u64,
+    first: u32,
+    count: u32,
+) -> u32
+    ensures does { Does handle.old.held handle.new.held (answer_of result) (OneCall caller (call.write page first count) (What.Write page first count)) }
+    ensures known { result < length answers }
+{
+    let Some(mut engine) = handle.open(alloc) else {
+        return code(Err(Fault::Empty));
+    };
+    let answer = engine.write(caller, PageId(page), first, count);
+    *handle = ThpNode::full(engine);
+    code(answer)
+}
+
+/// Zeros are written to each of the `count` subpages from `first` on.
+pub fn node_zero(
+    handle: &mut ThpNode,
+    alloc: Global,
+    caller: u32,
+    page: u64,
+    first: u32,
+    count: u32,
+) -> u32
+    ensures does { Does handle.old.held handle.new.held (answer_of result) (OneCall caller (call.zero_fill page first count) (What.Zero page first count)) }
+    ensures known { result < length answers }
+{
+    let Some(mut engine) = handle.open(alloc) else {
+        return code(Err(Fault::Empty));
+    };
+    let answer = engine.zero(caller, PageId(page), first, count);
+    *handle = ThpNode::full(engine);
+    code(answer)
+}
+
+/// Closes the node: from here on nothing enters the queue and no page is allocated.
+pub fn node_close(handle: &mut ThpNode, alloc: Global, caller: u32) -> u32
+    ensures does { Does handle.old.held handle.new.held (answer_of result) (OneCall caller call.close What.Close) }
+    ensures known { result < length answers }
+{
+    let Some(mut engine) = handle.open(alloc) else {
+        return code(Err(Fault::Empty));
+    };
+    let answer = engine.close(caller);
+    *handle = ThpNode::full(engine);
+    code(answer)
+}
+
+/// One mapping of the whole page less.
+pub fn node_unmap_whole(
+    handle: &mut ThpNode,
+    alloc: Global,
+    caller: u32,
+    page: u64,
+    done: &mut ThpDone,
+) -> u32
+    ensures does { Does handle.old.held handle.new.held (answer_of result) (λ old new answer. LoseCall caller (call.unmap_whole page) page (λ o released. What.UnmapWhole o page released) old new (answer_with answer done.new)) }
+    ensures known { result < length answers }
+    ensures kept { OnErr (answer_of result) (done.new ≡ done.old) }
+{
+    let Some(mut engine) = handle.open(alloc) else {
+        return code(Err(Fault::Empty));
+    };
+    let answer = engine.unmap_whole(caller, PageId(page));
+    *handle = ThpNode::full(engine);
+    match answer {
+        Ok(did) => {
+            *done = ThpDone::of(&did);
+            code(Ok(()))
+        }
+        Err(fault) => code(Err(fault)),
+    }
+}
+
+/// One mapping of each of the `count` subpages from `first` on less.
+pub fn node_unmap_sub(
+    handle: &mut ThpNode,
+    alloc: Global,
+    caller: u32,
+    page: u64,
+    first: u32,
+    count: u32,
+    done: &mut ThpDone,
+) -> u32
+    ensures does { Does handle.old.held handle.new.held (answer_of result) (λ old new answer. LoseCall caller (call.unmap_sub page first count) page (λ o released. What.UnmapSub o page first count released) old new (answer_with answer done.new)) }
+    ensures known { result < length answers }
+    ensures kept { OnErr (answer_of result) (done.new ≡ done.old) }
+{
+    let Some(mut engine) = handle.open(alloc) else {
+        return code(Err(Fault::Empty));
+    };
+    let answer = engine.unmap_sub(caller, PageId(page), first, count);
+    *handle = ThpNode::full(engine);
+    match answer {
+        Ok(did) => {
+            *done = ThpDone::of(&did);
+            code(Ok(()))
+        }
+        Err(fault) => code(Err(fault)),
+    }
+}
+
+/// One pin of the page less.
+pub fn node_unpin(
+    handle: &mut ThpNode,
+    alloc: Global,
+    caller: u32,
+    page: u64,
+    done: &mut ThpDone,
+) -> u32
+    ensures does { Does handle.old.held handle.new.held (answer_of result) (λ old new answer. LoseCall caller (call.unpin page) page (λ o released. What.Unpin o page released) old new (answer_with answer done.new)) }
+    ensures known { result < length answers }
+    ensures kept { OnErr (answer_of result) (done.new ≡ done.old) }
+{
+    let Some(mut engine) = handle.open(alloc) else {
+        return code(Err(Fault::Empty));
+    };
+    let answer = engine.unpin(caller, PageId(page));
+    *handle = ThpNode::full(engine);
+    match answer {
+        Ok(did) => {
+            *done = ThpDone::of(&did);
+            code(Ok(()))
+        }
+        Err(fault) => code(Err(fault)),
+    }
+}
+
+/// Takes up to `n` pages, the oldest first, tries each, and returns those that are pinned.
+pub fn node_scan(
+    handle: &mut ThpNode,
+    alloc: Global,
+    caller: u32,
+    n: u32,
+    scan: &mut ThpScan,
+) -> u32
+    ensures does { Does handle.old.held handle.new.held (answer_of result) (λ old new answer. ScanCall caller n old new (answer_with answer (scan_of scan.new))) }
+    ensures known { result < length answers }
+    ensures kept { OnErr (answer_of result) (scan.new ≡ scan.old) }
+{
+    let Some(mut engine) = handle.open(alloc) else {
+        return code(Err(Fault::Empty));
+    };
+    let answer = engine.scan(caller, n);
+    *handle = ThpNode::full(engine);
+    match answer {
+        Ok(reply) => {
+            *scan = ThpScan::of(&reply);
+            code(Ok(()))
+        }
+        Err(fault) => code(Err(fault)),
+    }
+}
+
+/// Takes up to `n` pages, the oldest first, into the caller's batch, which is open from then on.
+pub fn node_take(handle: &mut ThpNode, alloc: Global, caller: u32, n: u32, count: &mut u32) -> u32
+    ensures does { Does handle.old.held handle.new.held (answer_of result) (λ old new answer. TakeCall caller n old new (answer_with answer count.new)) }
+    ensures known { result < length answers }
+    ensures kept { OnErr (answer_of result) (count.new ≡ count.old) }
+{
+    let Some(mut engine) = handle.open(alloc) else {
+        return code(Err(Fault::Empty));
+    };
+    let answer = engine.take(caller, n);
+    *handle = ThpNode::full(engine);
+    match answer {
+        Ok(reply) => {
+            *count = reply;
+            code(Ok(()))
+        }
+        Err(fault) => code(Err(fault)),
+    }
+}
+
+/// Tries the next page of the caller's open batch.
+pub fn node_split_next(
+    handle: &mut ThpNode,
+    alloc: Global,
+    caller: u32,
+    tried: &mut ThpTried,
+) -> u32
+    ensures does { Does handle.old.held handle.new.held (answer_of result) (λ old new answer. NextCall caller old new (answer_with answer (tried_of tried.new))) }
+    ensures known { result < length answers }
+    ensures kept { OnErr (answer_of result) (tried.new ≡ tried.old) }
+    ensures kind { OnOk (answer_of result) (tried.new.kind ≤ 3) }
+{
+    let Some(mut engine) = handle.open(alloc) else {
+        return code(Err(Fault::Empty));
+    };
+    let answer = engine.split_next(caller);
+    *handle = ThpNode::full(engine);
+    match answer {
+        Ok(reply) => {
+            *tried = ThpTried::of(&reply);
+            code(Ok(()))
+        }
+        Err(fault) => code(Err(fault)),
+    }
+}
+
+/// Returns the pages of the caller's open batch, which is closed then.
+pub fn node_put_back(handle: &mut ThpNode, alloc: Global, caller: u32, back: &mut ThpBack) -> u32
+    ensures does { Does handle.old.held handle.new.held (answer_of result) (λ old new answer. BackCall caller old new (answer_with answer (back_of back.new))) }
+    ensures known { result < length answers }
+    ensures kept { OnErr (answer_of result) (back.new ≡ back.old) }
+{
+    let Some(mut engine) = handle.open(alloc) else {
+        return code(Err(Fault::Empty));
+    };
+    let answer = engine.put_back(caller);
+    *handle = ThpNode::full(engine);
+    match answer {
+        Ok(reply) => {
+            *back = ThpBack::of(&reply);
+            code(Ok(()))
+        }
+        Err(fault) => code(Err(fault)),
+    }
+}
+
+/// Lets the caller's open batch go: its pages stay in the caller's flight, out of the queue.
+pub fn node_abandon(handle: &mut ThpNode, alloc: Global, caller: u32) -> u32
+    ensures does { Does handle.old.held handle.new.held (answer_of result) (AbandonCall caller) }
+    ensures known { result < length answers }
+{
+    let Some(mut engine) = handle.open(alloc) else {
+        return code(Err(Fault::Empty));
+    };
+    let answer = engine.abandon(caller);
+    *handle = ThpNode::full(engine);
+    code(answer)
+}
+
+/// Makes room in the journal for this many events, so that calls that record no more than that are never refused for want
+/// of memory. A scan counts as three events for each page that it takes.
+pub fn node_reserve(handle: &mut ThpNode, alloc: Global, events: u32) -> u32
+    ensures does { Does handle.old.held handle.new.held (answer_of result) (ReserveCall events) }
+    ensures known { result < length answers }
+{
+    let Some(mut engine) = handle.open(alloc) else {
+        return code(Err(Fault::Empty));
+    };
+    let answer = engine.reserve(events);
+    *handle = ThpNode::full(engine);
+    code(answer)
+}
+
+/// How many pages are queued, which is what the shrinker counts.
+pub fn node_queue_length(handle: &mut ThpNode, alloc: Global, pages: &mut u32) -> u32
+    ensures does { Does handle.old.held handle.new.held (answer_of result) (λ old new answer. (new ≡ old) × (answer ≡ Ok tt) × (pages.new ≡ length (queue old.node.shape old.node.journal))) }
+    ensures known { result < length answers }
+    ensures kept { OnErr (answer_of result) (pages.new ≡ pages.old) }
+{
+    let Some(engine) = handle.open(alloc) else {
+        return code(Err(Fault::Empty));
+    };
+    *pages = engine.queue_length();
+    *handle = ThpNode::full(engine);
+    code(Ok(()))
+}
+
+/// The node's numbers.
+pub fn node_stats(handle: &mut ThpNode, alloc: Global, stats: &mut ThpStats) -> u32
+    ensures does { Does handle.old.held handle.new.held (answer_of result) (λ old new answer. (new ≡ old) × (answer ≡ Ok tt) × (stats.new ≡ stats_of old.node)) }
+    ensures known { result < length answers }
+    ensures kept { OnErr (answer_of result) (stats.new ≡ stats.old) }
+{
+    let Some(engine) = handle.open(alloc) else {
+        return code(Err(Fault::Empty));
+    };
+    *stats = engine.stats();
+    *handle = ThpNode::full(engine);
+    code(Ok(()))
+}
+
+/// The journal as text, and how long it is. It goes to the front of the buffer, if it fits there.
+pub fn node_journal(handle: &mut ThpNode, alloc: Global, buffer: &mut [u8], size: &mut usize) -> u32
+    ensures does { Does handle.old.held handle.new.held (answer_of result) (λ old new answer. (new ≡ old) × Written (journal_text ((old.node.shape, old.node.journal) ∷ [])) buffer.old buffer.new size.old size.new answer) }
+    ensures known { result < length answers }
+{
+    let Some(engine) = handle.open(alloc) else {
+        return code(Err(Fault::Empty));
+    };
+    let text = engine.text(alloc);
+    *handle = ThpNode::full(engine);
+    match text {
+        Ok(text) => {
+            *size = text.len();
+            code(put(buffer, &text))
+        }
+        Err(_) => code(Err(Fault::Refused(Refusal::OutOfMemory))),
+    }
+}
+
+// Writes the text to the front of the buffer, if it fits there.
+pub(crate) fn put(buffer: &mut [u8], text: &[u8]) -> Result<(), Fault>
+    ensures written { OnOk result (buffer.new ≡ text.now ++ drop (length text.now) buffer.old) }
+    ensures same { IfErr result (λ fault. buffer.new ≡ buffer.old) }
+    ensures small { IfErr result (λ fault. length buffer.old < length text.now) }
+    ensures fault { IfErr result (λ fault. fault ≡ Fault.TooSmall) }
+{
+    if buffer.len() < text.len() {
+        return Err(Fault::TooSmall);
+    }
+    buffer[..text.len()].copy_from_slice(text);
+    Ok(())
+}

@@ -1,0 +1,474 @@
+//! The calls of a shared node, for C: its cell, and passes to it.
+ghost use Rattle.std.specs.Prelude.{◌≡◌, None, OnOk, OnErr, IfErr, IfSome, Ok};
+ghost use Rattle.thp_model.specs.Refusals as call;
+ghost use Rattle.thp_c_calls.specs.Engines.{NoneOpen, shape_of};
+ghost use Rattle.thp_c_calls.specs.PassCodes.{pass_answer_of, pass_answer_with, IsPassCode};
+ghost use Rattle.thp_c_calls.specs.PassHandle.{pass_of};
+ghost use Rattle.thp_c_calls.specs.Passes.{PassDoes, PassOne, PassAlloc, PassLost, PassScan, PassCount, CellMade, PassEmptied, Divided, WhyUndivided, Joined, WhyApart, OneCellHeld, Finished, WhyUnfinished};
+ghost use Rattle.thp_c_calls.specs.Replies.{scan_of};
+
+use crate::codes::Fault;
+use crate::engine::Engine;
+use crate::node_calls::shape;
+use crate::node_handle::ThpNode;
+use crate::pass_codes::{PassFault, pass_code};
+use crate::pass_handle::ThpPass;
+use crate::replies::{ThpDone, ThpScan};
+use crate::shared_pass::SharedPass;
+use std::alloc::Global;
+use thp_model::{PageId, Refusal, Shape, What};
+use thp_node::NewFault;
+
+/// Makes a shared node for a number of callers, and fills the handle with the pass of all of them. The mark tells passes of
+/// this cell from those of others.
+pub fn cell_create(
+    handle: &mut ThpPass,
+    alloc: Global,
+    blocks: u32,
+    order: u32,
+    underused: u32,
+    callers: u32,
+    mark: u64,
+) -> u32
+    ensures does { CellMade (pass_of handle.old.held) (pass_of handle.new.held) (shape_of blocks order underused) callers mark (pass_answer_of result) }
+    ensures known { IsPassCode result }
+{
+    if let Some((room, shared)) = handle.take(alloc) {
+        *handle = ThpPass::put(room, shared);
+        return pass_code(Err(PassFault::Plain(Fault::InUse)));
+    }
+    let Some(room) = ThpPass::room(alloc) else {
+        return pass_code(Err(PassFault::Plain(Fault::Refused(Refusal::OutOfMemory))));
+    };
+    match SharedPass::new(alloc, shape(blocks, order, underused), callers, mark) {
+        Ok(shared) => {
+            *handle = ThpPass::put(room, shared);
+            pass_code(Ok(()))
+        }
+        Err(NewFault::BadSize) => pass_code(Err(PassFault::Plain(Fault::BadSize))),
+        Err(NewFault::OutOfMemory) => {
+            pass_code(Err(PassFault::Plain(Fault::Refused(Refusal::OutOfMemory))))
+        }
+    }
+}
+
+/// Frees the pass that the handle leads to, and leaves the handle empty. With the last pass the cell goes, too.
+pub fn pass_destroy(handle: &mut ThpPass, alloc: Global) -> u32
+    ensures does { PassEmptied (pass_of handle.old.held) (pass_of handle.new.held) (pass_answer_of result) }
+    ensures known { IsPassCode result }
+{
+    match handle.take(alloc) {
+        Some(_taken) => pass_code(Ok(())),
+        None => pass_code(Err(PassFault::Plain(Fault::Empty))),
+    }
+}
+
+/// Divides the callers of a pass: those below `at` stay, and the other handle is filled with a pass of those from it on.
+pub fn pass_split(handle: &mut ThpPass, alloc: Global, at: u32, other: &mut ThpPass) -> u32
+    ensures done { OnOk (pass_answer_of result) (Divided at (pass_of handle.old.held) (pass_of handle.new.held) (pass_of other.new.held)) }
+    ensures same { OnErr (pass_answer_of result) (pass_of handle.new.held ≡ pass_of handle.old.held) }
+    ensures same_other { OnErr (pass_answer_of result) (pass_of other.new.held ≡ pass_of other.old.held) }
+    ensures why { IfErr (pass_answer_of result) (WhyUndivided at (pass_of handle.old.held) (pass_of other.old.held)) }
+    ensures known { IsPassCode result }
+{
+    if let Some((room, shared)) = other.take(alloc) {
+        *other = ThpPass::put(room, shared);
+        return pass_code(Err(PassFault::Plain(Fault::InUse)));
+    }
+    let Some((room, shared)) = handle.take(alloc) else {
+        return pass_code(Err(PassFault::Plain(Fault::Empty)));
+    };
+    let Some(other_room) = ThpPass::room(alloc) else {
+        *handle = ThpPass::put(room, shared);
+        return pass_code(Err(PassFault::Plain(Fault::Refused(Refusal::OutOfMemory))));
+    };
+    match shared.split(alloc, at) {
+        Ok((left, right)) => {
+            *handle = ThpPass::put(room, left);
+            *other = ThpPass::put(other_room, right);
+            pass_code(Ok(()))
+        }
+        Err((shared, fault)) => {
+            *handle = ThpPass::put(room, shared);
+            pass_code(Err(PassFault::Plain(fault)))
+        }
+    }
+}
+
+/// Joins the pass of the other handle to this one, and leaves the other empty. The callers of the other follow on those of
+/// this.
+pub fn pass_join(handle: &mut ThpPass, alloc: Global, other: &mut ThpPass) -> u32
+    requires { OneCellHeld (pass_of handle.old.held) (pass_of other.old.held) }
+    ensures done { OnOk (pass_answer_of result) (Joined (pass_of handle.old.held) (pass_of other.old.held) (pass_of handle.new.held)) }
+    ensures emptied { OnOk (pass_answer_of result) (pass_of other.new.held ≡ None) }
+    ensures same { OnErr (pass_answer_of result) (pass_of handle.new.held ≡ pass_of handle.old.held) }
+    ensures same_other { OnErr (pass_answer_of result) (pass_of other.new.held ≡ pass_of other.old.held) }
+    ensures why { IfErr (pass_answer_of result) (WhyApart (pass_of handle.old.held) (pass_of other.old.held)) }
+    ensures known { IsPassCode result }
+{
+    let Some((room, left)) = handle.take(alloc) else {
+        return pass_code(Err(PassFault::Plain(Fault::Empty)));
+    };
+    let Some((other_room, right)) = other.take(alloc) else {
+        *handle = ThpPass::put(room, left);
+        return pass_code(Err(PassFault::Plain(Fault::Empty)));
+    };
+    if left.adjoins(&right) {
+        *handle = ThpPass::put(room, left.join(right));
+        pass_code(Ok(()))
+    } else {
+        *handle = ThpPass::put(room, left);
+        *other = ThpPass::put(other_room, right);
+        pass_code(Err(PassFault::BadPass))
+    }
+}
+
+/// Takes the cell apart where the pass has all its callers and no other handle leads to it: the node goes to the second
+/// handle, and the first leads to nothing.
+pub fn cell_finish(handle: &mut ThpPass, alloc: Global, node: &mut ThpNode) -> u32
+    ensures done { OnOk (pass_answer_of result) (Finished (pass_of handle.old.held) node.new.held) }
+    ensures emptied { OnOk (pass_answer_of result) (pass_of handle.new.held ≡ None) }
+    ensures same { OnErr (pass_answer_of result) (pass_of handle.new.held ≡ pass_of handle.old.held) }
+    ensures same_node { OnErr (pass_answer_of result) (node.new.held ≡ node.old.held) }
+    ensures why { IfErr (pass_answer_of result) (WhyUnfinished (pass_of handle.old.held) node.old.held) }
+    ensures known { IsPassCode result }
+{
+    if let Some(engine) = node.open(alloc) {
+        *node = ThpNode::full(engine);
+        return pass_code(Err(PassFault::Plain(Fault::InUse)));
+    }
+    let Some((room, shared)) = handle.take(alloc) else {
+        return pass_code(Err(PassFault::Plain(Fault::Empty)));
+    };
+    let Some(mut engine) = spare(alloc) else {
+        *handle = ThpPass::put(room, shared);
+        return pass_code(Err(PassFault::Plain(Fault::Refused(Refusal::OutOfMemory))));
+    };
+    match shared.finish() {
+        Ok(found) => {
+            engine.replace(found);
+            *node = ThpNode::full(engine);
+            pass_code(Ok(()))
+        }
+        Err((shared, fault)) => {
+            *handle = ThpPass::put(room, shared);
+            pass_code(Err(fault))
+        }
+    }
+}
+
+// An engine of the smallest node, whose memory serves another: so nothing is lost where there is none.
+fn spare(alloc: Global) -> Option<Box<Engine>>
+    ensures { IfSome result (λ engine. NoneOpen engine.value) }
+{
+    let shape = Shape {
+        blocks: 1,
+        order: 2,
+        underused: None,
+    };
+    let engine = match Engine::new(alloc, shape) {
+        Ok(engine) => engine,
+        Err(_) => return None,
+    };
+    match Box::new(alloc, engine) {
+        Ok(engine) => Some(engine),
+        Err(_) => None,
+    }
+}
+
+/// A new page, mapped whole once. Its number is the count of allocations before it.
+pub fn pass_alloc(handle: &mut ThpPass, alloc: Global, caller: u32, page: &mut u64) -> u32
+    ensures does { PassDoes (pass_of handle.old.held) (pass_of handle.new.held) (pass_answer_of result) (λ old new answer. PassAlloc caller old new (pass_answer_with answer page.new)) }
+    ensures known { IsPassCode result }
+    ensures kept { OnErr (pass_answer_of result) (page.new ≡ page.old) }
+{
+    let Some(mut room) = handle.lend(alloc) else {
+        return pass_code(Err(PassFault::Plain(Fault::Empty)));
+    };
+    let answer = match &mut room.shared {
+        Some(shared) => shared.alloc_page(caller),
+        None => Err(PassFault::Plain(Fault::Empty)),
+    };
+    *handle = ThpPass::of_room(room);
+    match answer {
+        Ok(number) => {
+            *page = number.0;
+            pass_code(Ok(()))
+        }
+        Err(fault) => pass_code(Err(fault)),
+    }
+}
+
+/// One PMD mapping of the page becomes a PTE mapping of each subpage.
+pub fn pass_split_pmd(handle: &mut ThpPass, alloc: Global, caller: u32, page: u64) -> u32
+    ensures does { PassDoes (pass_of handle.old.held) (pass_of handle.new.held) (pass_answer_of result) (PassOne caller (call.split_pmd page) (What.SplitPmd page)) }
+    ensures known { IsPassCode result }
+{
+    let Some(mut room) = handle.lend(alloc) else {
+        return pass_code(Err(PassFault::Plain(Fault::Empty)));
+    };
+    let answer = match &mut room.shared {
+        Some(shared) => shared.split_pmd(caller, PageId(page)),
+        None => Err(PassFault::Plain(Fault::Empty)),
+    };
+    *handle = ThpPass::of_room(room);
+    pass_code(answer)
+}
+
+/// One mapping of each of the `count` subpages from `first` on less.
+pub fn pass_unmap_sub(
+    handle: &mut ThpPass,
+    alloc: Global,
+    caller: u32,
+    page: u64,
+    first: u32,
+    count: u32,
+    done: &mut ThpDone,
+) -> u32
+    ensures does { PassDoes (pass_of handle.old.held) (pass_of handle.new.held) (pass_answer_of result) (λ old new answer. PassLost caller (call.unmap_sub page first count) page (λ o released. What.UnmapSub o page first count released) old new (pass_answer_with answer done.new)) }
+    ensures known { IsPassCode result }
+    ensures kept { OnErr (pass_answer_of result) (done.new ≡ done.old) }
+{
+    let Some(mut room) = handle.lend(alloc) else {
+        return pass_code(Err(PassFault::Plain(Fault::Empty)));
+    };
+    let answer = match &mut room.shared {
+        Some(shared) => shared.unmap_sub(caller, PageId(page), first, count),
+        None => Err(PassFault::Plain(Fault::Empty)),
+    };
+    *handle = ThpPass::of_room(room);
+    match answer {
+        Ok(did) => {
+            *done = ThpDone::of(&did);
+            pass_code(Ok(()))
+        }
+        Err(fault) => pass_code(Err(fault)),
+    }
+}
+
+/// One more mapping of the whole page, by a PMD entry.
+pub fn pass_map_whole(handle: &mut ThpPass, alloc: Global, caller: u32, page: u64) -> u32
+    ensures does { PassDoes (pass_of handle.old.held) (pass_of handle.new.held) (pass_answer_of result) (PassOne caller (call.map_whole page) (What.MapWhole page)) }
+    ensures known { IsPassCode result }
+{
+    let Some(mut room) = handle.lend(alloc) else {
+        return pass_code(Err(PassFault::Plain(Fault::Empty)));
+    };
+    let answer = match &mut room.shared {
+        Some(shared) => shared.map_whole(caller, PageId(page)),
+        None => Err(PassFault::Plain(Fault::Empty)),
+    };
+    *handle = ThpPass::of_room(room);
+    pass_code(answer)
+}
+
+/// One more mapping of each of the `count` subpages from `first` on, by PTE entries.
+pub fn pass_map_sub(
+    handle: &mut ThpPass,
+    alloc: Global,
+    caller: u32,
+    page: u64,
+    first: u32,
+    count: u32,
+) -> u32
+    ensures does { PassDoes (pass_of handle.old.held) (pass_of handle.new.held) (pass_answer_of result) (PassOne caller (call.map_sub page first count) (What.MapSub page first count)) }
+    ensures known { IsPassCode result }
+{
+    let Some(mut room) = handle.lend(alloc) else {
+        return pass_code(Err(PassFault::Plain(Fault::Empty)));
+    };
+    let answer = match &mut room.shared {
+        Some(shared) => shared.map_sub(caller, PageId(page), first, count),
+        None => Err(PassFault::Plain(Fault::Empty)),
+    };
+    *handle = ThpPass::of_room(room);
+    pass_code(answer)
+}
+
+/// One more pin of the page.
+pub fn pass_pin(handle: &mut ThpPass, alloc: Global, caller: u32, page: u64) -> u32
+    ensures does { PassDoes (pass_of handle.old.held) (pass_of handle.new.held) (pass_answer_of result) (PassOne caller (call.pin page) (What.Pin page)) }
+    ensures known { IsPassCode result }
+{
+    let Some(mut room) = handle.lend(alloc) else {
+        return pass_code(Err(PassFault::Plain(Fault::Empty)));
+    };
+    let answer = match &mut room.shared {
+        Some(shared) => shared.pin(caller, PageId(page)),
+        None => Err(PassFault::Plain(Fault::Empty)),
+    };
+    *handle = ThpPass::of_room(room);
+    pass_code(answer)
+}
+
+/// Data is written to each of the `count` subpages from `first` on.
+pub fn pass_write(
+    handle: &mut ThpPass,
+    alloc: Global,
+    caller: u32,
+    page: u64,
+    first: u32,
+    count: u32,
+) -> u32
+    ensures does { PassDoes (pass_of handle.old.held) (pass_of handle.new.held) (pass_answer_of result) (PassOne caller (call.write page first count) (What.Write page first count)) }
+    ensures known { IsPassCode result }
+{
+    let Some(mut room) = handle.lend(alloc) else {
+        return pass_code(Err(PassFault::Plain(Fault::Empty)));
+    };
+    let answer = match &mut room.shared {
+        Some(shared) => shared.write(caller, PageId(page), first, count),
+        None => Err(PassFault::Plain(Fault::Empty)),
+    };
+    *handle = ThpPass::of_room(room);
+    pass_code(answer)
+}
+
+/// Zeros are written to each of the `count` subpages from `first` on.
+pub fn pass_zero(
+    handle: &mut ThpPass,
+    alloc: Global,
+    caller: u32,
+    page: u64,
+    first: u32,
+    count: u32,
+) -> u32
+    ensures does { PassDoes (pass_of handle.old.held) (pass_of handle.new.held) (pass_answer_of result) (PassOne caller (call.zero_fill page first count) (What.Zero page first count)) }
+    ensures known { IsPassCode result }
+{
+    let Some(mut room) = handle.lend(alloc) else {
+        return pass_code(Err(PassFault::Plain(Fault::Empty)));
+    };
+    let answer = match &mut room.shared {
+        Some(shared) => shared.zero(caller, PageId(page), first, count),
+        None => Err(PassFault::Plain(Fault::Empty)),
+    };
+    *handle = ThpPass::of_room(room);
+    pass_code(answer)
+}
+
+/// Closes the node: from here on nothing enters the queue and no page is allocated.
+pub fn pass_close(handle: &mut ThpPass, alloc: Global, caller: u32) -> u32
+    ensures does { PassDoes (pass_of handle.old.held) (pass_of handle.new.held) (pass_answer_of result) (PassOne caller call.close What.Close) }
+    ensures known { IsPassCode result }
+{
+    let Some(mut room) = handle.lend(alloc) else {
+        return pass_code(Err(PassFault::Plain(Fault::Empty)));
+    };
+    let answer = match &mut room.shared {
+        Some(shared) => shared.close(caller),
+        None => Err(PassFault::Plain(Fault::Empty)),
+    };
+    *handle = ThpPass::of_room(room);
+    pass_code(answer)
+}
+
+/// One mapping of the whole page less.
+pub fn pass_unmap_whole(
+    handle: &mut ThpPass,
+    alloc: Global,
+    caller: u32,
+    page: u64,
+    done: &mut ThpDone,
+) -> u32
+    ensures does { PassDoes (pass_of handle.old.held) (pass_of handle.new.held) (pass_answer_of result) (λ old new answer. PassLost caller (call.unmap_whole page) page (λ o released. What.UnmapWhole o page released) old new (pass_answer_with answer done.new)) }
+    ensures known { IsPassCode result }
+    ensures kept { OnErr (pass_answer_of result) (done.new ≡ done.old) }
+{
+    let Some(mut room) = handle.lend(alloc) else {
+        return pass_code(Err(PassFault::Plain(Fault::Empty)));
+    };
+    let answer = match &mut room.shared {
+        Some(shared) => shared.unmap_whole(caller, PageId(page)),
+        None => Err(PassFault::Plain(Fault::Empty)),
+    };
+    *handle = ThpPass::of_room(room);
+    match answer {
+        Ok(did) => {
+            *done = ThpDone::of(&did);
+            pass_code(Ok(()))
+        }
+        Err(fault) => pass_code(Err(fault)),
+    }
+}
+
+/// One pin of the page less.
+pub fn pass_unpin(
+    handle: &mut ThpPass,
+    alloc: Global,
+    caller: u32,
+    page: u64,
+    done: &mut ThpDone,
+) -> u32
+    ensures does { PassDoes (pass_of handle.old.held) (pass_of handle.new.held) (pass_answer_of result) (λ old new answer. PassLost caller (call.unpin page) page (λ o released. What.Unpin o page released) old new (pass_answer_with answer done.new)) }
+    ensures known { IsPassCode result }
+    ensures kept { OnErr (pass_answer_of result) (done.new ≡ done.old) }
+{
+    let Some(mut room) = handle.lend(alloc) else {
+        return pass_code(Err(PassFault::Plain(Fault::Empty)));
+    };
+    let answer = match &mut room.shared {
+        Some(shared) => shared.unpin(caller, PageId(page)),
+        None => Err(PassFault::Plain(Fault::Empty)),
+    };
+    *handle = ThpPass::of_room(room);
+    match answer {
+        Ok(did) => {
+            *done = ThpDone::of(&did);
+            pass_code(Ok(()))
+        }
+        Err(fault) => pass_code(Err(fault)),
+    }
+}
+
+/// Takes up to `n` pages, the oldest first, tries each, and returns those that are pinned.
+pub fn pass_scan(
+    handle: &mut ThpPass,
+    alloc: Global,
+    caller: u32,
+    n: u32,
+    scan: &mut ThpScan,
+) -> u32
+    ensures does { PassDoes (pass_of handle.old.held) (pass_of handle.new.held) (pass_answer_of result) (λ old new answer. PassScan caller n old new (pass_answer_with answer (scan_of scan.new))) }
+    ensures known { IsPassCode result }
+    ensures kept { OnErr (pass_answer_of result) (scan.new ≡ scan.old) }
+{
+    let Some(mut room) = handle.lend(alloc) else {
+        return pass_code(Err(PassFault::Plain(Fault::Empty)));
+    };
+    let answer = match &mut room.shared {
+        Some(shared) => shared.scan(caller, n),
+        None => Err(PassFault::Plain(Fault::Empty)),
+    };
+    *handle = ThpPass::of_room(room);
+    match answer {
+        Ok(reply) => {
+            *scan = ThpScan::of(&reply);
+            pass_code(Ok(()))
+        }
+        Err(fault) => pass_code(Err(fault)),
+    }
+}
+
+/// How many pages are queued, also while another pass has the node.
+pub fn pass_count(handle: &mut ThpPass, alloc: Global, pages: &mut u32) -> u32
+    ensures does { PassDoes (pass_of handle.old.held) (pass_of handle.new.held) (pass_answer_of result) (λ old new answer. (answer ≡ Ok tt) × PassCount pages.new old new) }
+    ensures known { IsPassCode result }
+    ensures kept { OnErr (pass_answer_of result) (pages.new ≡ pages.old) }
+{
+    let Some(mut room) = handle.lend(alloc) else {
+        return pass_code(Err(PassFault::Plain(Fault::Empty)));
+    };
+    let answer = match &mut room.shared {
+        Some(shared) => Ok(shared.count()),
+        None => Err(PassFault::Plain(Fault::Empty)),
+    };
+    *handle = ThpPass::of_room(room);
+    match answer {
+        Ok(count) => {
+            *pages = count;
+            pass_code(Ok(()))
+        }
+        Err(fault) => pass_code(Err(fault)),
+    }
+}

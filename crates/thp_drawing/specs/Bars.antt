@@ -1,0 +1,61 @@
+-- Bars: lines over those of a node's columns at which something holds.
+use Rattle.std.specs.Prelude.{ℕ, ◌+◌, Bool, true, false, List, [], ◌∷◌, ◌++◌, length, Option, Some, None, codes, nat_eq, slice_index_or}
+use Rattle.std.specs.Fmt.{decimal}
+use Rattle.thp_series.specs.declared.column.Column.{Column}
+use Rattle.thp_series.specs.declared.stage.Stage.{Stage}
+use Rattle.thp_series.specs.declared.stage.Stage.TheVariants.{Allocated, PartlyMapped, Queued, InBatch, Split}
+use Rattle.thp_drawing.specs.Scales.{scaled}
+use Rattle.thp_drawing.specs.declared.bar.Bar.{Bar}
+use Rattle.thp_drawing.specs.declared.bar.Bar.TheVariants.{PageIn}
+
+-- the number of a stage; that of no stage is 0
+abbrev pub stage_number : Option Stage → ℕ
+stage_number None = 0
+stage_number (Some Allocated) = 1
+stage_number (Some PartlyMapped) = 2
+stage_number (Some Queued) = 3
+stage_number (Some InBatch) = 4
+stage_number (Some Split) = 5
+
+-- the stage of page p behind a column's last prefix
+abbrev pub stage_in : ℕ → List (Option Stage) → Option Stage
+stage_in p stages = slice_index_or stages p None
+
+-- a bar covers the columns at which this holds: the page is in the stage
+abbrev pub covers : Bar → Column → Bool
+covers (PageIn x p) c = nat_eq (stage_number (stage_in p c.stages)) (stage_number (Some x))
+
+unfoldable pub line_start : ℕ → ℕ → List ℕ
+line_start y x = codes "M" ++ decimal x ++ codes " " ++ decimal y
+
+unfoldable pub line_end : ℕ → List ℕ
+line_end x = codes "H" ++ decimal x
+
+-- between a column and the next, at this place: where the bar begins a line does, and it ends where the bar does
+abbrev pub line_turn : ℕ → ℕ → Bool → Bool → List ℕ
+line_turn y x false false = []
+line_turn y x false true = line_start y x
+line_turn y x true false = line_end x
+line_turn y x true true = []
+
+-- how often a bar begins or ends there
+abbrev pub turn_count : Bool → Bool → ℕ
+turn_count false false = 0
+turn_count false true = 1
+turn_count true false = 1
+turn_count true true = 0
+
+-- how often a bar begins and ends; and whether it covers the column before these
+abbrev pub bar_turns : Bar → Bool → List Column → ℕ
+bar_turns bar before [] = 0
+bar_turns bar before (c ∷ more) = turn_count before (covers bar c) + bar_turns bar (covers bar c) more
+
+-- the lines of a bar from column j on, of n in all, at this height; and whether it covers the column before
+abbrev pub bar_lines : Bar → ℕ → ℕ → ℕ → Bool → List Column → List ℕ
+bar_lines bar y n j before [] = line_turn y (scaled 6000 j n) before false
+bar_lines bar y n j before (c ∷ more) =
+    line_turn y (scaled 6000 j n) before (covers bar c) ++ bar_lines bar y n (j + 1) (covers bar c) more
+
+-- all of them
+abbrev pub bar_at : Bar → ℕ → List Column → List ℕ
+bar_at bar y columns = bar_lines bar y (length columns) 0 false columns

@@ -1,0 +1,16 @@
+-- Laws of what is drawn.
+use Rattle.std.specs.Prelude.{◌≡◌, ◌^◌, ◌<◌, length}
+use Rattle.thp_model.specs.declared.shape.Shape.{Shape}
+use Rattle.thp_model.specs.Counts.{allocations}
+use Rattle.thp_model.specs.History.{History}
+use Rattle.thp_model.specs.Legal.{IsLegal}
+use Rattle.thp_model.specs.Shapes.{IsShape}
+use Rattle.thp_drawing.specs.Drawn.{IsDrawn}
+use Rattle.thp_drawing.specs.Rows.{allocated_pages}
+use Rattle.thp_drawing.specs.declared.node.DrawnNode.{DrawnNode}
+
+-- of a node whose events are legal as many pages have rows as were allocated
+abbrev pub EachPageHasItsRow : Type 0
+EachPageHasItsRow =
+    (s : Shape) (h : History) (d : DrawnNode) → IsShape s → IsLegal s h → length h < 2 ^ 64 → IsDrawn s h d
+    → allocated_pages d ≡ allocations h

@@ -1,0 +1,126 @@
+//! Bars over a node's columns.
+ghost use Rattle.std.specs.Prelude.{◌≡◌, ◌≤◌, ◌++◌, false, length, OnOk};
+ghost use Rattle.std.specs.Fmt.{decimal};
+ghost use Rattle.thp_drawing.specs.Bars.{bar_at, bar_turns, covers, line_end, line_start, line_turn, stage_in, stage_number, turn_count};
+
+use crate::element::put_decimal;
+use crate::scale::scaled;
+use std::alloc::AllocError;
+use thp_journal_writer::put;
+use thp_series::{Column, Stage};
+
+/// What a bar shows.
+#[derive(Clone, Copy, Debug, PartialEq, Eq)]
+pub(crate) enum Bar {
+    /// When the page of this number was in the stage.
+    PageIn(Stage, u128),
+}
+
+impl Bar {
+    // Whether the bar covers a column.
+    fn covers(self, column: &Column) -> bool
+        ensures { result ≡ covers self column.now }
+    {
+        match self {
+            Bar::PageIn(stage, page) => {
+                stage_number(stage_in(page, &column.stages)) == stage_number(Some(stage))
+            }
+        }
+    }
+
+    /// How often the bar begins and ends.
+    pub(crate) fn turns(self, columns: &[Column]) -> u128
+        ensures count { result ≡ bar_turns self false columns.now }
+        ensures most { result ≤ length columns.now }
+    {
+        let mut count = 0;
+        let mut before = false;
+        for column in columns {
+            let now = self.covers(column);
+            count += turn_count(before, now);
+            before = now;
+        }
+        count
+    }
+}
+
+// How often a bar begins or ends between a column and the next.
+fn turn_count(before: bool, now: bool) -> u128
+    ensures count { result ≡ turn_count before now }
+    ensures most { result ≤ 1 }
+{
+    if before == now { 0 } else { 1 }
+}
+
+// The stage of a page behind a column's last prefix.
+fn stage_in(page: u128, stages: &[Option<Stage>]) -> Option<Stage>
+    ensures { result ≡ stage_in page stages.now }
+{
+    if page < stages.len() as u128 {
+        stages[page as usize]
+    } else {
+        None
+    }
+}
+
+// The number of a stage; that of no stage is 0.
+fn stage_number(stage: Option<Stage>) -> u8
+    ensures { result ≡ stage_number stage }
+{
+    match stage {
+        None => 0,
+        Some(Stage::Allocated) => 1,
+        Some(Stage::PartlyMapped) => 2,
+        Some(Stage::Queued) => 3,
+        Some(Stage::InBatch) => 4,
+        Some(Stage::Split) => 5,
+    }
+}
+
+/// Puts the lines of a bar at this height.
+pub(crate) fn put_bar(
+    text: &mut Vec<u8>,
+    bar: Bar,
+    y: u128,
+    columns: &[Column],
+) -> Result<(), AllocError>
+    ensures { OnOk result (text.new.items ≡ text.old.items ++ bar_at bar y columns.now) }
+{
+    let count = columns.len() as u128;
+    let mut before = false;
+    for (place, column) in columns.iter().enumerate() {
+        let now = bar.covers(column);
+        put_turn(text, y, scaled(6000, place as u128, count), before, now)?;
+        before = now;
+    }
+    put_turn(text, y, scaled(6000, count, count), before, false)
+}
+
+// A line begins where the bar does, and ends where the bar does.
+fn put_turn(text: &mut Vec<u8>, y: u128, x: u128, before: bool, now: bool) -> Result<(), AllocError>
+    ensures { OnOk result (text.new.items ≡ text.old.items ++ line_turn y x before now) }
+{
+    match (before, now) {
+        (false, true) => put_line_start(text, y, x),
+        (true, false) => put_line_end(text, x),
+        (false, false) | (true, true) => Ok(()),
+    }
+}
+
+#[tactic(auto, using(crate::proofs::Pieces::four), unfolding(crate::specs::Bars::line_start))]
+fn put_line_start(text: &mut Vec<u8>, y: u128, x: u128) -> Result<(), AllocError>
+    ensures { OnOk result (text.new.items ≡ text.old.items ++ line_start y x) }
+{
+    put(text, b"M")?;
+    put_decimal(text, x)?;
+    put(text, b" ")?;
+    put_decimal(text, y)
+}
+
+#[tactic(auto, using(crate::proofs::Pieces::two), unfolding(crate::specs::Bars::line_end))]
+fn put_line_end(text: &mut Vec<u8>, x: u128) -> Result<(), AllocError>
+    ensures { OnOk result (text.new.items ≡ text.old.items ++ line_end x) }
+{
+    put(text, b"H")?;
+    put_decimal(text, x)
+}

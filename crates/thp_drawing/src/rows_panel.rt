@@ -1,0 +1,154 @@
+//! The panel of the pages one by one.
+ghost use Rattle.std.specs.Prelude.{◌≡◌, ◌++◌, OnOk};
+ghost use Rattle.thp_drawing.specs.Rows.{
+  bars,
+  row_numbers,
+  row_unit,
+  rows_graph,
+  rows_panel,
+  stage_bars,
+  stage_bars_drawn,
+  stage_rows,
+};
+
+use crate::axis::{put_event_rules, put_group_end, put_tick};
+use crate::bar::{Bar, put_bar};
+use crate::element::put_group;
+use crate::node::DrawnNode;
+use crate::rows::{
+    allocated_pages, number_step, numbers_of, row_class, row_height, row_middle, rows_height,
+};
+use crate::scale::times;
+use crate::stages::{most_in, stage_class};
+use crate::stages_panel::put_stage_items;
+use std::alloc::AllocError;
+use thp_journal_writer::put;
+use thp_series::{Column, Stage};
+
+/// Puts the panel of a node's pages, a row for each, from this height on.
+#[tactic(auto, using(crate::proofs::Pieces::seven), unfolding(crate::specs::Rows::rows_panel))]
+pub(crate) fn put_rows_panel(
+    text: &mut Vec<u8>,
+    y: u128,
+    node: &DrawnNode,
+) -> Result<(), AllocError>
+    ensures { OnOk result (text.new.items ≡ text.old.items ++ rows_panel y node.now) }
+{
+    let count = allocated_pages(node);
+    put_group(text, 900, y)?;
+    put_row_unit(text)?;
+    put_stage_items(text, node)?;
+    put_group(text, 0, 260)?;
+    put_rows_graph(text, count, node)?;
+    put_group_end(text)?;
+    put_group_end(text)
+}
+
+#[tactic(auto, unfolding(crate::specs::Rows::row_unit))]
+fn put_row_unit(text: &mut Vec<u8>) -> Result<(), AllocError>
+    ensures { OnOk result (text.new.items ≡ text.old.items ++ row_unit) }
+{
+    put(
+        text,
+        b"<text class=\"soft e\" x=\"-60\" y=\"150\">page</text>\n",
+    )
+}
+
+#[tactic(auto, using(crate::proofs::Pieces::three), unfolding(crate::specs::Rows::rows_graph))]
+fn put_rows_graph(text: &mut Vec<u8>, count: u128, node: &DrawnNode) -> Result<(), AllocError>
+    ensures { OnOk result (text.new.items ≡ text.old.items ++ rows_graph count node.now) }
+{
+    put_event_rules(text, rows_height(count), node)?;
+    put_row_numbers(
+        text,
+        row_height(count),
+        number_step(count),
+        numbers_of(count),
+    )?;
+    put_bars(text, count, node)
+}
+
+// The first so many numbers of rows, and thin lines through these.
+fn put_row_numbers(
+    text: &mut Vec<u8>,
+    high: u128,
+    step: u128,
+    count: u128,
+) -> Result<(), AllocError>
+    ensures { OnOk result (text.new.items ≡ text.old.items ++ row_numbers high step count) }
+{
+    for before in 0..count {
+        let page = times(step, before);
+        put_tick(text, b"", page, row_middle(high, page))?;
+    }
+    Ok(())
+}
+
+#[tactic(auto, using(crate::proofs::Pieces::five), unfolding(crate::specs::Rows::bars))]
+fn put_bars(text: &mut Vec<u8>, count: u128, node: &DrawnNode) -> Result<(), AllocError>
+    ensures { OnOk result (text.new.items ≡ text.old.items ++ bars count node.now) }
+{
+    put_stage_bars(text, Stage::Allocated, count, node)?;
+    put_stage_bars(text, Stage::PartlyMapped, count, node)?;
+    put_stage_bars(text, Stage::Queued, count, node)?;
+    put_stage_bars(text, Stage::InBatch, count, node)?;
+    put_stage_bars(text, Stage::Split, count, node)
+}
+
+// The bars of the first so many pages in a stage, if any page was ever in it.
+fn put_stage_bars(
+    text: &mut Vec<u8>,
+    stage: Stage,
+    count: u128,
+    node: &DrawnNode,
+) -> Result<(), AllocError>
+    ensures { OnOk result (text.new.items ≡ text.old.items ++ stage_bars stage count node.now) }
+{
+    if most_in(stage, node.columns.as_slice()) == 0 {
+        return Ok(());
+    }
+    put_stage_bars_drawn(text, stage, count, node)
+}
+
+#[tactic(auto, using(crate::proofs::Pieces::six), unfolding(crate::specs::Rows::stage_bars_drawn))]
+fn put_stage_bars_drawn(
+    text: &mut Vec<u8>,
+    stage: Stage,
+    count: u128,
+    node: &DrawnNode,
+) -> Result<(), AllocError>
+    ensures { OnOk result (text.new.items ≡ text.old.items ++ stage_bars_drawn stage count node.now) }
+{
+    put(text, b"<path class=\"")?;
+    put(text, row_class(count))?;
+    put(text, stage_class(stage))?;
+    put(text, b"\" d=\"")?;
+    put_stage_rows(
+        text,
+        stage,
+        row_height(count),
+        node.columns.as_slice(),
+        count,
+    )?;
+    put(text, b"\"/>\n")
+}
+
+fn put_stage_rows(
+    text: &mut Vec<u8>,
+    stage: Stage,
+    high: u128,
+    columns: &[Column],
+    count: u128,
+) -> Result<(), AllocError>
+    ensures { OnOk result (text.new.items ≡ text.old.items ++ stage_rows stage high columns.now count) }
+{
+    for page in 0..count {
+        put_bar(
+            text,
+            Bar::PageIn(stage, page),
+            row_middle(high, page),
+            columns,
+        )?;
+    }
+    Ok(())
+}
