@@ -64,6 +64,7 @@ numbers_stay event node kept place first numbered = elim (numbered.legal) [
     shape_is = numbered.shape_is;
     numbers_are = numbered.numbers_are;
     columns_are = numbered.columns_are;
+    stuck_are = numbered.stuck_are;
     first = tells kept.illegal numbered.first;
   }
 ]
