@@ -14,7 +14,7 @@ import argparse
 import os
 import sys
 import tempfile
-from dataclasses import dataclass
+from dataclasses import dataclass, field
 from multiprocessing import Pool
 from pathlib import Path
 from random import Random
@@ -29,26 +29,60 @@ from texts import EVENTS, journal_fault
 
 MOST_COLUMNS = 600
 STAGES = ("allocated", "partly-mapped", "queued", "in-batch", "split")
-SERIES = ("queue", "in-batches", "held", "given", "splits", "underused-splits", "pinned-tries")
+SERIES = ("queue", "in-batches", "held", "given", "splits", "underused-splits", "pinned-tries", "wait")
 LETTERS = dict(zip(STAGES, "amqbs"))
 SHOWN_PAGES = 60
 """Of how many pages the stages are told one by one."""
+SHOWN_CALLERS = 64
+"""Of how many callers it is told whether they have batches."""
 HEADS = (
     ["#node", "node", "blocks", "order", "underused", "legal", "width"]
     + [f"{name}-last" for name in (*SERIES, *STAGES)] + ["illegal-line", "illegal-event"],
     ["#column", "node", "first", "last"] + [f"{name}-{end}" for name in SERIES for end in ("least", "greatest")]
-    + [f"{name}-sum" for name in STAGES] + ["stages"],
+    + [f"{name}-sum" for name in STAGES] + ["stages", "callers"],
+    ["#stuck", "node", "page", "finds", "since"],
 )
 """The lines that name the fields."""
 
 
 @dataclass(frozen=True)
 class Numbers:
-    """A node's numbers behind some of its events: of each series, how many pages are in each stage, and those of the first pages."""
+    """A node's numbers behind some of its events: of each series, how many pages are in each stage, those of the first pages, and
+    which callers have batches."""
 
     series: tuple[int, ...]
     stages: tuple[int, ...]
     letters: str
+    callers: frozenset[int]
+
+
+@dataclass
+class Waits:
+    """The pages of a node that wait, in the queue or in a batch, each with the number of the event by which it came, and how often
+    each page was found pinned."""
+
+    events: int = 0
+    since: dict[int, int] = field(default_factory=dict)
+    finds: dict[int, int] = field(default_factory=dict)
+
+    def follow(self, node: Node, line: str) -> None:
+        """One more event, behind which the node is so."""
+        self.events += 1
+        waiting = {*node.queue, *(page for flight in node.flights.values() for page in flight)}
+        self.since = {page: self.since.get(page, self.events) for page in waiting}
+        _, kind, *words = line.split()
+        if kind == "pinned":
+            self.finds[int(words[0])] = self.finds.get(int(words[0]), 0) + 1
+
+    def longest(self) -> int:
+        """Behind how many events the page has waited that waits longest."""
+        return self.events - min(self.since.values()) + 1 if self.since else 0
+
+    def stuck(self) -> Iterable[tuple[int, int, int]]:
+        """The page, the finds and the first event of each that waits and was found pinned, those that have waited longest in front."""
+        for page, since in sorted(self.since.items(), key=lambda it: it[1]):
+            if page in self.finds:
+                yield page, self.finds[page], since
 
 
 def stage(node: Node, number: int) -> str:
@@ -63,21 +97,24 @@ def stage(node: Node, number: int) -> str:
     return "partly-mapped" if page.is_partly else "allocated"
 
 
-def numbers(node: Node) -> Numbers:
-    """Those of a node as it is."""
+def numbers(node: Node, waits: Waits) -> Numbers:
+    """Those of a node as it is, with its pages that wait."""
     in_batches = sum(len(flight) for flight in node.flights.values())
     found = [stage(node, number) for number in node.live]
     counted = [node.counters[name] for name in ("thp_split_page", "thp_underused_split_page", "thp_split_page_failed")]
-    series = (len(node.queue), in_batches, node.frames_held(), node.given, *counted)
+    series = (len(node.queue), in_batches, node.frames_held(), node.given, *counted, waits.longest())
     letters = "".join(LETTERS[stage(node, number)] if number in node.live else "-" for number in range(SHOWN_PAGES))
-    return Numbers(series, tuple(found.count(name) for name in STAGES), letters)
+    callers = frozenset(it for it, flight in node.flights.items() if flight and it < SHOWN_CALLERS)
+    return Numbers(series, tuple(found.count(name) for name in STAGES), letters, callers)
 
 
 @dataclass
 class Drawn:
-    """What is drawn of a node: its shape, its numbers behind each prefix of its legal events, and its first illegal one."""
+    """What is drawn of a node: its shape, its numbers behind each prefix of its legal events, the pages that wait behind them, and its
+    first illegal one."""
 
     node: Node
+    waits: Waits
     prefixes: list[Numbers]
     illegal: tuple[str, str] = ("-", "-")
 
@@ -89,7 +126,7 @@ class Drawn:
         return width
 
     def lines(self, number: int) -> Iterable[str]:
-        """The node's line, and those of its columns."""
+        """The node's line, those of its columns, and those of its stuck pages."""
         node, width, last = self.node, self.width(), self.prefixes[-1]
         switch = "off" if node.underused is None else node.underused
         front = ("node", number, node.blocks, node.order, switch, len(self.prefixes) - 1, width)
@@ -98,7 +135,10 @@ class Drawn:
             column = self.prefixes[first : first + width]
             spans = [end(values) for values in zip(*(it.series for it in column)) for end in (min, max)]
             sums = [sum(values) for values in zip(*(it.stages for it in column))]
-            yield tabbed("column", number, first, first + len(column) - 1, *spans, *sums, column[-1].letters)
+            callers = ",".join(map(str, sorted(frozenset().union(*(it.callers for it in column))))) or "-"
+            yield tabbed("column", number, first, first + len(column) - 1, *spans, *sums, column[-1].letters, callers)
+        for page in self.waits.stuck():
+            yield tabbed("stuck", number, *page)
 
 
 def tabbed(*fields: object) -> str:
@@ -114,7 +154,8 @@ def drawn_nodes(lines: Iterable[str]) -> list[Drawn]:
         words = line.split()
         if words[0] == "node":
             node = node_of(words)
-            nodes.append(Drawn(node, [numbers(node)]))
+            waits = Waits()
+            nodes.append(Drawn(node, waits, [numbers(node, waits)]))
             is_over = False
         elif words[0] not in ("thp-journal", "end") and not is_over:
             drawn = nodes[-1]
@@ -122,7 +163,8 @@ def drawn_nodes(lines: Iterable[str]) -> list[Drawn]:
             if is_over:
                 drawn.illegal = (str(place), line)
             else:
-                drawn.prefixes.append(numbers(drawn.node))
+                drawn.waits.follow(drawn.node, line)
+                drawn.prefixes.append(numbers(drawn.node, drawn.waits))
     return nodes
 
 

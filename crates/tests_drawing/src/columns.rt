@@ -12,6 +12,8 @@ fn all(number: u64) -> Numbers {
         splits: number,
         underused_splits: number,
         pinned_tries: number,
+        wait: number,
+        callers: number,
         pages: Pages {
             allocated: number,
             partly_mapped: 0,

@@ -5,7 +5,7 @@ use crate::columns::at;
 use std::alloc::Global;
 use std::process::Abort;
 use thp_model::{Event, Outcome, PageId, Shape, SubSet, What};
-use thp_series::{NodeSeries, Pages, Span};
+use thp_series::{NodeSeries, Pages, Span, StuckPage};
 
 /// 16 blocks of 512 subpages each.
 pub(crate) const LARGE: Shape = Shape {
@@ -84,6 +84,11 @@ fn node_series_follows_a_split(rt: HostRuntime) {
     let told = node.into_columns().into_columns();
     assert!(rt; at(&rt, &told, 3).queue == once(1));
     assert!(rt; at(&rt, &told, 4).in_batches == once(1));
+    assert!(rt; at(&rt, &told, 3).wait == once(1));
+    assert!(rt; at(&rt, &told, 4).wait == once(2));
+    assert!(rt; at(&rt, &told, 5).wait == once(0));
+    assert!(rt; at(&rt, &told, 3).callers == 0);
+    assert!(rt; at(&rt, &told, 4).callers == 1);
     assert!(rt; at(&rt, &told, 4).pages.in_batch == 1);
     assert!(rt; at(&rt, &told, 5).held == once(256));
 }
@@ -103,4 +108,20 @@ fn node_series_tells_what_was_before_an_illegal_event(rt: HostRuntime) {
             assert!(rt; stopped.columns.prefixes() == 6);
         }
     }
+}
+
+#[test]
+fn node_series_tells_stuck_pages(rt: HostRuntime) {
+    let [alloc, split, unmap, taken, _] = first_run();
+    let pin = What::Pin { page: PAGE };
+    let pinned = What::Pinned { page: PAGE };
+    let node = followed(&rt, rt.alloc(), &[alloc, split, unmap, taken, pin, pinned]);
+    let stuck = node.stuck(rt.alloc()).expect(&rt, "memory");
+    let page = StuckPage {
+        page: PAGE,
+        finds: 1,
+        since: 3,
+    };
+    assert!(rt; stuck.len() == 1);
+    assert!(rt; stuck[0] == page);
 }

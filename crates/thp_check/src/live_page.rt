@@ -34,6 +34,8 @@ pub struct LivePage {
 /// Where a page that lives is in its life, as the events so far leave it: what [`LivePage`] tells of that, and no set.
 #[derive(Clone, Copy, Debug, PartialEq, Eq)]
 pub struct Whereabouts {
+    /// The block in which it lies.
+    pub block: u32,
     /// Where it stands: in the queue, in a caller's batch, or nowhere.
     pub standing: Standing,
     /// Whether it was split into base pages.

@@ -14,6 +14,7 @@ use Rattle.thp_check.specs.Reasons.{Explains}
 use Rattle.thp_check.specs.Replays.{Replayed}
 use Rattle.thp_check.specs.Replays.{with_event as replayed}
 use Rattle.thp_series.specs.Series.{numbers_at, series}
+use Rattle.thp_series.specs.Stuck.{AreStuck}
 use Rattle.thp_text.specs.Limits.{max_counted}
 use Rattle.thp_journal_reader.specs.declared.illegal.Illegal.{Illegal}
 use Rattle.thp_journal_reader.specs.declared.journals.NodeJournal.{NodeJournal}
@@ -63,6 +64,7 @@ numbers_stay event node kept place first numbered = elim (numbered.legal) [
     shape_is = numbered.shape_is;
     numbers_are = numbered.numbers_are;
     columns_are = numbered.columns_are;
+    stuck_are = numbered.stuck_are;
     first = tells kept.illegal numbered.first;
   }
 ]
@@ -100,8 +102,9 @@ none_is nodes (Some node) kept known none = absurd cc
 
 -- the last node has no further event: its numbers are those of all its events
 pub ends : (nodes : List NodeJournal) (node : FollowedNode) (kept new : List NumberedNode) (more : NumberedNode) → EndsFollowed nodes node kept → more.shape ≡ node.shape → more.illegal ≡ None →
-    more.numbers ≡ numbers_at node.series.shape node.series.history → more.columns ≡ series node.series.shape node.series.history → new ≡ kept ++ more ∷ [] → AreNumbered nodes new
-ends nodes node kept new more e shape legal numbers columns is =
+    more.numbers ≡ numbers_at node.series.shape node.series.history → more.columns ≡ series node.series.shape node.series.history → AreStuck node.series.shape node.series.history more.stuck.items → new ≡ kept ++ more ∷ [] → AreNumbered nodes new
+ends nodes node kept new more e shape legal numbers columns stuck is =
+    let S : Shape → History → Type 0 = λ s h. AreStuck s h more.stuck.items in
     let P : List NodeJournal → Type 0 = λ ns. AreNumbered ns new in
     let Q : List NumberedNode → Type 0 = λ ks. AreNumbered (e.before ++ e.last ∷ []) ks in
     let T : Option Illegal → Type 0 = λ i. TellsFirst (e.last ∷ []) i in
@@ -111,6 +114,7 @@ ends nodes node kept new more e shape legal numbers columns is =
       shape_is = shape ∙ e.is_last.shapes ∙ e.is_last.shape_is;
       numbers_are = numbers ∙ ap₂ (λ s h. numbers_at s h) e.is_last.shape_is e.is_last.events_are;
       columns_are = columns ∙ ap₂ (λ s h. series s h) e.is_last.shape_is e.is_last.events_are;
+      stuck_are = subst (λ s. S s e.last.events) e.is_last.shape_is (subst (λ h. S node.series.shape h) e.is_last.events_are stuck);
       first = subst T (sym legal) (legal_alone e.last e.is_last.legal);
     })))
 
@@ -170,9 +174,10 @@ module _ (nodes : List NodeJournal) (at_hand : FollowedNode) (kept : List Number
     }) placed wrong why
 
     pub stops : (more : NumberedNode) (new : List NumberedNode) → more.shape ≡ at_hand.shape → more.illegal ≡ Some (record { line = at_hand.next_line; event = event; misfit = m }) →
-        more.numbers ≡ numbers_at at_hand.series.shape at_hand.series.history → more.columns ≡ series at_hand.series.shape at_hand.series.history → new ≡ kept ++ more ∷ [] →
+        more.numbers ≡ numbers_at at_hand.series.shape at_hand.series.history → more.columns ≡ series at_hand.series.shape at_hand.series.history → AreStuck at_hand.series.shape at_hand.series.history more.stuck.items → new ≡ kept ++ more ∷ [] →
         NumbersBy (on_last (with_event told) nodes) None new
-    stops more new shape illegal numbers columns is =
+    stops more new shape illegal numbers columns stuck is =
+        let S : Shape → History → Type 0 = λ s h. AreStuck s h more.stuck.items in
         let l : NodeJournal = e.last in
         let x : Event = event_with (least_free l.shape l.events) told in
         let M : Shape → History → Event → Type 0 = λ s h y. Fits s h y → ⊥ in
@@ -189,6 +194,7 @@ module _ (nodes : List NodeJournal) (at_hand : FollowedNode) (kept : List Number
             shape_is = shape ∙ e.is_last.shapes ∙ e.is_last.shape_is;
             numbers_are = numbers ∙ ap₂ (λ s h. numbers_at s h) e.is_last.shape_is e.is_last.events_are;
             columns_are = columns ∙ ap₂ (λ s h. series s h) e.is_last.shape_is e.is_last.events_are;
+            stuck_are = subst (λ s. S s l.events) e.is_last.shape_is (subst (λ h. S at_hand.series.shape h) e.is_last.events_are stuck);
             first = subst T (sym illegal) first_stops;
           }))),
           subst Q (sym are) (illegal_push e.before (with_event told l) (length l.events) misfit),

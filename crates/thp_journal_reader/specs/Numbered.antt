@@ -2,6 +2,7 @@
 use Rattle.std.specs.Prelude.{◌≡◌, ⊤, List, [], ◌∷◌}
 use Rattle.thp_model.specs.History.{History}
 use Rattle.thp_series.specs.Series.{numbers_at, series}
+use Rattle.thp_series.specs.Stuck.{AreStuck}
 use Rattle.thp_journal_reader.specs.declared.journals.NodeJournal.{NodeJournal}
 use Rattle.thp_journal_reader.specs.declared.numbered.NumberedNode.{NumberedNode}
 use Rattle.thp_journal_reader.specs.Answers.{TellsFirst}
@@ -14,6 +15,7 @@ pub record IsNumbered (node : NodeJournal) (kept : NumberedNode) : Type 0 where
   pub shape_is : kept.shape ≡ node.shape
   pub numbers_are : kept.numbers ≡ numbers_at node.shape front
   pub columns_are : kept.columns ≡ series node.shape front
+  pub stuck_are : AreStuck node.shape front kept.stuck.items
   pub first : TellsFirst (node ∷ []) kept.illegal
 
 -- those of each node, in order

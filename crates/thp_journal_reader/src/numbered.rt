@@ -1,7 +1,7 @@
 //! The numbers of the nodes that journals tell.
 use crate::illegal::Illegal;
 use thp_model::Shape;
-use thp_series::{Columns, Numbers};
+use thp_series::{Columns, Numbers, StuckPage};
 
 /// The numbers of a node over its events, or over those before its first illegal one.
 #[derive(Drop)]
@@ -14,4 +14,6 @@ pub struct NumberedNode {
     pub numbers: Numbers,
     /// Those of each prefix of them.
     pub columns: Columns,
+    /// The pages that wait behind these events and were found pinned, those that have waited longest in front.
+    pub stuck: Vec<StuckPage>,
 }

@@ -11,6 +11,7 @@ ghost use Rattle.thp_model.specs.BlockLaws.{event_with, least_free};
 ghost use Rattle.thp_model.specs.Shapes.{IsShape};
 ghost use Rattle.thp_model.specs.declared.events.Event.{Event};
 ghost use Rattle.thp_series.specs.Series.{numbers_at, series};
+ghost use Rattle.thp_series.specs.Stuck.{AreStuck};
 ghost use Rattle.thp_text.specs.Limits.{max_counted};
 
 use crate::illegal::Illegal;
@@ -32,18 +33,21 @@ pub(crate) struct FollowedNode {
 }
 
 /// The numbers of a node whose events are legal.
-fn numbered(node: FollowedNode) -> NumberedNode
-    ensures shape { result.shape ≡ node.shape }
-    ensures legal { result.illegal ≡ None }
-    ensures numbers { result.numbers ≡ numbers_at node.series.shape node.series.history }
-    ensures columns { result.columns ≡ series node.series.shape node.series.history }
+fn numbered(alloc: Global, node: FollowedNode) -> Result<NumberedNode, AllocError>
+    ensures shape { IfOk result (λ kept. kept.shape ≡ node.shape) }
+    ensures legal { IfOk result (λ kept. kept.illegal ≡ None) }
+    ensures numbers { IfOk result (λ kept. kept.numbers ≡ numbers_at node.series.shape node.series.history) }
+    ensures stuck { IfOk result (λ kept. AreStuck node.series.shape node.series.history kept.stuck.items) }
+    ensures columns { IfOk result (λ kept. kept.columns ≡ series node.series.shape node.series.history) }
 {
-    NumberedNode {
+    let stuck = node.series.stuck(alloc)?;
+    Ok(NumberedNode {
         shape: node.shape,
         illegal: None,
         numbers: node.series.numbers(),
         columns: node.series.into_columns(),
-    }
+        stuck,
+    })
 }
 
 /// The event, an allocation in the least block that no live page holds.
@@ -66,6 +70,7 @@ fn placed(series: &NodeSeries, event: &Event) -> Event
 /// What is known of the nodes so far.
 #[derive(Drop)]
 pub(crate) struct Numbering {
+    alloc: Global,
     // the last node, while its events are legal
     at_hand: Option<FollowedNode>,
     // each node but the one at hand
@@ -89,7 +94,8 @@ impl Numbering {
         let Some(node) = self.at_hand.take() else {
             return Ok(());
         };
-        self.keep(numbered(node))
+        let ended = numbered(self.alloc, node)?;
+        self.keep(ended)
     }
 
     /// One more node begins, whose first event stands on this line.
@@ -128,6 +134,7 @@ impl Numbering {
                 Ok(())
             }
             Err(stopped) => {
+                let stuck = stopped.waiting.stuck(self.alloc)?;
                 let illegal = Illegal {
                     line: next_line,
                     event: *event,
@@ -138,6 +145,7 @@ impl Numbering {
                     illegal: Some(illegal),
                     numbers: stopped.numbers,
                     columns: stopped.columns,
+                    stuck,
                 })
             }
         }
@@ -187,6 +195,7 @@ impl NumberedNodes {
     {
         NumberedNodes {
             numbering: Numbering {
+                alloc,
                 at_hand: None,
                 nodes: Vec::new(alloc),
             },

@@ -1,8 +1,7 @@
 -- What is kept of a node, with one more event.
-use Rattle.std.proofs.Common.{◌≡◌, ℕ, suc, zero, ◌+◌, ◌^◌, ◌<◌, ◌≤◌, Bool, true, false, cond, List, [], ◌∷◌, ◌++◌, Option, Some, None, length, map, take, get_or, set, nat_eq, nat_lt, refl, ap, sym, ◌∙◌, subst, arith, inl, inr, length-append}
+use Rattle.std.proofs.Common.{◌≡◌, ℕ, ◌+◌, ◌^◌, ◌<◌, Bool, true, false, cond, List, [], ◌∷◌, ◌++◌, Option, Some, None, length, map, take, get_or, set, nat_eq, nat_lt, refl, ap, sym, ◌∙◌, subst, arith, length-append}
 use Rattle.std.specs.Prelude.{replicate, ◌≢◌}
-use Rattle.std.proofs.lemmas.Bool.{cases_lt, eq-eqb, eqb-true, ltb-false, ltb-true}
-use Rattle.thp_model.proofs.SumsBelow.{sum_below_suc}
+use Rattle.std.proofs.lemmas.Bool.{eq-eqb, eqb-true, ltb-false, ltb-true}
 use Rattle.std.specs.List.{range_with_len}
 use Rattle.std.specs.Option.{option_and_then}
 use Rattle.std.proofs.lemmas.List.{ext_get_or, get_or-set_other, get_or-set_same, length-set, same_lists, take_all, take-append-le}
@@ -15,7 +14,7 @@ use Rattle.thp_model.specs.Frames.{frames_given, frames_held}
 use Rattle.thp_model.specs.History.{History, count_of, some_event}
 use Rattle.thp_model.specs.Legal.{Fits, IsLegal}
 use Rattle.thp_model.specs.Places.{flights, queue}
-use Rattle.thp_model.specs.Sets.{count_below, sum_below}
+use Rattle.thp_model.specs.Sets.{sum_below}
 use Rattle.thp_model.specs.Underused.{is_partly_mapped}
 use Rattle.thp_model.proofs.Alive.{legal_grown}
 use Rattle.thp_model.proofs.LegalSteps.{legal_none, legal_push}
@@ -31,8 +30,9 @@ use Rattle.thp_journal_writer.specs.EventLines.{page_told}
 use Rattle.thp_series.specs.Following.{count_in, entered, left, staged, GoesAlong, MayEnter, MayLeave}
 use Rattle.thp_series.specs.Series.{numbers_at, series}
 use Rattle.thp_series.specs.Stages.{is_stage, pages_at, pages_in, stage_by, stage_of, stages_at}
+use Rattle.thp_series.specs.Waits.{callers_at, longest_wait}
 use Rattle.thp_series.proofs.Batches.{in_batches_are}
-use Rattle.thp_series.proofs.Moving.{count_moves, count_stays, none_named, not_named, one, stage_stays}
+use Rattle.thp_series.proofs.Moving.{count_moves, count_stays, none_named, not_named, no_more, one, part_of, stage_stays}
 
 -- the numbers behind one more event stand behind the others
 pub series_push : (s : Shape) (h : History) (e : Event) → series s (h ++ e ∷ []) ≡ series s h ++ numbers_at s (h ++ e ∷ []) ∷ []
@@ -59,11 +59,11 @@ length_of_series s h = length-map-range_with_len (λ i. numbers_at s (take i h))
 
 -- numbers are told by the parts
 pub numbers_are : (s : Shape) (h : History) (n : Numbers) → IsLegal s h → n.queue ≡ length (queue s h) → n.in_batches ≡ n.pages.in_batch → n.held ≡ frames_held s h → n.given ≡ frames_given h
-    → n.splits ≡ thp_split_page h → n.underused_splits ≡ thp_underused_split_page s h → n.pinned_tries ≡ thp_split_page_failed h → n.pages ≡ pages_at s h → n.stages ≡ stages_at s h → n ≡ numbers_at s h
-numbers_are s h n l a b c d e f g i j =
+    → n.splits ≡ thp_split_page h → n.underused_splits ≡ thp_underused_split_page s h → n.pinned_tries ≡ thp_split_page_failed h → n.wait ≡ longest_wait s h → n.callers ≡ callers_at h → n.pages ≡ pages_at s h → n.stages ≡ stages_at s h → n ≡ numbers_at s h
+numbers_are s h n l a b c d e f g o u i j =
     let batches : n.in_batches ≡ length (flights h) = b ∙ ap (λ (p : Pages). p.in_batch) i ∙ in_batches_are s h l in
-    let is : n ≡ record { queue = n.queue; in_batches = n.in_batches; held = n.held; given = n.given; splits = n.splits; underused_splits = n.underused_splits; pinned_tries = n.pinned_tries; pages = n.pages; stages = n.stages } = refl in
-    is ∙ rw (a, batches, c, d, e, f, g, i, j) refl
+    let is : n ≡ record { queue = n.queue; in_batches = n.in_batches; held = n.held; given = n.given; splits = n.splits; underused_splits = n.underused_splits; pinned_tries = n.pinned_tries; wait = n.wait; callers = n.callers; pages = n.pages; stages = n.stages } = refl in
+    is ∙ rw (a, batches, c, d, e, f, g, o, u, i, j) refl
 
 count_at : (s : Shape) (h : History) (x : Stage) → count_in (pages_at s h) x ≡ pages_in s h x
 count_at s h Allocated = refl
@@ -140,27 +140,6 @@ same_pages n m same =
     ∙ ap (λ x. pages_of m.allocated m.partly_mapped x n.in_batch n.split) (same Queued)
     ∙ ap (λ x. pages_of m.allocated m.partly_mapped m.queued x n.split) (same InBatch)
     ∙ ap (λ x. pages_of m.allocated m.partly_mapped m.queued m.in_batch x) (same Split)
-
--- a sum is no less than a part of it
-part_of : (m : ℕ) (f : ℕ → ℕ) (p : ℕ) → p < m → f p ≤ sum_below m f
-part_of zero f p l = absurd (omega (arith, l))
-part_of (suc m) f p l =
-    elim (cases_lt p m) [
-      | inl less ↦ omega (arith, sum_below_suc m f, part_of m f p less)
-      | inr more ↦ omega (arith, sum_below_suc m f, ap f (last m p l more))
-    ]
-  where
-    last : (m p : ℕ) → p < suc m → m ≤ p → p ≡ m
-    last m p l more = omega (arith, l, more)
-
-at_most_one : (b : Bool) → cond {A = ℕ} b 1 0 ≤ 1
-at_most_one true = omega arith
-at_most_one false = omega arith
-
-no_more : (m : ℕ) (test : ℕ → Bool) → count_below m test ≤ m
-unfolding sum_below
-no_more zero test = omega arith
-no_more (suc m) test = omega (arith, sum_below_suc m (λ i. cond (test i) 1 0), no_more m test, at_most_one (test m))
 
 live_of : (s : Shape) (h : History) (p : ℕ) (x : Stage) → stage_of s h p ≡ Some x → is_live h p ≡ true
 live_of s h p x e = go (is_live h p) (stage_by (is_split h p) (standing_of s h p) (is_partly_mapped s h p)) e where
@@ -275,3 +254,8 @@ begins_along r n ss cs numbers none no_page no_stage told is =
       numbers_are = told (legal_none r.shape) no_page no_stage;
       columns_are = is ∙ ap (λ x. x ∷ []) (told (legal_none r.shape) no_page no_stage);
     }) told
+
+pub same_replays : (r t : Replayed) → r.shape ≡ t.shape → r.history ≡ t.history → r ≡ t
+same_replays r t shapes events = ap (λ (s : Shape). with_both s r.history) shapes ∙ ap (with_both t.shape) events where
+  with_both : Shape → History → Replayed
+  with_both s h = record { shape = s; history = h }

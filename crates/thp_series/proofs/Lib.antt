@@ -3,5 +3,9 @@ mod Pairs
 mod Folding
 mod Widths
 mod Moving
+mod Arriving
+mod Counting
+mod Finding
+mod Stuck
 mod Batches
 mod Following

@@ -1,5 +1,5 @@
 -- How many pages are in each stage, with one more event.
-use Rattle.std.proofs.Common.{◌≡◌, ◌≢◌, ℕ, ◌+◌, ◌-◌, ◌<◌, ◌≤◌, Bool, true, false, not, cond, ◌&&◌, [], ◌∷◌, ◌++◌, Option, Some, None, refl, ap, sym, ◌∙◌, inl, inr, arith, nat_eq, ne_eqb, add-one}
+use Rattle.std.proofs.Common.{◌≡◌, ◌≢◌, ℕ, zero, suc, ◌+◌, ◌-◌, ◌<◌, ◌≤◌, Bool, true, false, not, cond, ◌&&◌, [], ◌∷◌, ◌++◌, Option, Some, None, refl, ap, sym, ◌∙◌, inl, inr, arith, nat_eq, ne_eqb, add-one}
 use Rattle.std.proofs.lemmas.Bool.{cases_lt}
 use Rattle.thp_model.specs.declared.events.Event.{Event}
 use Rattle.thp_model.specs.declared.events.What.{What}
@@ -23,15 +23,36 @@ use Rattle.thp_journal_writer.specs.EventLines.{page_told}
 use Rattle.thp_series.specs.Stages.{is_stage, pages_in, stage_by, stage_of}
 
 -- sums of two functions that differ at p alone
-sums_differ_at : (m : ℕ) (f g : ℕ → ℕ) (p : ℕ) → p < m → ((i : ℕ) → i < m → (i ≢ p) → f i ≡ g i) → sum_below m f + g p ≡ sum_below m g + f p
+pub sums_differ_at : (m : ℕ) (f g : ℕ → ℕ) (p : ℕ) → p < m → ((i : ℕ) → i < m → (i ≢ p) → f i ≡ g i) → sum_below m f + g p ≡ sum_below m g + f p
 sums_differ_at m f g p below same =
     elim (cases_lt (f p) (g p)) [
       | inl less ↦ omega (arith, less, sum_below-one m g f p (g p - f p) below (λ i l n. sym (same i l n)) (omega (arith, less)))
       | inr more ↦ omega (arith, more, sum_below-one m f g p (f p - g p) below same (omega (arith, more)))
     ]
 
+-- a sum is no less than a part of it
+pub part_of : (m : ℕ) (f : ℕ → ℕ) (p : ℕ) → p < m → f p ≤ sum_below m f
+part_of zero f p l = absurd (omega (arith, l))
+part_of (suc m) f p l =
+    elim (cases_lt p m) [
+      | inl less ↦ omega (arith, sum_below_suc m f, part_of m f p less)
+      | inr more ↦ omega (arith, sum_below_suc m f, ap f (last m p l more))
+    ]
+  where
+    last : (m p : ℕ) → p < suc m → m ≤ p → p ≡ m
+    last m p l more = omega (arith, l, more)
+
+at_most_one : (b : Bool) → cond {A = ℕ} b 1 0 ≤ 1
+at_most_one true = omega arith
+at_most_one false = omega arith
+
+pub no_more : (m : ℕ) (test : ℕ → Bool) → count_below m test ≤ m
+unfolding sum_below
+no_more zero test = omega arith
+no_more (suc m) test = omega (arith, sum_below_suc m (λ i. cond (test i) 1 0), no_more m test, at_most_one (test m))
+
 -- an event that doesn't name a page isn't about it
-not_about : (q : ℕ) (w : What) → names q w ≡ false → is_about q w ≡ false
+pub not_about : (q : ℕ) (w : What) → names q w ≡ false → is_about q w ≡ false
 not_about q (what.Taken p) e = refl
 not_about q (what.Pinned p) e = refl
 not_about q (what.Used p) e = refl
@@ -110,10 +131,10 @@ no_alloc p (what.Alloc q b) e = absurd (cc)
 no_alloc p w e = refl
 
 -- a page with a number that isn't given yet doesn't live
-unborn : (s : Shape) (h : History) (p : ℕ) → IsLegal s h → allocations h ≤ p → is_live h p ≡ false
+pub unborn : (s : Shape) (h : History) (p : ℕ) → IsLegal s h → allocations h ≤ p → is_live h p ≡ false
 unborn s h p l high = ap (λ b. b && not (some_event (frees p) h)) ((legal_grown s h l).numbered.fresh p high).never
 
-unborn_still : (s : Shape) (h : History) (e : Event) (p : ℕ) → IsLegal s h → is_alloc e.what ≡ false → allocations h ≤ p → is_live (h ++ e ∷ []) p ≡ false
+pub unborn_still : (s : Shape) (h : History) (e : Event) (p : ℕ) → IsLegal s h → is_alloc e.what ≡ false → allocations h ≤ p → is_live (h ++ e ∷ []) p ≡ false
 unborn_still s h e p l none high = go (is_live (h ++ e ∷ []) p) refl where
   go : (b : Bool) → is_live (h ++ e ∷ []) p ≡ b → b ≡ false
   go false y = refl
@@ -171,7 +192,7 @@ count_moves s h c (what.Back r) p x l f is = moves_old s h (by c (what.Back r)) 
 count_moves s h c (what.Dropped r) p x l f is = moves_old s h (by c (what.Dropped r)) p x l f refl is
 count_moves s h c what.Close p x l f is = absurd (cc)
 
-no_page : (w : What) → page_told w ≡ None → is_alloc w ≡ false
+pub no_page : (w : What) → page_told w ≡ None → is_alloc w ≡ false
 no_page (what.Alloc p b) e = absurd (cc)
 no_page w e = refl
 

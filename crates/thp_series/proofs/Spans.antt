@@ -1,9 +1,10 @@
 -- What a column tells of the prefixes of two lists, by what it tells of each.
-use Rattle.std.proofs.Common.{◌≡◌, ℕ, ◌<◌, min, max, List, [], ◌∷◌, ◌++◌, length, map, refl, ap, subst, sym, ◌^◌, ◌*◌, length-append, ◌∙◌, arith}
+use Rattle.std.proofs.Common.{◌≡◌, ℕ, ◌<◌, min, max, List, [], ◌∷◌, ◌++◌, length, map, refl, ap, subst, sym, ◌^◌, ◌*◌, length-append, ◌∙◌, arith, bit_or}
+use Rattle.std.proofs.lemmas.Nat.Bits.{bit_at_or, same_from_bits}
 use Rattle.std.proofs.lemmas.List.{map-append, length-map}
 use Rattle.thp_series.specs.declared.numbers.Numbers.{Numbers}
 use Rattle.thp_series.specs.Spans.{least, greatest, span_of, joined}
-use Rattle.thp_series.specs.Columns.{last_stages, column_of, sums_of}
+use Rattle.thp_series.specs.Columns.{all_callers, last_stages, column_of, sums_of}
 use Rattle.thp_series.specs.declared.pages.PageSums.{PageSums}
 use Rattle.thp_series.specs.Folding.{HasLowSums}
 use Rattle.std.proofs.lemmas.List.Sums.{sum_by-append}
@@ -53,6 +54,18 @@ last_of_both (x ∷ []) [] some = absurd (omega (arith, some))
 last_of_both (x ∷ []) (y ∷ ys) some = refl
 last_of_both (x ∷ z ∷ xs) ys some = last_of_both (z ∷ xs) ys some
 
+-- bits of three numbers
+or_assoc : (a b c : ℕ) → bit_or (bit_or a b) c ≡ bit_or a (bit_or b c)
+or_assoc a b c = same_from_bits (bit_or (bit_or a b) c) (bit_or a (bit_or b c))
+    (λ i. omega (arith, bit_at_or (bit_or a b) c i, bit_at_or a b i, bit_at_or a (bit_or b c) i, bit_at_or b c i))
+
+callers_append : (xs ys : List Numbers) → 0 < length xs → 0 < length ys → all_callers (xs ++ ys) ≡ bit_or (all_callers xs) (all_callers ys)
+callers_append [] ys h k = absurd (omega (arith, h))
+callers_append (x ∷ xs) [] h k = absurd (omega (arith, k))
+callers_append (x ∷ []) (y ∷ ys) h k = refl
+callers_append (x ∷ z ∷ xs) (y ∷ ys) h k =
+    ap (bit_or x.callers) (callers_append (z ∷ xs) (y ∷ ys) (omega arith) k) ∙ sym (or_assoc x.callers (all_callers (z ∷ xs)) (all_callers (y ∷ ys)))
+
 -- a column of the prefixes of both is the two columns joined
 pub column_append : (xs ys : List Numbers) → 0 < length xs → 0 < length ys → column_of (xs ++ ys) ≡ both (column_of xs) (column_of ys)
 column_append xs ys h k =
@@ -64,6 +77,8 @@ column_append xs ys h k =
       span_of_both (λ (n : Numbers). n.splits) xs ys h k,
       span_of_both (λ (n : Numbers). n.underused_splits) xs ys h k,
       span_of_both (λ (n : Numbers). n.pinned_tries) xs ys h k,
+      span_of_both (λ (n : Numbers). n.wait) xs ys h k,
+      callers_append xs ys h k,
       sums_append xs ys,
       last_of_both xs ys k,
     ) refl

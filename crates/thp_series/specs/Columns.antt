@@ -1,5 +1,5 @@
 -- The columns of a node: how wide they are, and what each tells.
-use Rattle.std.specs.Prelude.{◌≡◌, ℕ, ◌*◌, ◌^◌, ◌≤◌, zero, suc, List, [], ◌∷◌, Option, length, map, take, drop}
+use Rattle.std.specs.Prelude.{◌≡◌, ℕ, ◌*◌, ◌^◌, ◌≤◌, zero, suc, List, [], ◌∷◌, Option, length, map, take, drop, bit_or}
 use Rattle.std.specs.List.{sum_by}
 use Rattle.thp_series.specs.declared.column.Column.{Column}
 use Rattle.thp_series.specs.declared.numbers.Numbers.{Numbers}
@@ -34,6 +34,12 @@ sums_of ns = record {
   split = sum_by (λ (n : Numbers). n.pages.split) ns;
 }
 
+-- the callers that have pages in their batches behind one of some prefixes
+abbrev pub all_callers : List Numbers → ℕ
+all_callers [] = 0
+all_callers (n ∷ []) = n.callers
+all_callers (n ∷ m ∷ ns) = bit_or n.callers (all_callers (m ∷ ns))
+
 -- the stages behind the last of some prefixes
 abbrev pub last_stages : List Numbers → List (Option Stage)
 last_stages [] = []
@@ -50,6 +56,8 @@ column_of ns = record {
   splits = span_of (map (λ (n : Numbers). n.splits) ns);
   underused_splits = span_of (map (λ (n : Numbers). n.underused_splits) ns);
   pinned_tries = span_of (map (λ (n : Numbers). n.pinned_tries) ns);
+  wait = span_of (map (λ (n : Numbers). n.wait) ns);
+  callers = all_callers ns;
   pages = sums_of ns;
   stages = last_stages ns;
 }

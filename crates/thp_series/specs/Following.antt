@@ -1,12 +1,18 @@
 -- What is kept of a node while its events come. No public clause cites this module.
-use Rattle.std.specs.Prelude.{◌≡◌, ℕ, ◌+◌, ◌-◌, ◌<◌, ◌^◌, List, Option, Some, None, set, nat_lt, if◌then◌else◌}
+use Rattle.std.specs.Prelude.{◌≡◌, ℕ, ◌+◌, ◌-◌, ◌<◌, ◌^◌, List, length, Option, Some, None, set, nat_lt, if◌then◌else◌}
+use Rattle.thp_model.specs.declared.shape.Shape.{Shape}
+use Rattle.thp_model.specs.Counts.{allocations}
+use Rattle.thp_model.specs.History.{History}
 use Rattle.thp_model.specs.Legal.{IsLegal}
+use Rattle.thp_model.specs.Sets.{count_below}
 use Rattle.thp_check.specs.Replays.{Replayed}
 use Rattle.thp_series.specs.declared.numbers.Numbers.{Numbers}
 use Rattle.thp_series.specs.declared.pages.Pages.{Pages}
 use Rattle.thp_series.specs.declared.stage.Stage.{Stage}
 use Rattle.thp_series.specs.declared.stage.Stage.TheVariants.{Allocated, PartlyMapped, Queued, InBatch, Split}
+use Rattle.thp_series.specs.Counting.{count_at}
 use Rattle.thp_series.specs.Series.{numbers_at, series}
+use Rattle.thp_series.specs.Spots.{batch_of, is_caller}
 use Rattle.thp_series.specs.Stages.{shown_pages}
 
 abbrev pub count_in : Pages → Stage → ℕ
@@ -54,3 +60,12 @@ pub record GoesAlong (r : Replayed) (numbers : Numbers) (columns : List Numbers)
   pub legal : IsLegal r.shape r.history
   pub numbers_are : numbers ≡ numbers_at r.shape r.history
   pub columns_are : columns ≡ series r.shape r.history
+
+-- how many pages are in the batch of caller c
+abbrev pub batched : Shape → History → ℕ → ℕ
+batched s h c = count_below (allocations h) (λ p. is_caller c (batch_of s h p))
+
+-- the counts are those of callers 0 to 63
+pub record CountsBatches (r : Replayed) (counts : List ℕ) : Type 0 where
+  pub size : length counts ≡ 64
+  pub each : (c : ℕ) → c < 64 → count_at counts c ≡ batched r.shape r.history c

@@ -1,5 +1,5 @@
 -- How two columns become one. No public clause cites this module.
-use Rattle.std.specs.Prelude.{⊤, ℕ, ◌+◌, ◌^◌, ◌<◌, ◌≤◌, List, [], ◌∷◌}
+use Rattle.std.specs.Prelude.{⊤, ℕ, ◌+◌, ◌^◌, ◌<◌, ◌≤◌, List, [], ◌∷◌, bit_or}
 use Rattle.thp_series.specs.declared.column.Column.{Column}
 use Rattle.thp_series.specs.declared.pages.PageSums.{PageSums}
 use Rattle.thp_series.specs.Spans.{joined}
@@ -23,6 +23,8 @@ both a b = record {
   splits = joined a.splits b.splits;
   underused_splits = joined a.underused_splits b.underused_splits;
   pinned_tries = joined a.pinned_tries b.pinned_tries;
+  wait = joined a.wait b.wait;
+  callers = bit_or a.callers b.callers;
   pages = added a.pages b.pages;
   stages = b.stages;
 }

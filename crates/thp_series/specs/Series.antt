@@ -8,6 +8,7 @@ use Rattle.thp_model.specs.History.{History}
 use Rattle.thp_model.specs.Places.{queue, flights}
 use Rattle.thp_series.specs.declared.numbers.Numbers.{Numbers}
 use Rattle.thp_series.specs.Stages.{pages_at, stages_at}
+use Rattle.thp_series.specs.Waits.{callers_at, longest_wait}
 
 -- the numbers behind these events
 abbrev pub numbers_at : Shape → History → Numbers
@@ -19,6 +20,8 @@ numbers_at s h = record {
   splits = thp_split_page h;
   underused_splits = thp_underused_split_page s h;
   pinned_tries = thp_split_page_failed h;
+  wait = longest_wait s h;
+  callers = callers_at h;
   pages = pages_at s h;
   stages = stages_at s h;
 }

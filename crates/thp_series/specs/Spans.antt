@@ -1,5 +1,5 @@
 -- The least and the greatest of some numbers.
-use Rattle.std.specs.Prelude.{ℕ, min, max, List, [], ◌∷◌}
+use Rattle.std.specs.Prelude.{ℕ, zero, suc, min, max, List, [], ◌∷◌}
 use Rattle.thp_series.specs.declared.span.Span.{Span}
 
 -- the least number of a list; 0 of none
@@ -12,6 +12,11 @@ least (x ∷ y ∷ ys) = min x (least (y ∷ ys))
 abbrev pub greatest : List ℕ → ℕ
 greatest [] = 0
 greatest (x ∷ xs) = max x (greatest xs)
+
+-- the greatest of f below n; 0 where n is 0
+unfoldable pub greatest_below : ℕ → (ℕ → ℕ) → ℕ
+greatest_below zero f = 0
+greatest_below (suc n) f = max (greatest_below n f) (f n)
 
 abbrev pub span_of : List ℕ → Span
 span_of xs = record { least = least xs; greatest = greatest xs }

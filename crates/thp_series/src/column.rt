@@ -26,6 +26,10 @@ pub struct Column {
     pub underused_splits: Span,
     /// Tries that found a page pinned, so far.
     pub pinned_tries: Span,
+    /// Behind how many events the page has waited that waits longest.
+    pub wait: Span,
+    /// Callers 0 to 63 that have pages in their batches behind one of the prefixes: caller c as bit c.
+    pub callers: u64,
     /// Live pages in each stage, summed over the prefixes.
     pub pages: PageSums,
     /// The stages of the pages that were allocated first, behind the column's last prefix.
@@ -46,6 +50,8 @@ impl Column {
             splits: Span::of(u128::from(numbers.splits)),
             underused_splits: Span::of(u128::from(numbers.underused_splits)),
             pinned_tries: Span::of(u128::from(numbers.pinned_tries)),
+            wait: Span::of(u128::from(numbers.wait)),
+            callers: numbers.callers,
             pages: PageSums::of(numbers),
             stages: numbers.stages,
         }
@@ -64,6 +70,8 @@ impl Column {
             splits: self.splits.join(&other.splits),
             underused_splits: self.underused_splits.join(&other.underused_splits),
             pinned_tries: self.pinned_tries.join(&other.pinned_tries),
+            wait: self.wait.join(&other.wait),
+            callers: self.callers | other.callers,
             pages: self.pages.join(&other.pages),
             stages: other.stages,
         }

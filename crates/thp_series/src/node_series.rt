@@ -1,25 +1,28 @@
 //! The numbers of a node while its events come.
 ghost use Rattle.std.specs.Prelude.{◌≡◌, ◌≤◌, ◌<◌, ◌+◌, ◌^◌, [], length, IfOk, IfErr};
-ghost use Rattle.std.specs.Option.{option_and_then};
 ghost use Rattle.thp_model.specs.BlockLaws.{least_free};
 ghost use Rattle.thp_model.specs.Legal.{Fits, IsLegal};
 ghost use Rattle.thp_model.specs.Limits.{max_order, min_order};
-ghost use Rattle.thp_journal_writer.specs.EventLines.{page_told};
 ghost use Rattle.thp_check.specs.Reasons.{Explains};
 ghost use Rattle.thp_check.specs.Replays.{with_event};
-ghost use Rattle.thp_series.specs.Following.{staged};
+ghost use Rattle.thp_series.specs.Following.{staged, CountsBatches};
 ghost use Rattle.thp_series.specs.Series.{numbers_at, series};
-ghost use Rattle.thp_series.specs.Stages.{pages_at, stage_of, stages_at};
+ghost use Rattle.thp_series.specs.Stages.{pages_at, stages_at};
+ghost use Rattle.thp_series.specs.Stuck.{AreStuck};
 
+use crate::batch_counts::BatchCounts;
 use crate::columns::Columns;
 use crate::numbers::{Numbers, SHOWN_PAGES};
 use crate::pages::Pages;
-use crate::stage::{Stage, stage_of};
+use crate::spot::spot_in;
+use crate::stage::Stage;
+use crate::stuck_page::StuckPage;
+use crate::waiting::Waiting;
 use std::alloc::{AllocError, Global};
 use std::marker::Model;
 use thp_check::{Misfit, Replay};
 use thp_journal_writer::page_told;
-use thp_model::{Event, PageId, Shape, What};
+use thp_model::{Event, PageId, Shape};
 
 /// A node whose events come one by one, with its numbers at each prefix of them in columns.
 ///
@@ -27,6 +30,8 @@ use thp_model::{Event, PageId, Shape, What};
 #[derive(Drop)]
 pub struct NodeSeries {
     replay: Replay,
+    waiting: Waiting,
+    batches: BatchCounts,
     // behind the events so far
     numbers: Numbers,
     columns: Columns,
@@ -37,6 +42,8 @@ pub struct NodeSeries {
 pub struct Stopped {
     /// Why it doesn't fit.
     pub misfit: Misfit,
+    /// The pages that wait behind the events before it.
+    pub waiting: Waiting,
     /// The numbers behind the events before it.
     pub numbers: Numbers,
     /// Those of each prefix of these events, in columns.
@@ -45,13 +52,14 @@ pub struct Stopped {
 
 impl Model for NodeSeries {
     ghost use Rattle.thp_check.specs.Replays.{Replayed};
-    ghost use Rattle.thp_series.specs.Following.{GoesAlong};
+    ghost use Rattle.std.specs.Prelude.{◌≡◌};
+    ghost use Rattle.thp_series.specs.Following.{CountsBatches, GoesAlong};
 
     ghost Value = { Replayed };
 
     ghost view = { λ n. n.replay };
 
-    ghost invariant = { λ n. GoesAlong n.replay n.numbers n.columns };
+    ghost invariant = { λ n. GoesAlong n.replay n.numbers n.columns × (n.waiting ≡ n.replay) × CountsBatches n.replay n.batches };
 }
 
 impl NodeSeries {
@@ -63,10 +71,20 @@ impl NodeSeries {
         ensures none { IfOk result (λ n. n.history ≡ []) }
     {
         let replay = Replay::new(alloc, shape)?;
-        let numbers = numbers_of(&replay, Pages::none(), [None; SHOWN_PAGES]);
+        let waiting = Waiting::new(alloc, shape)?;
+        let batches = BatchCounts::new(alloc)?;
+        let numbers = numbers_of(
+            &replay,
+            &waiting,
+            &batches,
+            Pages::none(),
+            [None; SHOWN_PAGES],
+        );
         let columns = Columns::new(alloc, &numbers)?;
         Ok(NodeSeries {
             replay,
+            waiting,
+            batches,
             numbers,
             columns,
         })
@@ -82,31 +100,40 @@ impl NodeSeries {
         ensures why { IfErr result (λ x. Explains self.shape self.history event.now x.misfit) }
         ensures numbers { IfErr result (λ x. x.numbers ≡ numbers_at self.shape self.history) }
         ensures columns { IfErr result (λ x. x.columns ≡ series self.shape self.history) }
+        ensures waiting { IfErr result (λ x. x.waiting ≡ self) }
     {
         let NodeSeries {
             replay,
+            mut waiting,
+            mut batches,
             numbers,
             mut columns,
         } = self;
-        let before = stage_in(&replay, &event.what);
+        let before = spot_in(&replay, &event.what);
         match replay.admit(event) {
             Ok(replay) => {
+                let after = spot_in(&replay, &event.what);
+                waiting.follow(event, before.home, after.home);
+                batches.lose(before.batch);
+                batches.gain(after.batch);
                 let mut pages = numbers.pages;
-                pages.leave(before);
-                let after = stage_in(&replay, &event.what);
-                pages.enter(after);
+                pages.leave(before.stage);
+                pages.enter(after.stage);
                 let mut stages = numbers.stages;
-                set_stage(&mut stages, page_told(&event.what), after);
-                let numbers = numbers_of(&replay, pages, stages);
+                set_stage(&mut stages, page_told(&event.what), after.stage);
+                let numbers = numbers_of(&replay, &waiting, &batches, pages, stages);
                 columns.push(&numbers);
                 Ok(NodeSeries {
                     replay,
+                    waiting,
+                    batches,
                     numbers,
                     columns,
                 })
             }
             Err(misfit) => Err(Stopped {
                 misfit,
+                waiting,
                 numbers,
                 columns,
             }),
@@ -125,6 +152,13 @@ impl NodeSeries {
         ensures { result ≡ least_free self.now.shape self.now.history }
     {
         self.replay.least_free_block()
+    }
+
+    /// The pages that wait behind the events so far and were found pinned, those that have waited longest in front.
+    pub fn stuck(&self, alloc: Global) -> Result<Vec<StuckPage>, AllocError>
+        ensures { IfOk result (λ pages. AreStuck self.now.shape self.now.history pages.items) }
+    {
+        self.waiting.stuck(alloc)
     }
 
     /// The numbers of each prefix of the events so far, in columns.
@@ -148,8 +182,14 @@ fn set_stage(stages: &mut [Option<Stage>; SHOWN_PAGES], page: Option<PageId>, st
 }
 
 // The numbers of a replay, of whose pages so many are in each stage, and whose first pages are in these.
-fn numbers_of(replay: &Replay, pages: Pages, stages: [Option<Stage>; SHOWN_PAGES]) -> Numbers
-    ensures { IsLegal replay.now.shape replay.now.history → pages ≡ pages_at replay.now.shape replay.now.history → stages ≡ stages_at replay.now.shape replay.now.history → result ≡ numbers_at replay.now.shape replay.now.history }
+fn numbers_of(
+    replay: &Replay,
+    waiting: &Waiting,
+    batches: &BatchCounts,
+    pages: Pages,
+    stages: [Option<Stage>; SHOWN_PAGES],
+) -> Numbers
+    ensures { IsLegal replay.now.shape replay.now.history → waiting.now ≡ replay.now → CountsBatches replay.now batches.now → pages ≡ pages_at replay.now.shape replay.now.history → stages ≡ stages_at replay.now.shape replay.now.history → result ≡ numbers_at replay.now.shape replay.now.history }
 {
     Numbers {
         queue: u64::from(replay.queue_len()),
@@ -159,14 +199,9 @@ fn numbers_of(replay: &Replay, pages: Pages, stages: [Option<Stage>; SHOWN_PAGES
         splits: replay.thp_split_page(),
         underused_splits: replay.thp_underused_split_page(),
         pinned_tries: replay.thp_split_page_failed(),
+        wait: waiting.longest(),
+        callers: batches.callers(),
         pages,
         stages,
     }
-}
-
-// The stage of the page that an event is about, if it is about one.
-fn stage_in(replay: &Replay, what: &What) -> Option<Stage>
-    ensures { result ≡ option_and_then (stage_of replay.now.shape replay.now.history) (page_told what.now) }
-{
-    stage_of(replay, page_told(what)?)
 }

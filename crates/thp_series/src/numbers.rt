@@ -22,6 +22,11 @@ pub struct Numbers {
     pub underused_splits: u64,
     /// How many tries found a page pinned so far.
     pub pinned_tries: u64,
+    /// Behind how many events the page has waited without a break that waits longest, in the queue or in a batch; 0
+    /// where none waits.
+    pub wait: u64,
+    /// Which of callers 0 to 63 have pages in their batches: caller c as bit c.
+    pub callers: u64,
     /// How many live pages are in each stage.
     pub pages: Pages,
     /// The stages of the pages that were allocated first, by their numbers; `None` where a page doesn't live.

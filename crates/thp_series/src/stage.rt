@@ -1,9 +1,8 @@
 //! The stages of a page's life.
 ghost use Rattle.std.specs.Prelude.{◌≡◌};
-ghost use Rattle.thp_series.specs.Stages.{stage_by, stage_of};
+ghost use Rattle.thp_series.specs.Stages.{stage_by};
 
-use thp_check::{Replay, Standing};
-use thp_model::PageId;
+use thp_check::Standing;
 
 /// What a live page is in: the last of these that fits.
 #[derive(Clone, Copy, Debug, PartialEq, Eq)]
@@ -20,17 +19,7 @@ pub enum Stage {
     Split,
 }
 
-/// The stage of a page as the events so far leave it; `None` where it doesn't live.
-pub(crate) fn stage_of(replay: &Replay, page: PageId) -> Option<Stage>
-    ensures { result ≡ stage_of replay.now.shape replay.now.history page }
-{
-    match replay.whereabouts(page) {
-        Some(live) => Some(stage_by(live.split, live.standing, live.partly_mapped)),
-        None => None,
-    }
-}
-
-fn stage_by(split: bool, standing: Standing, partly_mapped: bool) -> Stage
+pub(crate) fn stage_by(split: bool, standing: Standing, partly_mapped: bool) -> Stage
     ensures { result ≡ stage_by split standing partly_mapped }
 {
     match standing {

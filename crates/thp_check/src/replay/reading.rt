@@ -80,6 +80,7 @@ impl Replay {
     /// Where a page is in its life; `None` where it doesn't live. No set of subpages is made for that.
     pub fn whereabouts(&self, page: PageId) -> Option<Whereabouts>
         ensures live { is_some result ≡ is_live self.now.history page }
+        ensures block { IfSome result (λ x. block_of self.now.history page ≡ Some x.block) }
         ensures standing { IfSome result (λ x. x.standing ≡ standing_of self.now.shape self.now.history page) }
         ensures split { IfSome result (λ x. x.split ≡ is_split self.now.history page) }
         ensures partly { IfSome result (λ x. x.partly_mapped ≡ is_partly_mapped self.now.shape self.now.history page) }
@@ -92,6 +93,7 @@ impl Replay {
         let standing = table.standing(block);
         match table.page(block) {
             Some((_, state)) => Some(Whereabouts {
+                block,
                 standing,
                 split: state.is_split(),
                 partly_mapped: state.is_partly(),

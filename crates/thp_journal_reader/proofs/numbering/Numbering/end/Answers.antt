@@ -12,7 +12,7 @@ pub returns : goal.returns
 returns c =
     IfOk-weaker c.keep.result _ _
     (λ u kept nodes known.
-    ends nodes c.in-Some.node c.args.self.now.nodes.items c.keep.new.self.nodes.items c.numbered.result
+    ends nodes c.in-Some.node c.args.self.now.nodes.items c.keep.new.self.nodes.items c.in_ok-ended.ended
     (at_hand_is nodes c.args.self.now.at_hand c.args.self.now.nodes.items known c.in-Some.node (sym c.take.ensures.value ∙ c.in-Some.is))
-    c.numbered.ensures.shape c.numbered.ensures.legal c.numbered.ensures.numbers c.numbered.ensures.columns kept)
+    c.in_ok-ended.ensures.shape c.in_ok-ended.ensures.legal c.in_ok-ended.ensures.numbers c.in_ok-ended.ensures.columns c.in_ok-ended.ensures.stuck kept)
     c.keep.ensures.nodes

@@ -5,6 +5,7 @@ use Rattle.thp_model.specs.History.{History}
 use Rattle.thp_model.specs.Legal.{IsLegal}
 use Rattle.thp_model.proofs.LegalSteps.{legal_push}
 use Rattle.thp_check.specs.Replays.{Replayed}
+use Rattle.thp_series.specs.Stuck.{AreStuck}
 use Rattle.thp_journal_reader.proofs.NumberLaws.{grows, stops, told_of}
 use Rattle.thp_journal_reader.proofs.numbering.Numbering.go_on.Goals as goal
 
@@ -17,12 +18,13 @@ returns-in-Ok c = λ nodes told known placed.
     grows nodes node c.args.self.now.nodes.items known told c.args.event.now placed c.in-Ok.series c.in-Ok.ensures.admitted legal
     (record { shape = node.shape; series = c.in-Ok.series; next_line = node.next_line + 1 }) refl
 
-pub returns-in-Err : goal.returns-in-Err
-returns-in-Err c =
+pub returns-in_ok-stuck-in-Err : goal.returns-in_ok-stuck-in-Err
+returns-in_ok-stuck-in-Err c =
     let old = c.args.self.now in
     IfOk-weaker c.keep.result _ _
     (λ u stopped nodes told known placed.
     told_of _ c.keep.new.self.at_hand None c.keep.new.self.nodes.items c.keep.new.self.nodes.items (c.keep.ensures.at_hand ∙ c.requires.none)
-    (stops nodes c.args.node old.nodes.items known told c.args.event.now placed c.in-Err.stopped.misfit c.in-Err.ensures.misfit c.in-Err.ensures.why _ c.keep.new.self.nodes.items refl refl c.in-Err.ensures.numbers c.in-Err.ensures.columns stopped)
+    (stops nodes c.args.node old.nodes.items known told c.args.event.now placed c.in-Err.stopped.misfit c.in-Err.ensures.misfit c.in-Err.ensures.why _ c.keep.new.self.nodes.items refl refl c.in-Err.ensures.numbers c.in-Err.ensures.columns
+    (subst (λ (r : Replayed). AreStuck r.shape r.history c.in_ok-stuck-in-Err.stuck.items) c.in-Err.ensures.waiting c.in_ok-stuck-in-Err.ensures) stopped)
     refl)
     c.keep.ensures.nodes
