@@ -112,17 +112,10 @@ fn node_series_tells_what_was_before_an_illegal_event(rt: HostRuntime) {
 
 #[test]
 fn node_series_tells_stuck_pages(rt: HostRuntime) {
-    let mut happened = Vec::new(rt.alloc());
-    for what in &first_run()[..4] {
-        happened.push(*what).expect(&rt, "memory");
-    }
-    happened
-        .push(What::Pin { page: PAGE })
-        .expect(&rt, "memory");
-    happened
-        .push(What::Pinned { page: PAGE })
-        .expect(&rt, "memory");
-    let node = followed(&rt, rt.alloc(), &happened);
+    let [alloc, split, unmap, taken, _] = first_run();
+    let pin = What::Pin { page: PAGE };
+    let pinned = What::Pinned { page: PAGE };
+    let node = followed(&rt, rt.alloc(), &[alloc, split, unmap, taken, pin, pinned]);
     let stuck = node.stuck(rt.alloc()).expect(&rt, "memory");
     let page = StuckPage {
         page: PAGE,

@@ -3,22 +3,22 @@ use crate::nodes::{LARGE, first_run, followed};
 use thp_drawing::{DrawnNode, put_escaped, put_picture};
 
 // As it was worked out by hand; looked at in a browser, on a light and on a dark ground.
-const PICTURE: &[u8] = b"<svg xmlns=\"http://www.w3.org/2000/svg\" viewBox=\"0 0 7200 5820\">\n\
+const PICTURE: &[u8] = b"<svg xmlns=\"http://www.w3.org/2000/svg\" viewBox=\"0 0 7200 7680\">\n\
 <style>\n\
 svg{display:block;width:100%;max-width:1080px;height:auto;margin:0 auto;color-scheme:light dark}\n\
 text{font:120px system-ui,sans-serif;font-variant-numeric:tabular-nums}\n\
 .h{font-size:150px;font-weight:600}.hh{font-size:190px;font-weight:600}.e{text-anchor:end}.c{text-anchor:middle}\n\
 path{shape-rendering:crispEdges}.pale{fill-opacity:.35}.rule,.zero{fill:none;shape-rendering:auto;stroke-width:6}\n\
-.s0,.s1,.s2,.s3,.s4{fill:currentColor}.bar{fill:none;stroke:currentColor;stroke-width:90}.thin{stroke-width:60}\n\
+.s0,.s1,.s2,.s3,.s4{fill:currentColor}.bar,.lane{fill:none;stroke:currentColor;stroke-width:90}.thin{stroke-width:60}\n\
 svg{background:#ffffff}.bg{fill:#ffffff}.ink{fill:#1c2128}.soft{fill:#5d6673}.bad{fill:#c8102e}\n\
-.rule{stroke:#e4e7ec}.zero{stroke:#1c2128}.held{fill:#64748b}.given{fill:#a4582a}.pin{fill:#868d97}\n\
+.rule{stroke:#e4e7ec}.zero{stroke:#1c2128}.held{fill:#64748b}.given{fill:#a4582a}.pin,.wait{fill:#868d97}\n\
 .s0{color:#b6bfc9}.s1{color:#e79700}.s2{color:#3652b8}.s3{color:#bd61ab}.s4{color:#428452}\n\
 @media(prefers-color-scheme:dark){\n\
 svg{background:#14171c}.bg{fill:#14171c}.ink{fill:#e8ebf0}.soft{fill:#a3acb9}.bad{fill:#ff6b78}\n\
-.rule{stroke:#2a3038}.zero{stroke:#e8ebf0}.held{fill:#8b9ab0}.given{fill:#d28a55}.pin{fill:#7f8793}\n\
+.rule{stroke:#2a3038}.zero{stroke:#e8ebf0}.held{fill:#8b9ab0}.given{fill:#d28a55}.pin,.wait{fill:#7f8793}\n\
 .s0{color:#4d5663}.s1{color:#f9a726}.s2{color:#4280ff}.s3{color:#d764a1}.s4{color:#45a670}\n\
 }</style>\n\
-<rect class=\"bg\" x=\"0\" y=\"0\" width=\"7200\" height=\"5820\"/>\n\
+<rect class=\"bg\" x=\"0\" y=\"0\" width=\"7200\" height=\"7680\"/>\n\
 <text class=\"ink hh\" x=\"150\" y=\"300\">Deferred split queues</text>\n\
 <text class=\"soft\" x=\"150\" y=\"480\">The events of a node follow each other from left to right; those of two node\
 s have no common time.</text>\n\
@@ -37,16 +37,44 @@ its mean, bars its last stage.</text>\n\
 <g transform=\"translate(0 500)\">\n\
 <path class=\"rule\" d=\"M0 -500h6000\"/>\n\
 <text class=\"soft e\" x=\"-60\" y=\"-500\" dy=\"40\">1</text>\n\
-<path class=\"s2\" d=\"M0 0V-0H1000V-0H2000V-0H3000V-500H4000V-0H5000V-0H6000V0z\"/>\n\
+<path class=\"s2\" d=\"M0 0V-0h1000V-0h1000V-0h1000V-500h1000V-0h1000V-0h1000V0z\"/>\n\
 <path class=\"rule\" d=\"M0 500h6000\"/>\n\
 <text class=\"soft e\" x=\"-60\" y=\"500\" dy=\"40\">1</text>\n\
-<path class=\"s3\" d=\"M0 0V0H1000V0H2000V0H3000V0H4000V500H5000V0H6000V0z\"/>\n\
+<path class=\"s3\" d=\"M0 0V0h1000V0h1000V0h1000V0h1000V500h1000V0h1000V0z\"/>\n\
 <path class=\"zero\" d=\"M0 0h6000\"/>\n\
 <text class=\"soft e\" x=\"-60\" y=\"0\" dy=\"40\">0</text>\n\
 </g>\n\
 </g>\n\
 </g>\n\
 <g transform=\"translate(900 1640)\">\n\
+<text class=\"soft e\" x=\"-60\" y=\"150\">caller</text>\n\
+<rect class=\"s3\" x=\"0\" y=\"72\" width=\"80\" height=\"80\"/>\n\
+<text class=\"ink\" x=\"130\" y=\"150\">pages in its batch</text>\n\
+<g transform=\"translate(0 260)\">\n\
+<path class=\"rule\" d=\"M0 0v140M1000 0v140M2000 0v140M3000 0v140M4000 0v140M5000 0v140\"/>\n\
+<path class=\"rule\" d=\"M0 70h6000\"/>\n\
+<text class=\"soft e\" x=\"-60\" y=\"70\" dy=\"40\">0</text>\n\
+<path class=\"lane s3\" d=\"M4000 70H5000\"/>\n\
+</g>\n\
+</g>\n\
+<g transform=\"translate(900 2140)\">\n\
+<text class=\"soft e\" x=\"-60\" y=\"150\">events</text>\n\
+<rect class=\"wait\" x=\"0\" y=\"72\" width=\"80\" height=\"80\"/>\n\
+<text class=\"ink\" x=\"130\" y=\"150\">the oldest page has waited: most 2, last 0</text>\n\
+<g transform=\"translate(0 260)\">\n\
+<path class=\"rule\" d=\"M0 0v1000M1000 0v1000M2000 0v1000M3000 0v1000M4000 0v1000M5000 0v1000\"/>\n\
+<g transform=\"translate(0 1000)\">\n\
+<path class=\"rule\" d=\"M0 -500h6000\"/>\n\
+<text class=\"soft e\" x=\"-60\" y=\"-500\" dy=\"40\">1</text>\n\
+<path class=\"rule\" d=\"M0 -1000h6000\"/>\n\
+<text class=\"soft e\" x=\"-60\" y=\"-1000\" dy=\"40\">2</text>\n\
+<path class=\"wait\" d=\"M0 0V-0h1000V-0h1000V-0h1000V-500h1000V-1000h1000V-0h1000V0z\"/>\n\
+<path class=\"zero\" d=\"M0 0h6000\"/>\n\
+<text class=\"soft e\" x=\"-60\" y=\"0\" dy=\"40\">0</text>\n\
+</g>\n\
+</g>\n\
+</g>\n\
+<g transform=\"translate(900 3500)\">\n\
 <text class=\"soft e\" x=\"-60\" y=\"150\">frames</text>\n\
 <rect class=\"held\" x=\"0\" y=\"72\" width=\"80\" height=\"80\"/>\n\
 <text class=\"ink\" x=\"130\" y=\"150\">held: most 512, last 256</text>\n\
@@ -63,18 +91,18 @@ its mean, bars its last stage.</text>\n\
 <text class=\"soft e\" x=\"-60\" y=\"-500\" dy=\"40\">384</text>\n\
 <path class=\"rule\" d=\"M0 -666h6000\"/>\n\
 <text class=\"soft e\" x=\"-60\" y=\"-666\" dy=\"40\">512</text>\n\
-<path class=\"held\" d=\"M0 0V-0H1000V-666H2000V-666H3000V-666H4000V-666H5000V-333H6000V0z\"/>\n\
+<path class=\"held\" d=\"M0 0V-0h1000V-666h1000V-666h1000V-666h1000V-666h1000V-333h1000V0z\"/>\n\
 <path class=\"rule\" d=\"M0 166h6000\"/>\n\
 <text class=\"soft e\" x=\"-60\" y=\"166\" dy=\"40\">128</text>\n\
 <path class=\"rule\" d=\"M0 333h6000\"/>\n\
 <text class=\"soft e\" x=\"-60\" y=\"333\" dy=\"40\">256</text>\n\
-<path class=\"given\" d=\"M0 0V0H1000V0H2000V0H3000V0H4000V0H5000V333H6000V0z\"/>\n\
+<path class=\"given\" d=\"M0 0V0h1000V0h1000V0h1000V0h1000V0h1000V333h1000V0z\"/>\n\
 <path class=\"zero\" d=\"M0 0h6000\"/>\n\
 <text class=\"soft e\" x=\"-60\" y=\"0\" dy=\"40\">0</text>\n\
 </g>\n\
 </g>\n\
 </g>\n\
-<g transform=\"translate(900 3000)\">\n\
+<g transform=\"translate(900 4860)\">\n\
 <text class=\"soft e\" x=\"-60\" y=\"150\">tries</text>\n\
 <rect class=\"s4\" x=\"0\" y=\"72\" width=\"80\" height=\"80\"/>\n\
 <text class=\"ink\" x=\"130\" y=\"150\">split: most 1, last 1</text>\n\
@@ -83,13 +111,13 @@ its mean, bars its last stage.</text>\n\
 <g transform=\"translate(0 1000)\">\n\
 <path class=\"rule\" d=\"M0 -1000h6000\"/>\n\
 <text class=\"soft e\" x=\"-60\" y=\"-1000\" dy=\"40\">1</text>\n\
-<path class=\"s4\" d=\"M0 0V-0H1000V-0H2000V-0H3000V-0H4000V-0H5000V-1000H6000V0z\"/>\n\
+<path class=\"s4\" d=\"M0 0V-0h1000V-0h1000V-0h1000V-0h1000V-0h1000V-1000h1000V0z\"/>\n\
 <path class=\"zero\" d=\"M0 0h6000\"/>\n\
 <text class=\"soft e\" x=\"-60\" y=\"0\" dy=\"40\">0</text>\n\
 </g>\n\
 </g>\n\
 </g>\n\
-<g transform=\"translate(900 4360)\">\n\
+<g transform=\"translate(900 6220)\">\n\
 <text class=\"soft e\" x=\"-60\" y=\"150\">page</text>\n\
 <rect class=\"s0\" x=\"0\" y=\"72\" width=\"80\" height=\"80\"/>\n\
 <text class=\"ink\" x=\"130\" y=\"150\">allocated</text>\n\
@@ -109,7 +137,7 @@ its mean, bars its last stage.</text>\n\
 <path class=\"bar s4\" d=\"M5000 70H6000\"/>\n\
 </g>\n\
 </g>\n\
-<g transform=\"translate(900 4970)\">\n\
+<g transform=\"translate(900 6830)\">\n\
 <text class=\"soft e\" x=\"-130\" y=\"0\">event</text>\n\
 <text class=\"soft c\" x=\"0\" y=\"0\">0</text>\n\
 <text class=\"soft c\" x=\"1000\" y=\"0\">1</text>\n\
@@ -135,7 +163,7 @@ fn words_are_escaped(rt: HostRuntime) {
 fn picture_of_the_first_run(rt: HostRuntime) {
     let alloc = rt.alloc();
     let node = followed(&rt, alloc, &first_run());
-    let nodes = [DrawnNode::of(LARGE, node)];
+    let nodes = [DrawnNode::of(alloc, LARGE, node).expect(&rt, "memory")];
     let mut text = Vec::new(alloc);
     put_picture(&mut text, &nodes).expect(&rt, "memory");
     assert!(rt; text.as_slice() == PICTURE);

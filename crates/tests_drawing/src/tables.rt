@@ -6,31 +6,32 @@ use thp_model::{Event, What};
 // What a plain program outside tells of the same events.
 const TABLE: &[u8] =
     b"#node\tnode\tblocks\torder\tunderused\tlegal\twidth\tqueue-last\tin-batches-last\theld-last\tgiven-last\t\
-splits-last\tunderused-splits-last\tpinned-tries-last\tallocated-last\tpartly-mapped-last\tqueued-last\t\
+splits-last\tunderused-splits-last\tpinned-tries-last\twait-last\tallocated-last\tpartly-mapped-last\tqueued-last\t\
 in-batch-last\tsplit-last\tillegal-line\tillegal-event\n\
 #column\tnode\tfirst\tlast\tqueue-least\tqueue-greatest\tin-batches-least\tin-batches-greatest\theld-least\t\
 held-greatest\tgiven-least\tgiven-greatest\tsplits-least\tsplits-greatest\tunderused-splits-least\t\
-underused-splits-greatest\tpinned-tries-least\tpinned-tries-greatest\tallocated-sum\tpartly-mapped-sum\t\
-queued-sum\tin-batch-sum\tsplit-sum\tstages\n\
-node\t0\t16\t9\toff\t5\t1\t0\t0\t256\t256\t1\t0\t0\t0\t0\t0\t0\t1\t-\t-\n\
-column\t0\t0\t0\t0\t0\t0\t0\t0\t0\t0\t0\t0\t0\t0\t0\t0\t0\t0\t0\t0\t0\t0\t\
-------------------------------------------------------------\n\
-column\t0\t1\t1\t0\t0\t0\t0\t512\t512\t0\t0\t0\t0\t0\t0\t0\t0\t1\t0\t0\t0\t0\t\
-a-----------------------------------------------------------\n\
-column\t0\t2\t2\t0\t0\t0\t0\t512\t512\t0\t0\t0\t0\t0\t0\t0\t0\t1\t0\t0\t0\t0\t\
-a-----------------------------------------------------------\n\
-column\t0\t3\t3\t1\t1\t0\t0\t512\t512\t0\t0\t0\t0\t0\t0\t0\t0\t0\t0\t1\t0\t0\t\
-q-----------------------------------------------------------\n\
-column\t0\t4\t4\t0\t0\t1\t1\t512\t512\t0\t0\t0\t0\t0\t0\t0\t0\t0\t0\t0\t1\t0\t\
-b-----------------------------------------------------------\n\
-column\t0\t5\t5\t0\t0\t0\t0\t256\t256\t256\t256\t1\t1\t0\t0\t0\t0\t0\t0\t0\t0\t1\t\
-s-----------------------------------------------------------\n";
+underused-splits-greatest\tpinned-tries-least\tpinned-tries-greatest\twait-least\twait-greatest\t\
+allocated-sum\tpartly-mapped-sum\tqueued-sum\tin-batch-sum\tsplit-sum\tstages\tcallers\n\
+#stuck\tnode\tpage\tfinds\tsince\n\
+node\t0\t16\t9\toff\t5\t1\t0\t0\t256\t256\t1\t0\t0\t0\t0\t0\t0\t0\t1\t-\t-\n\
+column\t0\t0\t0\t0\t0\t0\t0\t0\t0\t0\t0\t0\t0\t0\t0\t0\t0\t0\t0\t0\t0\t0\t0\t0\t\
+------------------------------------------------------------\t-\n\
+column\t0\t1\t1\t0\t0\t0\t0\t512\t512\t0\t0\t0\t0\t0\t0\t0\t0\t0\t0\t1\t0\t0\t0\t0\t\
+a-----------------------------------------------------------\t-\n\
+column\t0\t2\t2\t0\t0\t0\t0\t512\t512\t0\t0\t0\t0\t0\t0\t0\t0\t0\t0\t1\t0\t0\t0\t0\t\
+a-----------------------------------------------------------\t-\n\
+column\t0\t3\t3\t1\t1\t0\t0\t512\t512\t0\t0\t0\t0\t0\t0\t0\t0\t1\t1\t0\t0\t1\t0\t0\t\
+q-----------------------------------------------------------\t-\n\
+column\t0\t4\t4\t0\t0\t1\t1\t512\t512\t0\t0\t0\t0\t0\t0\t0\t0\t2\t2\t0\t0\t0\t1\t0\t\
+b-----------------------------------------------------------\t0\n\
+column\t0\t5\t5\t0\t0\t0\t0\t256\t256\t256\t256\t1\t1\t0\t0\t0\t0\t0\t0\t0\t0\t0\t0\t1\t\
+s-----------------------------------------------------------\t-\n";
 
 #[test]
 fn table_of_the_first_run(rt: HostRuntime) {
     let alloc = rt.alloc();
     let node = followed(&rt, alloc, &first_run());
-    let nodes = [DrawnNode::of(LARGE, node)];
+    let nodes = [DrawnNode::of(alloc, LARGE, node).expect(&rt, "memory")];
     let mut text = Vec::new(alloc);
     put_table(&mut text, &nodes).expect(&rt, "memory");
     assert!(rt; text.as_slice() == TABLE);
@@ -38,9 +39,9 @@ fn table_of_the_first_run(rt: HostRuntime) {
 
 // The lines of a node whose first event, in line 3, takes a page that was never allocated.
 const ILLEGAL: &[u8] =
-    b"node\t0\t16\t9\toff\t0\t1\t0\t0\t0\t0\t0\t0\t0\t0\t0\t0\t0\t0\t3\t0 taken 0\n\
-column\t0\t0\t0\t0\t0\t0\t0\t0\t0\t0\t0\t0\t0\t0\t0\t0\t0\t0\t0\t0\t0\t0\t\
-------------------------------------------------------------\n";
+    b"node\t0\t16\t9\toff\t0\t1\t0\t0\t0\t0\t0\t0\t0\t0\t0\t0\t0\t0\t0\t3\t0 taken 0\n\
+column\t0\t0\t0\t0\t0\t0\t0\t0\t0\t0\t0\t0\t0\t0\t0\t0\t0\t0\t0\t0\t0\t0\t0\t0\t\
+------------------------------------------------------------\t-\n";
 
 #[test]
 fn table_tells_the_illegal_event(rt: HostRuntime) {
@@ -54,7 +55,14 @@ fn table_tells_the_illegal_event(rt: HostRuntime) {
             what: What::Taken { page: PAGE },
         },
     };
-    let nodes = [DrawnNode::from_columns(LARGE, node.into_columns(), numbers, Some(illegal))];
+    let stuck = Vec::new(alloc);
+    let nodes = [DrawnNode::from_columns(
+        LARGE,
+        node.into_columns(),
+        numbers,
+        Some(illegal),
+        stuck,
+    )];
     let mut text = Vec::new(alloc);
     put_table(&mut text, &nodes).expect(&rt, "memory");
     assert!(rt; text.as_slice().ends_with(ILLEGAL));

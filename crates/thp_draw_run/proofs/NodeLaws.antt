@@ -10,6 +10,8 @@ use Rattle.thp_journal_reader.specs.declared.journals.NodeJournal.{NodeJournal}
 use Rattle.thp_journal_reader.specs.declared.numbered.NumberedNode.{NumberedNode}
 use Rattle.thp_journal_reader.specs.Answers.{IsFirstIllegalEvent, TellsFirst}
 use Rattle.thp_journal_reader.specs.Numbered.{AreNumbered, IsNumbered}
+use Rattle.thp_series.specs.Stuck.{AreStuck}
+use Rattle.thp_series.specs.declared.stuck_page.StuckPage.{StuckPage}
 use Rattle.thp_series.specs.declared.numbers.Numbers.{Numbers}
 use Rattle.thp_draw_run.specs.Making.{told_of, AreMadeOf, IsMadeOf}
 use Rattle.thp_draw_run.specs.Nodes.{AreDrawnOf, IsDrawnOf, IsOwnIllegal, TellsOwn}
@@ -55,6 +57,7 @@ own_of node (Some illegal) first = own_illegal node illegal first
 drawn_of_one : (node : NodeJournal) (kept : NumberedNode) (drawn : DrawnNode) → IsNumbered node kept → IsMadeOf kept drawn → IsDrawnOf node drawn
 drawn_of_one node kept drawn numbered made =
     let P : List Numbers → Type 0 = λ ns. AreColumnsOf ns drawn in
+    let R : List StuckPage → Type 0 = λ pages. AreStuck node.shape numbered.front pages in
     let Q : Option IllegalEvent → Type 0 = λ illegal. TellsOwn node illegal in
     record {
       front = numbered.front;
@@ -63,6 +66,7 @@ drawn_of_one node kept drawn numbered made =
       columns_are = subst P numbered.columns_are made.columns_are;
       last_is = made.last_is ∙ numbered.numbers_are;
       illegal_is = subst Q (sym made.illegal_is) (own_of node kept.illegal numbered.first);
+      stuck_are = subst R (sym made.stuck_is) numbered.stuck_are;
     }
 
 pub drawn_of_all : (nodes : List NodeJournal) (kept : List NumberedNode) (drawn : List DrawnNode) → AreNumbered nodes kept → AreMadeOf kept drawn → AreDrawnOf nodes drawn

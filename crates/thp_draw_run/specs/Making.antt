@@ -17,6 +17,7 @@ pub record IsMadeOf (node : NumberedNode) (drawn : DrawnNode) : Type 0 where
   pub columns_are : AreColumnsOf node.columns drawn
   pub last_is : drawn.last ≡ node.numbers
   pub illegal_is : drawn.illegal ≡ told_of node.illegal
+  pub stuck_is : drawn.stuck.items ≡ node.stuck.items
 
 -- they are drawn of these nodes, in order
 abbrev pub AreMadeOf : List NumberedNode → List DrawnNode → Type 0

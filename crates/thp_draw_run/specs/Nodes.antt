@@ -8,6 +8,7 @@ use Rattle.thp_journal_reader.specs.Answers.{IsFirstIllegal, IsLegalNode}
 use Rattle.thp_journal_reader.specs.Summaries.{IsLegalFront}
 use Rattle.thp_model.specs.History.{History}
 use Rattle.thp_series.specs.Series.{numbers_at, series}
+use Rattle.thp_series.specs.Stuck.{AreStuck}
 
 -- it is the node's first illegal event, on the line that tells it
 pub record IsOwnIllegal (node : NodeJournal) (illegal : IllegalEvent) : Type 0 where
@@ -27,6 +28,7 @@ pub record IsDrawnOf (node : NodeJournal) (drawn : DrawnNode) : Type 0 where
   pub columns_are : AreColumnsOf (series node.shape front) drawn
   pub last_is : drawn.last ≡ numbers_at node.shape front
   pub illegal_is : TellsOwn node drawn.illegal
+  pub stuck_are : AreStuck node.shape front drawn.stuck.items
 
 -- they are drawn of these nodes, in order
 abbrev pub AreDrawnOf : List NodeJournal → List DrawnNode → Type 0

@@ -9,9 +9,10 @@ length: memory is taken for what lives on one node, and for at most 600 columns 
 
     thpsplit --report journal < SCRIPT | thpdraw > picture.svg
 
-Each node is drawn over its events, from left to right: how many pages are queued and in batches, how many frames are held and
-were given back, and the life of each page as a bar, or of more than 60 pages how many are in each stage. Of a node with an
-illegal event all stands up to its first.
+Each node is drawn over its events, from left to right: how many pages are queued and in batches, when each caller had pages in
+its batch, how long the oldest page has waited, how many frames are held and were given back, and the life of each page as a
+bar, or of more than 60 pages how many are in each stage. Above stand the pages that pins keep from being split. Of a node with
+an illegal event all stands up to its first.
 
 With --progress, and also without it where standard error is a terminal and a second has passed, standard error shows how far
 the reading is, a line a second, which is taken away before anything is written:

@@ -24,7 +24,7 @@ fn drawn_of(node: NumberedNode) -> DrawnNode
     ensures { IsMadeOf node result }
 {
     let illegal = told_of(&node.illegal);
-    DrawnNode::from_columns(node.shape, node.columns, node.numbers, illegal)
+    DrawnNode::from_columns(node.shape, node.columns, node.numbers, illegal, node.stuck)
 }
 
 /// What is drawn of nodes, in order.

@@ -40,3 +40,8 @@ pub five_behind : (t a b c d e : List ℕ) {u v w x : List ℕ}
     → u ≡ t ++ a → v ≡ u ++ b → w ≡ v ++ c → x ≡ w ++ d → x ++ e ≡ t ++ (a ++ b ++ c ++ d ++ e)
 five_behind t a b c d e p q r s =
     ap (λ y. y ++ e) (s ∙ ap (λ y. y ++ d) (r ∙ ap (λ y. y ++ c) (q ∙ ap (λ y. y ++ b) p))) ∙ five t a b c d e
+
+pub six_behind : (t a b c d e f : List ℕ) {u v w x y : List ℕ}
+    → u ≡ t ++ a → v ≡ u ++ b → w ≡ v ++ c → x ≡ w ++ d → y ≡ x ++ e → y ++ f ≡ t ++ (a ++ b ++ c ++ d ++ e ++ f)
+six_behind t a b c d e f p q r s o =
+    ap (λ z. z ++ f) (o ∙ ap (λ z. z ++ e) (s ∙ ap (λ z. z ++ d) (r ∙ ap (λ z. z ++ c) (q ∙ ap (λ z. z ++ b) p)))) ∙ six t a b c d e f

@@ -1,5 +1,5 @@
 -- Areas over a node's columns, 6,000 wide and at most 1,000 high. The sign says whether they go up (`-`) or down.
-use Rattle.std.specs.Prelude.{ℕ, ◌+◌, List, [], ◌∷◌, ◌++◌, length, codes, if◌then◌else◌, nat_eq}
+use Rattle.std.specs.Prelude.{ℕ, ◌+◌, ◌-◌, List, [], ◌∷◌, ◌++◌, length, codes, if◌then◌else◌, nat_eq}
 use Rattle.std.specs.Fmt.{decimal}
 use Rattle.thp_series.specs.declared.column.Column.{Column}
 use Rattle.thp_series.specs.declared.span.Span.{Span}
@@ -11,14 +11,18 @@ use Rattle.thp_drawing.specs.declared.quantity.Edge.{Edge}
 use Rattle.thp_drawing.specs.declared.quantity.Edge.TheVariants.{Least, Greatest}
 use Rattle.thp_drawing.specs.declared.quantity.Quantity.{Quantity}
 
--- to this height, and on to this place
+-- to this height, and on so far
 unfoldable pub step_to : List ℕ → ℕ → ℕ → List ℕ
-step_to sign high x = codes "V" ++ sign ++ decimal high ++ codes "H" ++ decimal x
+step_to sign high wide = codes "V" ++ sign ++ decimal high ++ codes "h" ++ decimal wide
 
--- the outline over columns from column j on, of n in all: to each column's height, and on to where the next begins
+-- how wide column j of n is: from its place to that of the next
+abbrev pub column_width : ℕ → ℕ → ℕ
+column_width n j = scaled 6000 (j + 1) n - scaled 6000 j n
+
+-- the outline over columns from column j on, of n in all: to each column's height, and on by its width
 abbrev pub outline : List ℕ → (ℕ → Column → ℕ) → ℕ → ℕ → List Column → List ℕ
 outline sign height n j [] = []
-outline sign height n j (c ∷ more) = step_to sign (height j c) (scaled 6000 (j + 1) n) ++ outline sign height n (j + 1) more
+outline sign height n j (c ∷ more) = step_to sign (height j c) (column_width n j) ++ outline sign height n (j + 1) more
 
 -- the number of a span that an area reaches
 abbrev pub edge_of : Edge → Span → ℕ

@@ -1,12 +1,13 @@
 -- Bars: lines over those of a node's columns at which something holds.
-use Rattle.std.specs.Prelude.{ℕ, ◌+◌, Bool, true, false, List, [], ◌∷◌, ◌++◌, length, Option, Some, None, codes, nat_eq, slice_index_or}
+use Rattle.std.specs.Prelude.{ℕ, ◌+◌, ◌/◌, ◌%◌, ◌^◌, ◌&&◌, Bool, true, false, List, [], ◌∷◌, ◌++◌, length, Option, Some, None, codes, nat_eq, nat_lt, slice_index_or}
 use Rattle.std.specs.Fmt.{decimal}
 use Rattle.thp_series.specs.declared.column.Column.{Column}
 use Rattle.thp_series.specs.declared.stage.Stage.{Stage}
 use Rattle.thp_series.specs.declared.stage.Stage.TheVariants.{Allocated, PartlyMapped, Queued, InBatch, Split}
+use Rattle.thp_series.specs.Waits.{shown_callers}
 use Rattle.thp_drawing.specs.Scales.{scaled}
 use Rattle.thp_drawing.specs.declared.bar.Bar.{Bar}
-use Rattle.thp_drawing.specs.declared.bar.Bar.TheVariants.{PageIn}
+use Rattle.thp_drawing.specs.declared.bar.Bar.TheVariants.{PageIn, BatchOf}
 
 -- the number of a stage; that of no stage is 0
 abbrev pub stage_number : Option Stage → ℕ
@@ -21,9 +22,14 @@ stage_number (Some Split) = 5
 abbrev pub stage_in : ℕ → List (Option Stage) → Option Stage
 stage_in p stages = slice_index_or stages p None
 
--- a bar covers the columns at which this holds: the page is in the stage
+-- caller c is among those that are told as bits
+abbrev pub is_among : ℕ → ℕ → Bool
+is_among c callers = nat_lt c shown_callers && nat_eq (callers / 2 ^ c % 2) 1
+
+-- a bar covers the columns at which this holds: the page is in the stage, or the caller has pages in its batch
 abbrev pub covers : Bar → Column → Bool
 covers (PageIn x p) c = nat_eq (stage_number (stage_in p c.stages)) (stage_number (Some x))
+covers (BatchOf caller) c = is_among caller c.callers
 
 unfoldable pub line_start : ℕ → ℕ → List ℕ
 line_start y x = codes "M" ++ decimal x ++ codes " " ++ decimal y

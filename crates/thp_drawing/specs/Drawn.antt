@@ -5,6 +5,7 @@ use Rattle.thp_model.specs.History.{History}
 use Rattle.thp_series.specs.declared.numbers.Numbers.{Numbers}
 use Rattle.thp_series.specs.Columns.{columns_of, IsWidth}
 use Rattle.thp_series.specs.Series.{numbers_at, series}
+use Rattle.thp_series.specs.Stuck.{AreStuck}
 use Rattle.thp_drawing.specs.declared.node.DrawnNode.{DrawnNode}
 
 -- the columns are those of these prefixes
@@ -19,3 +20,4 @@ pub record IsDrawn (s : Shape) (h : History) (node : DrawnNode) : Type 0 where
   pub columns : AreColumnsOf (series s h) node
   pub last : node.last ≡ numbers_at s h
   pub illegal : node.illegal ≡ None
+  pub stuck : AreStuck s h node.stuck.items

@@ -4,6 +4,7 @@ pub mod Bars
 pub mod Drawn
 pub mod Elements
 pub mod Escapes
+pub mod Lanes
 pub mod Laws
 pub mod Overviews
 pub mod Panels
@@ -11,6 +12,7 @@ pub mod Pictures
 pub mod Quantities
 pub mod Rows
 pub mod Scales
+pub mod Stucks
 pub mod Styles
 pub mod Tables
 pub mod Titles

@@ -11,19 +11,21 @@ use Rattle.thp_drawing.specs.Quantities.{stage_class, stage_name}
 use Rattle.thp_drawing.specs.Scales.{doubled_steps, plus, round_steps, scaled, step_among, steps_in}
 use Rattle.thp_drawing.specs.declared.node.DrawnNode.{DrawnNode}
 use Rattle.thp_drawing.specs.declared.quantity.Quantity.{Quantity}
-use Rattle.thp_drawing.specs.declared.quantity.Quantity.TheVariants.{Queue, InBatches, Held, Given, Splits, PinnedTries, UnderusedSplits, Nothing}
+use Rattle.thp_drawing.specs.declared.quantity.Quantity.TheVariants.{Queue, InBatches, Held, Given, Splits, PinnedTries, UnderusedSplits, Wait, Nothing}
 use Rattle.thp_drawing.specs.declared.panel.Panel.{Panel}
-use Rattle.thp_drawing.specs.declared.panel.Panel.TheVariants.{Pages, Frames, Tries, Underused}
+use Rattle.thp_drawing.specs.declared.panel.Panel.TheVariants.{Pages, Waits, Frames, Tries, Underused}
 
 -- what a panel draws upwards, and what downwards
 abbrev pub up_of : Panel → Quantity
 up_of Pages = Queue
+up_of Waits = Wait
 up_of Frames = Held
 up_of Tries = Splits
 up_of Underused = UnderusedSplits
 
 abbrev pub down_of : Panel → Quantity
 down_of Pages = InBatches
+down_of Waits = Nothing
 down_of Frames = Given
 down_of Tries = PinnedTries
 down_of Underused = Nothing
@@ -31,6 +33,7 @@ down_of Underused = Nothing
 -- its unit, beside its title
 abbrev pub unit_text : Panel → List ℕ
 unit_text Pages = codes "<text class=\"soft e\" x=\"-60\" y=\"150\">pages</text>\n"
+unit_text Waits = codes "<text class=\"soft e\" x=\"-60\" y=\"150\">events</text>\n"
 unit_text Frames = codes "<text class=\"soft e\" x=\"-60\" y=\"150\">frames</text>\n"
 unit_text Tries = codes "<text class=\"soft e\" x=\"-60\" y=\"150\">tries</text>\n"
 unit_text Underused = codes "<text class=\"soft e\" x=\"-60\" y=\"150\">tries</text>\n"
@@ -38,6 +41,7 @@ unit_text Underused = codes "<text class=\"soft e\" x=\"-60\" y=\"150\">tries</t
 -- the step of its numbers up to n
 abbrev pub panel_step : Panel → ℕ → ℕ
 panel_step Pages n = step_among round_steps n
+panel_step Waits n = step_among round_steps n
 panel_step Frames n = step_among doubled_steps n
 panel_step Tries n = step_among round_steps n
 panel_step Underused n = step_among round_steps n

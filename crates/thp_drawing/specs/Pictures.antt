@@ -3,28 +3,40 @@ use Rattle.std.specs.Prelude.{ℕ, ◌+◌, List, [], ◌∷◌, ◌++◌, Optio
 use Rattle.std.specs.Fmt.{decimal}
 use Rattle.thp_drawing.specs.Axes.{event_axis}
 use Rattle.thp_drawing.specs.Elements.{group_end, group_start, text_at}
+use Rattle.thp_drawing.specs.Lanes.{lanes_height, lanes_panel}
 use Rattle.thp_drawing.specs.Overviews.{overview, overview_foot}
 use Rattle.thp_drawing.specs.Panels.{panel_at, panel_most, stages_panel}
 use Rattle.thp_drawing.specs.Quantities.{pages_most}
 use Rattle.thp_drawing.specs.Rows.{allocated_pages, has_rows, rows_height, rows_panel}
 use Rattle.thp_drawing.specs.Scales.{plus}
+use Rattle.thp_drawing.specs.Stucks.{stuck_height, stuck_text}
 use Rattle.thp_drawing.specs.Styles.{style}
 use Rattle.thp_drawing.specs.Titles.{illegal_text, node_words}
 use Rattle.thp_drawing.specs.declared.illegal_event.IllegalEvent.{IllegalEvent}
 use Rattle.thp_drawing.specs.declared.node.DrawnNode.{DrawnNode}
-use Rattle.thp_drawing.specs.declared.panel.Panel.TheVariants.{Pages, Frames, Tries, Underused}
+use Rattle.thp_drawing.specs.declared.panel.Panel.TheVariants.{Pages, Waits, Frames, Tries, Underused}
 
 -- the height of a panel whose greatest number is this
 abbrev pub height_of : ℕ → ℕ
 height_of most = if nat_eq most 0 then 0 else 1360
 
--- where the panels of a node begin, below its first illegal event
-abbrev pub pages_top : Option IllegalEvent → ℕ
-pages_top None = 280
-pages_top (Some illegal) = 460
+-- where what is said of a node's stuck pages begins, below its first illegal event
+abbrev pub stuck_top : Option IllegalEvent → ℕ
+stuck_top None = 280
+stuck_top (Some illegal) = 460
+
+-- where its panels begin
+abbrev pub pages_top : DrawnNode → ℕ
+pages_top d = plus (stuck_top d.illegal) (stuck_height d)
+
+abbrev pub lanes_top : DrawnNode → ℕ
+lanes_top d = plus (pages_top d) (height_of (panel_most Pages d))
+
+abbrev pub waits_top : DrawnNode → ℕ
+waits_top d = plus (lanes_top d) (lanes_height d)
 
 abbrev pub frames_top : DrawnNode → ℕ
-frames_top d = plus (pages_top d.illegal) (height_of (panel_most Pages d))
+frames_top d = plus (waits_top d) (height_of (panel_most Waits d))
 
 abbrev pub tries_top : DrawnNode → ℕ
 tries_top d = plus (frames_top d) (height_of (panel_most Frames d))
@@ -51,13 +63,14 @@ node_height d = plus (axis_top d) 300
 -- the panels of a node
 unfoldable pub panels_drawn : DrawnNode → List ℕ
 panels_drawn d =
-    panel_at Pages (pages_top d.illegal) d ++ panel_at Frames (frames_top d) d ++ panel_at Tries (tries_top d) d
+    panel_at Pages (pages_top d) d ++ lanes_panel (lanes_top d) d ++ panel_at Waits (waits_top d) d ++ panel_at Frames (frames_top d) d ++ panel_at Tries (tries_top d) d
     ++ panel_at Underused (underused_top d) d ++ lives_drawn (lives_top d) d
 
 -- node n, from this height on
 unfoldable pub node_drawn : ℕ → ℕ → DrawnNode → List ℕ
 node_drawn y n d =
-    group_start 0 y ++ text_at (codes "ink h") 150 240 (node_words n d) ++ illegal_text d.illegal ++ panels_drawn d
+    group_start 0 y ++ text_at (codes "ink h") 150 240 (node_words n d) ++ illegal_text d.illegal
+    ++ stuck_text (plus (stuck_top d.illegal) 140) d ++ panels_drawn d
     ++ event_axis (plus (axis_top d) 110) d ++ group_end
 
 -- nodes from node n on, one below the other

@@ -9,7 +9,7 @@ use Rattle.thp_series.specs.declared.stage.Stage.TheVariants.{Allocated, PartlyM
 use Rattle.thp_drawing.specs.Scales.{plus, times}
 use Rattle.thp_drawing.specs.declared.node.DrawnNode.{DrawnNode}
 use Rattle.thp_drawing.specs.declared.quantity.Quantity.{Quantity}
-use Rattle.thp_drawing.specs.declared.quantity.Quantity.TheVariants.{Queue, InBatches, Held, Given, Splits, PinnedTries, UnderusedSplits, Nothing}
+use Rattle.thp_drawing.specs.declared.quantity.Quantity.TheVariants.{Queue, InBatches, Held, Given, Splits, PinnedTries, UnderusedSplits, Wait, Nothing}
 
 -- the name of a quantity
 abbrev pub quantity_name : Quantity → List ℕ
@@ -20,6 +20,7 @@ quantity_name Given = codes "given back"
 quantity_name Splits = codes "split"
 quantity_name PinnedTries = codes "found pinned"
 quantity_name UnderusedSplits = codes "split as underused"
+quantity_name Wait = codes "the oldest page has waited"
 quantity_name Nothing = []
 
 -- its class; some have the colours of stages
@@ -31,6 +32,7 @@ quantity_class Given = codes "given"
 quantity_class Splits = codes "s4"
 quantity_class PinnedTries = codes "pin"
 quantity_class UnderusedSplits = codes "s1"
+quantity_class Wait = codes "wait"
 quantity_class Nothing = []
 
 -- its least and its greatest number in a column
@@ -42,6 +44,7 @@ span_in Given c = c.given
 span_in Splits c = c.splits
 span_in PinnedTries c = c.pinned_tries
 span_in UnderusedSplits c = c.underused_splits
+span_in Wait c = c.wait
 span_in Nothing c = record { least = 0; greatest = 0 }
 
 -- its number behind the last event
@@ -53,6 +56,7 @@ last_of Given n = n.given
 last_of Splits n = n.splits
 last_of PinnedTries n = n.pinned_tries
 last_of UnderusedSplits n = n.underused_splits
+last_of Wait n = n.wait
 last_of Nothing n = 0
 
 -- its greatest number in any column

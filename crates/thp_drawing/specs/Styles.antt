@@ -12,13 +12,13 @@ unfoldable pub size_rules : List ℕ
 size_rules =
     codes ".h{font-size:150px;font-weight:600}.hh{font-size:190px;font-weight:600}.e{text-anchor:end}.c{text-anchor:middle}\n"
     ++ codes "path{shape-rendering:crispEdges}.pale{fill-opacity:.35}.rule,.zero{fill:none;shape-rendering:auto;stroke-width:6}\n"
-    ++ codes ".s0,.s1,.s2,.s3,.s4{fill:currentColor}.bar{fill:none;stroke:currentColor;stroke-width:90}.thin{stroke-width:60}\n"
+    ++ codes ".s0,.s1,.s2,.s3,.s4{fill:currentColor}.bar,.lane{fill:none;stroke:currentColor;stroke-width:90}.thin{stroke-width:60}\n"
 
 -- on a light ground: letters, lines, and frames
 unfoldable pub light_inks : List ℕ
 light_inks =
     codes "svg{background:#ffffff}.bg{fill:#ffffff}.ink{fill:#1c2128}.soft{fill:#5d6673}.bad{fill:#c8102e}\n"
-    ++ codes ".rule{stroke:#e4e7ec}.zero{stroke:#1c2128}.held{fill:#64748b}.given{fill:#a4582a}.pin{fill:#868d97}\n"
+    ++ codes ".rule{stroke:#e4e7ec}.zero{stroke:#1c2128}.held{fill:#64748b}.given{fill:#a4582a}.pin,.wait{fill:#868d97}\n"
 
 -- the stages of pages; queue and batches have the colours of theirs
 unfoldable pub light_stages : List ℕ
@@ -29,7 +29,7 @@ light_stages =
 unfoldable pub dark_inks : List ℕ
 dark_inks =
     codes "svg{background:#14171c}.bg{fill:#14171c}.ink{fill:#e8ebf0}.soft{fill:#a3acb9}.bad{fill:#ff6b78}\n"
-    ++ codes ".rule{stroke:#2a3038}.zero{stroke:#e8ebf0}.held{fill:#8b9ab0}.given{fill:#d28a55}.pin{fill:#7f8793}\n"
+    ++ codes ".rule{stroke:#2a3038}.zero{stroke:#e8ebf0}.held{fill:#8b9ab0}.given{fill:#d28a55}.pin,.wait{fill:#7f8793}\n"
 
 -- the stages
 unfoldable pub dark_stages : List ℕ

@@ -1,6 +1,6 @@
 -- The numbers of nodes as a table: lines of fields that are parted by tabs, the first of which says what the line tells (this
 -- project's format).
-use Rattle.std.specs.Prelude.{ℕ, ◌+◌, ◌*◌, ◌-◌, min, List, [], ◌∷◌, ◌++◌, Option, Some, None, codes}
+use Rattle.std.specs.Prelude.{ℕ, zero, suc, ◌+◌, ◌*◌, ◌-◌, ◌%◌, ◌^◌, min, List, [], ◌∷◌, ◌++◌, Option, Some, None, codes, if◌then◌else◌, nat_eq}
 use Rattle.std.specs.Fmt.{decimal}
 use Rattle.thp_journal_writer.specs.EventLines.{event_line}
 use Rattle.thp_journal_writer.specs.Journals.{ended}
@@ -8,6 +8,9 @@ use Rattle.thp_drawing.specs.declared.illegal_event.IllegalEvent.{IllegalEvent}
 use Rattle.thp_series.specs.declared.column.Column.{Column}
 use Rattle.thp_series.specs.declared.stage.Stage.{Stage}
 use Rattle.thp_series.specs.declared.stage.Stage.TheVariants.{Allocated, PartlyMapped, Queued, InBatch, Split}
+use Rattle.thp_series.specs.declared.stuck_page.StuckPage.{StuckPage}
+use Rattle.thp_series.specs.Waits.{shown_callers}
+use Rattle.thp_drawing.specs.Bars.{is_among}
 use Rattle.thp_drawing.specs.declared.node.DrawnNode.{DrawnNode}
 
 -- numbers, each behind a tab
@@ -26,7 +29,7 @@ column_numbers c =
     c.queue.least ∷ c.queue.greatest ∷ c.in_batches.least ∷ c.in_batches.greatest
     ∷ c.held.least ∷ c.held.greatest ∷ c.given.least ∷ c.given.greatest
     ∷ c.splits.least ∷ c.splits.greatest ∷ c.underused_splits.least ∷ c.underused_splits.greatest
-    ∷ c.pinned_tries.least ∷ c.pinned_tries.greatest
+    ∷ c.pinned_tries.least ∷ c.pinned_tries.greatest ∷ c.wait.least ∷ c.wait.greatest
     ∷ c.pages.allocated ∷ c.pages.partly_mapped ∷ c.pages.queued ∷ c.pages.in_batch ∷ c.pages.split ∷ []
 
 -- a page's stage as a letter; a page that doesn't live has none
@@ -42,10 +45,29 @@ abbrev pub stage_letters : List (Option Stage) → List ℕ
 stage_letters [] = []
 stage_letters (stage ∷ more) = stage_letter stage ++ stage_letters more
 
--- the line of a column of node n, with its first and its last prefix; last the stages of the pages that were allocated first
+-- caller c, if it is among these, behind a comma if a lesser one is
+abbrev pub caller_item : ℕ → ℕ → List ℕ
+caller_item callers c =
+    if is_among c callers then (if nat_eq (callers % 2 ^ c) 0 then [] else codes ",") ++ decimal c else []
+
+-- those of the first k callers that are among these
+abbrev pub caller_items : ℕ → ℕ → List ℕ
+caller_items callers zero = []
+caller_items callers (suc k) = caller_items callers k ++ caller_item callers k
+
+-- callers that are told as bits
+unfoldable pub callers_joined : ℕ → List ℕ
+callers_joined callers = caller_items callers shown_callers
+
+abbrev pub caller_words : ℕ → List ℕ
+caller_words callers = if nat_eq callers 0 then codes "-" else callers_joined callers
+
+-- the line of a column of node n, with its first and its last prefix; last the stages of the pages that were allocated first,
+-- and the callers that had pages in their batches
 unfoldable pub column_line : ℕ → ℕ → ℕ → Column → List ℕ
 column_line n first last c =
-    codes "column" ++ fields (n ∷ first ∷ last ∷ []) ++ fields (column_numbers c) ++ codes "\t" ++ stage_letters c.stages ++ codes "\n"
+    codes "column" ++ fields (n ∷ first ∷ last ∷ []) ++ fields (column_numbers c) ++ codes "\t" ++ stage_letters c.stages
+    ++ codes "\t" ++ caller_words c.callers ++ codes "\n"
 
 -- the lines of columns from column j on, w prefixes each of so many in all
 abbrev pub column_lines : ℕ → ℕ → ℕ → ℕ → List Column → List ℕ
@@ -57,7 +79,7 @@ column_lines n w prefixes j (c ∷ more) =
 unfoldable pub node_numbers : DrawnNode → List ℕ
 node_numbers d =
     (d.prefixes - 1) ∷ d.width ∷ d.last.queue ∷ d.last.in_batches ∷ d.last.held ∷ d.last.given
-    ∷ d.last.splits ∷ d.last.underused_splits ∷ d.last.pinned_tries
+    ∷ d.last.splits ∷ d.last.underused_splits ∷ d.last.pinned_tries ∷ d.last.wait
     ∷ d.last.pages.allocated ∷ d.last.pages.partly_mapped ∷ d.last.pages.queued ∷ d.last.pages.in_batch ∷ d.last.pages.split ∷ []
 
 -- the number of the line of the journal's text that tells the first illegal event, and that line, whose end ends the node's own
@@ -71,9 +93,17 @@ node_line n d =
     codes "node" ++ fields (n ∷ d.shape.blocks ∷ d.shape.order ∷ []) ++ threshold_field d.shape.underused
     ++ fields (node_numbers d) ++ illegal_fields d.illegal
 
--- the lines of node n: its own, and those of its columns
+-- the line of a stuck page of node n: how often it was found pinned, and since which event it waits
+abbrev pub stuck_line : ℕ → StuckPage → List ℕ
+stuck_line n x = codes "stuck" ++ fields (n ∷ x.page ∷ x.finds ∷ x.since ∷ []) ++ codes "\n"
+
+abbrev pub stuck_lines : ℕ → List StuckPage → List ℕ
+stuck_lines n [] = []
+stuck_lines n (x ∷ more) = stuck_line n x ++ stuck_lines n more
+
+-- the lines of node n: its own, those of its columns, and those of its stuck pages
 unfoldable pub node_lines : ℕ → DrawnNode → List ℕ
-node_lines n d = node_line n d ++ column_lines n d.width d.prefixes 0 d.columns.items
+node_lines n d = node_line n d ++ column_lines n d.width d.prefixes 0 d.columns.items ++ stuck_lines n d.stuck.items
 
 -- the lines of nodes from node n on
 abbrev pub lines_from : ℕ → List DrawnNode → List ℕ
@@ -83,8 +113,9 @@ lines_from n (d ∷ more) = node_lines n d ++ lines_from (n + 1) more
 -- the names of the fields
 unfoldable pub heads : List ℕ
 heads =
-    codes "#node\tnode\tblocks\torder\tunderused\tlegal\twidth\tqueue-last\tin-batches-last\theld-last\tgiven-last\tsplits-last\tunderused-splits-last\tpinned-tries-last\tallocated-last\tpartly-mapped-last\tqueued-last\tin-batch-last\tsplit-last\tillegal-line\tillegal-event\n"
-    ++ codes "#column\tnode\tfirst\tlast\tqueue-least\tqueue-greatest\tin-batches-least\tin-batches-greatest\theld-least\theld-greatest\tgiven-least\tgiven-greatest\tsplits-least\tsplits-greatest\tunderused-splits-least\tunderused-splits-greatest\tpinned-tries-least\tpinned-tries-greatest\tallocated-sum\tpartly-mapped-sum\tqueued-sum\tin-batch-sum\tsplit-sum\tstages\n"
+    codes "#node\tnode\tblocks\torder\tunderused\tlegal\twidth\tqueue-last\tin-batches-last\theld-last\tgiven-last\tsplits-last\tunderused-splits-last\tpinned-tries-last\twait-last\tallocated-last\tpartly-mapped-last\tqueued-last\tin-batch-last\tsplit-last\tillegal-line\tillegal-event\n"
+    ++ codes "#column\tnode\tfirst\tlast\tqueue-least\tqueue-greatest\tin-batches-least\tin-batches-greatest\theld-least\theld-greatest\tgiven-least\tgiven-greatest\tsplits-least\tsplits-greatest\tunderused-splits-least\tunderused-splits-greatest\tpinned-tries-least\tpinned-tries-greatest\twait-least\twait-greatest\tallocated-sum\tpartly-mapped-sum\tqueued-sum\tin-batch-sum\tsplit-sum\tstages\tcallers\n"
+    ++ codes "#stuck\tnode\tpage\tfinds\tsince\n"
 
 -- the table of nodes
 abbrev pub table_text : List DrawnNode → List ℕ

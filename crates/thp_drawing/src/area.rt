@@ -1,7 +1,7 @@
 //! Areas over a node's columns.
-ghost use Rattle.std.specs.Prelude.{◌≡◌, ◌++◌, length, codes, OnOk};
+ghost use Rattle.std.specs.Prelude.{◌≡◌, ◌<◌, ◌^◌, ◌++◌, length, codes, OnOk};
 ghost use Rattle.std.specs.Fmt.{decimal};
-ghost use Rattle.thp_drawing.specs.Areas.{outline, quantity_area, quantity_areas, quantity_height};
+ghost use Rattle.thp_drawing.specs.Areas.{column_width, outline, quantity_area, quantity_areas, quantity_height};
 ghost use Rattle.thp_drawing.specs.Areas.{stage_area, stage_drawn, stage_height, step_to};
 
 use crate::element::put_decimal;
@@ -76,21 +76,29 @@ fn put_quantity_outline(
     let count = columns.len() as u128;
     for (place, column) in columns.iter().enumerate() {
         let high = scaled(1000, edge.of(quantity.span(column)), most);
-        put_step(text, sign, high, scaled(6000, place as u128 + 1, count))?;
+        put_step(text, sign, high, column_width(count, place as u128))?;
     }
     Ok(())
 }
 
-// To this height, and on to this place.
+// How wide the column at this place is, of so many: from its place to that of the next.
+fn column_width(count: u128, place: u128) -> u128
+    requires { place < 2 ^ 64 }
+    ensures { result ≡ column_width count place }
+{
+    scaled(6000, place + 1, count).saturating_sub(scaled(6000, place, count))
+}
+
+// To this height, and on so far.
 #[tactic(auto, using(crate::proofs::Pieces::five), unfolding(crate::specs::Areas::step_to))]
-fn put_step(text: &mut Vec<u8>, sign: &[u8], high: u128, x: u128) -> Result<(), AllocError>
-    ensures { OnOk result (text.new.items ≡ text.old.items ++ step_to sign.now high x) }
+fn put_step(text: &mut Vec<u8>, sign: &[u8], high: u128, wide: u128) -> Result<(), AllocError>
+    ensures { OnOk result (text.new.items ≡ text.old.items ++ step_to sign.now high wide) }
 {
     put(text, b"V")?;
     put(text, sign)?;
     put_decimal(text, high)?;
-    put(text, b"H")?;
-    put_decimal(text, x)
+    put(text, b"h")?;
+    put_decimal(text, wide)
 }
 
 /// Puts the area of a stage, if any page was ever in it.
@@ -140,7 +148,7 @@ fn put_stage_outline(
     for (place, column) in columns.iter().enumerate() {
         let room = times(prefixes_of(width, prefixes, place), most);
         let high = scaled(1000, sum_up_to(stage, &column.pages), room);
-        put_step(text, b"-", high, scaled(6000, place as u128 + 1, count))?;
+        put_step(text, b"-", high, column_width(count, place as u128))?;
     }
     Ok(())
 }

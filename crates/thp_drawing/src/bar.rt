@@ -1,19 +1,21 @@
 //! Bars over a node's columns.
 ghost use Rattle.std.specs.Prelude.{◌≡◌, ◌≤◌, ◌++◌, false, length, OnOk};
 ghost use Rattle.std.specs.Fmt.{decimal};
-ghost use Rattle.thp_drawing.specs.Bars.{bar_at, bar_turns, covers, line_end, line_start, line_turn, stage_in, stage_number, turn_count};
+ghost use Rattle.thp_drawing.specs.Bars.{bar_at, bar_turns, covers, is_among, line_end, line_start, line_turn, stage_in, stage_number, turn_count};
 
 use crate::element::put_decimal;
 use crate::scale::scaled;
 use std::alloc::AllocError;
 use thp_journal_writer::put;
-use thp_series::{Column, Stage};
+use thp_series::{Column, SHOWN_CALLERS, Stage};
 
 /// What a bar shows.
 #[derive(Clone, Copy, Debug, PartialEq, Eq)]
 pub(crate) enum Bar {
     /// When the page of this number was in the stage.
     PageIn(Stage, u128),
+    /// When the caller of this number had pages in its batch.
+    BatchOf(u32),
 }
 
 impl Bar {
@@ -25,6 +27,7 @@ impl Bar {
             Bar::PageIn(stage, page) => {
                 stage_number(stage_in(page, &column.stages)) == stage_number(Some(stage))
             }
+            Bar::BatchOf(caller) => is_among(caller, column.callers),
         }
     }
 
@@ -50,6 +53,13 @@ fn turn_count(before: bool, now: bool) -> u128
     ensures most { result ≤ 1 }
 {
     if before == now { 0 } else { 1 }
+}
+
+/// Whether a caller is among those that are told as bits.
+pub(crate) fn is_among(caller: u32, callers: u64) -> bool
+    ensures { result ≡ is_among caller callers }
+{
+    caller < SHOWN_CALLERS && (callers >> caller) % 2 == 1
 }
 
 // The stage of a page behind a column's last prefix.

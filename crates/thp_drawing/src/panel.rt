@@ -32,6 +32,8 @@ use thp_journal_writer::put;
 pub(crate) enum Panel {
     /// Pages in the queue, and in batches.
     Pages,
+    /// How long the page has waited that waits longest.
+    Waits,
     /// Frames held, and given back.
     Frames,
     /// Tries that split a page so far, and that found it pinned.
@@ -46,6 +48,7 @@ impl Panel {
     {
         match self {
             Panel::Pages => Quantity::Queue,
+            Panel::Waits => Quantity::Wait,
             Panel::Frames => Quantity::Held,
             Panel::Tries => Quantity::Splits,
             Panel::Underused => Quantity::UnderusedSplits,
@@ -59,7 +62,7 @@ impl Panel {
             Panel::Pages => Quantity::InBatches,
             Panel::Frames => Quantity::Given,
             Panel::Tries => Quantity::PinnedTries,
-            Panel::Underused => Quantity::Nothing,
+            Panel::Waits | Panel::Underused => Quantity::Nothing,
         }
     }
 
@@ -68,7 +71,7 @@ impl Panel {
         ensures { result ≡ panel_step self number }
     {
         match self {
-            Panel::Pages | Panel::Tries | Panel::Underused => round_step(number),
+            Panel::Pages | Panel::Waits | Panel::Tries | Panel::Underused => round_step(number),
             Panel::Frames => doubled_step(number),
         }
     }
@@ -133,6 +136,10 @@ fn put_unit(text: &mut Vec<u8>, panel: Panel) -> Result<(), AllocError>
         Panel::Pages => put(
             text,
             b"<text class=\"soft e\" x=\"-60\" y=\"150\">pages</text>\n",
+        ),
+        Panel::Waits => put(
+            text,
+            b"<text class=\"soft e\" x=\"-60\" y=\"150\">events</text>\n",
         ),
         Panel::Frames => put(
             text,

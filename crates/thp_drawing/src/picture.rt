@@ -9,6 +9,7 @@ ghost use Rattle.thp_drawing.specs.Pictures.{
   ground,
   head,
   height_of,
+  lanes_top,
   lives_drawn,
   lives_height,
   lives_top,
@@ -19,16 +20,19 @@ ghost use Rattle.thp_drawing.specs.Pictures.{
   pages_top,
   panels_drawn,
   picture_text,
+  stuck_top,
   svg_start,
   title,
   title_words,
   tries_top,
   underused_top,
+  waits_top,
 };
 
 use crate::axis::{put_event_axis, put_group_end};
 use crate::element::{put_decimal, put_group, put_text};
 use crate::illegal_event::IllegalEvent;
+use crate::lanes::{lanes_height, put_lanes_panel};
 use crate::node::DrawnNode;
 use crate::overview::{overview_foot, put_overview};
 use crate::panel::{Panel, put_panel};
@@ -37,6 +41,7 @@ use crate::rows_panel::put_rows_panel;
 use crate::scale::plus;
 use crate::stages::pages_most;
 use crate::stages_panel::put_stages_panel;
+use crate::stuck::{put_stuck_text, stuck_height};
 use crate::style::put_style;
 use crate::title::{put_illegal_text, put_node_words};
 use std::alloc::AllocError;
@@ -142,7 +147,7 @@ fn put_nodes(text: &mut Vec<u8>, top: u128, nodes: &[DrawnNode]) -> Result<(), A
     Ok(())
 }
 
-#[tactic(auto, using(crate::proofs::Pieces::six), unfolding(crate::specs::Pictures::node_drawn))]
+#[tactic(auto, using(crate::proofs::Pieces::seven), unfolding(crate::specs::Pictures::node_drawn))]
 fn put_node(text: &mut Vec<u8>, y: u128, number: usize, node: &DrawnNode) -> Result<(), AllocError>
     ensures { OnOk result (text.new.items ≡ text.old.items ++ node_drawn y number node.now) }
 {
@@ -151,16 +156,19 @@ fn put_node(text: &mut Vec<u8>, y: u128, number: usize, node: &DrawnNode) -> Res
     put_group(text, 0, y)?;
     put_text(text, b"ink h", 150, 240, words.as_slice())?;
     put_illegal_text(text, &node.illegal)?;
+    put_stuck_text(text, plus(stuck_top(&node.illegal), 140), node)?;
     put_panels(text, node)?;
     put_event_axis(text, plus(axis_top(node), 110), node)?;
     put_group_end(text)
 }
 
-#[tactic(auto, using(crate::proofs::Pieces::five), unfolding(crate::specs::Pictures::panels_drawn))]
+#[tactic(auto, using(crate::proofs::Pieces::seven), unfolding(crate::specs::Pictures::panels_drawn))]
 fn put_panels(text: &mut Vec<u8>, node: &DrawnNode) -> Result<(), AllocError>
     ensures { OnOk result (text.new.items ≡ text.old.items ++ panels_drawn node.now) }
 {
-    put_panel(text, Panel::Pages, pages_top(&node.illegal), node)?;
+    put_panel(text, Panel::Pages, pages_top(node), node)?;
+    put_lanes_panel(text, lanes_top(node), node)?;
+    put_panel(text, Panel::Waits, waits_top(node), node)?;
     put_panel(text, Panel::Frames, frames_top(node), node)?;
     put_panel(text, Panel::Tries, tries_top(node), node)?;
     put_panel(text, Panel::Underused, underused_top(node), node)?;
@@ -185,8 +193,8 @@ fn height_of(most: u128) -> u128
     if most == 0 { 0 } else { 1360 }
 }
 
-fn pages_top(illegal: &Option<IllegalEvent>) -> u128
-    ensures { result ≡ pages_top illegal.now }
+fn stuck_top(illegal: &Option<IllegalEvent>) -> u128
+    ensures { result ≡ stuck_top illegal.now }
 {
     match illegal {
         None => 280,
@@ -194,10 +202,28 @@ fn pages_top(illegal: &Option<IllegalEvent>) -> u128
     }
 }
 
+fn pages_top(node: &DrawnNode) -> u128
+    ensures { result ≡ pages_top node.now }
+{
+    plus(stuck_top(&node.illegal), stuck_height(node))
+}
+
+fn lanes_top(node: &DrawnNode) -> u128
+    ensures { result ≡ lanes_top node.now }
+{
+    plus(pages_top(node), height_of(Panel::Pages.most(node)))
+}
+
+fn waits_top(node: &DrawnNode) -> u128
+    ensures { result ≡ waits_top node.now }
+{
+    plus(lanes_top(node), lanes_height(node))
+}
+
 fn frames_top(node: &DrawnNode) -> u128
     ensures { result ≡ frames_top node.now }
 {
-    plus(pages_top(&node.illegal), height_of(Panel::Pages.most(node)))
+    plus(waits_top(node), height_of(Panel::Waits.most(node)))
 }
 
 fn tries_top(node: &DrawnNode) -> u128

@@ -22,6 +22,8 @@ pub(crate) enum Quantity {
     PinnedTries,
     /// Pages split so far that weren't partly mapped, but underused.
     UnderusedSplits,
+    /// Behind how many events the page has waited that waits longest.
+    Wait,
     /// None at all: what a panel of one number has below its base line.
     Nothing,
 }
@@ -46,6 +48,7 @@ impl Quantity {
             Quantity::Splits => b"split",
             Quantity::PinnedTries => b"found pinned",
             Quantity::UnderusedSplits => b"split as underused",
+            Quantity::Wait => b"the oldest page has waited",
             Quantity::Nothing => b"",
         }
     }
@@ -62,6 +65,7 @@ impl Quantity {
             Quantity::Splits => b"s4",
             Quantity::PinnedTries => b"pin",
             Quantity::UnderusedSplits => b"s1",
+            Quantity::Wait => b"wait",
             Quantity::Nothing => b"",
         }
     }
@@ -78,6 +82,7 @@ impl Quantity {
             Quantity::Splits => column.splits,
             Quantity::PinnedTries => column.pinned_tries,
             Quantity::UnderusedSplits => column.underused_splits,
+            Quantity::Wait => column.wait,
             Quantity::Nothing => Span {
                 least: 0,
                 greatest: 0,
@@ -97,6 +102,7 @@ impl Quantity {
             Quantity::Splits => u128::from(numbers.splits),
             Quantity::PinnedTries => u128::from(numbers.pinned_tries),
             Quantity::UnderusedSplits => u128::from(numbers.underused_splits),
+            Quantity::Wait => u128::from(numbers.wait),
             Quantity::Nothing => 0,
         }
     }

@@ -19,8 +19,8 @@ use crate::scale::{plus, steps_in, times};
 use thp_model::Shape;
 use thp_series::{Column, SHOWN_PAGES, Stage};
 
-// Bars that begin and end more often than this can't be told apart.
-const MAX_TURNS: u128 = 4000;
+/// Bars that begin and end more often than this can't be told apart.
+pub(crate) const MAX_TURNS: u128 = 4000;
 
 // Up to so many rows are far apart, more are close to each other.
 const FEW_ROWS: u128 = 24;

@@ -18,13 +18,13 @@ const LINES: &[u8] =
     b"path{shape-rendering:crispEdges}.pale{fill-opacity:.35}.rule,.zero{fill:none;shape-rendering:auto;stroke-width:6}\n";
 
 const BARS: &[u8] =
-    b".s0,.s1,.s2,.s3,.s4{fill:currentColor}.bar{fill:none;stroke:currentColor;stroke-width:90}.thin{stroke-width:60}\n";
+    b".s0,.s1,.s2,.s3,.s4{fill:currentColor}.bar,.lane{fill:none;stroke:currentColor;stroke-width:90}.thin{stroke-width:60}\n";
 
 const LIGHT_INKS: &[u8] =
     b"svg{background:#ffffff}.bg{fill:#ffffff}.ink{fill:#1c2128}.soft{fill:#5d6673}.bad{fill:#c8102e}\n";
 
 const LIGHT_LINES: &[u8] =
-    b".rule{stroke:#e4e7ec}.zero{stroke:#1c2128}.held{fill:#64748b}.given{fill:#a4582a}.pin{fill:#868d97}\n";
+    b".rule{stroke:#e4e7ec}.zero{stroke:#1c2128}.held{fill:#64748b}.given{fill:#a4582a}.pin,.wait{fill:#868d97}\n";
 
 const LIGHT_STAGES: &[u8] =
     b".s0{color:#b6bfc9}.s1{color:#e79700}.s2{color:#3652b8}.s3{color:#bd61ab}.s4{color:#428452}\n";
@@ -33,7 +33,7 @@ const DARK_INKS: &[u8] =
     b"svg{background:#14171c}.bg{fill:#14171c}.ink{fill:#e8ebf0}.soft{fill:#a3acb9}.bad{fill:#ff6b78}\n";
 
 const DARK_LINES: &[u8] =
-    b".rule{stroke:#2a3038}.zero{stroke:#e8ebf0}.held{fill:#8b9ab0}.given{fill:#d28a55}.pin{fill:#7f8793}\n";
+    b".rule{stroke:#2a3038}.zero{stroke:#e8ebf0}.held{fill:#8b9ab0}.given{fill:#d28a55}.pin,.wait{fill:#7f8793}\n";
 
 const DARK_STAGES: &[u8] =
     b".s0{color:#4d5663}.s1{color:#f9a726}.s2{color:#4280ff}.s3{color:#d764a1}.s4{color:#45a670}\n";

@@ -3,23 +3,27 @@ ghost use Rattle.std.specs.Prelude.{◌≡◌, ◌≤◌, ◌++◌, ◌+◌, ◌
 ghost use Rattle.std.specs.Fmt.{decimal};
 ghost use Rattle.thp_journal_writer.specs.EventLines.{event_line};
 ghost use Rattle.thp_journal_writer.specs.Journals.{ended};
-ghost use Rattle.thp_drawing.specs.Tables.{column_line, column_lines, column_numbers, fields, heads, illegal_fields, lines_from, node_line, node_lines, node_numbers, stage_letter, stage_letters, table_text, threshold_field};
+ghost use Rattle.thp_drawing.specs.Tables.{caller_item, caller_words, callers_joined, column_line, column_lines, column_numbers, fields, heads, illegal_fields, lines_from, node_line, node_lines, node_numbers, stage_letter, stage_letters, stuck_line, stuck_lines, table_text, threshold_field};
 
+use crate::bar::is_among;
 use crate::illegal_event::IllegalEvent;
 use crate::node::DrawnNode;
 use itoa::Buffer;
 use std::alloc::AllocError;
 use thp_journal_writer::{Version, put, put_event};
 use thp_model::Event;
-use thp_series::{Column, Numbers, Stage};
+use thp_series::{Column, Numbers, SHOWN_CALLERS, Stage, StuckPage};
 
 // The names of a node's fields.
 const NODE_HEADS: &[u8] =
-    b"#node\tnode\tblocks\torder\tunderused\tlegal\twidth\tqueue-last\tin-batches-last\theld-last\tgiven-last\tsplits-last\tunderused-splits-last\tpinned-tries-last\tallocated-last\tpartly-mapped-last\tqueued-last\tin-batch-last\tsplit-last\tillegal-line\tillegal-event\n";
+    b"#node\tnode\tblocks\torder\tunderused\tlegal\twidth\tqueue-last\tin-batches-last\theld-last\tgiven-last\tsplits-last\tunderused-splits-last\tpinned-tries-last\twait-last\tallocated-last\tpartly-mapped-last\tqueued-last\tin-batch-last\tsplit-last\tillegal-line\tillegal-event\n";
 
 // The names of a column's fields.
 const COLUMN_HEADS: &[u8] =
-    b"#column\tnode\tfirst\tlast\tqueue-least\tqueue-greatest\tin-batches-least\tin-batches-greatest\theld-least\theld-greatest\tgiven-least\tgiven-greatest\tsplits-least\tsplits-greatest\tunderused-splits-least\tunderused-splits-greatest\tpinned-tries-least\tpinned-tries-greatest\tallocated-sum\tpartly-mapped-sum\tqueued-sum\tin-batch-sum\tsplit-sum\tstages\n";
+    b"#column\tnode\tfirst\tlast\tqueue-least\tqueue-greatest\tin-batches-least\tin-batches-greatest\theld-least\theld-greatest\tgiven-least\tgiven-greatest\tsplits-least\tsplits-greatest\tunderused-splits-least\tunderused-splits-greatest\tpinned-tries-least\tpinned-tries-greatest\twait-least\twait-greatest\tallocated-sum\tpartly-mapped-sum\tqueued-sum\tin-batch-sum\tsplit-sum\tstages\tcallers\n";
+
+// The names of a stuck page's fields.
+const STUCK_HEADS: &[u8] = b"#stuck\tnode\tpage\tfinds\tsince\n";
 
 /// Puts the table of nodes, which are numbered from 0 on, behind a text. Where memory is refused a front of it may stand there.
 pub fn put_table(text: &mut Vec<u8>, nodes: &[DrawnNode]) -> Result<(), AllocError>
@@ -29,12 +33,13 @@ pub fn put_table(text: &mut Vec<u8>, nodes: &[DrawnNode]) -> Result<(), AllocErr
     put_nodes(text, nodes)
 }
 
-#[tactic(auto, using(crate::proofs::Pieces::two), unfolding(crate::specs::Tables::heads))]
+#[tactic(auto, using(crate::proofs::Pieces::three), unfolding(crate::specs::Tables::heads))]
 fn put_heads(text: &mut Vec<u8>) -> Result<(), AllocError>
     ensures { OnOk result (text.new.items ≡ text.old.items ++ heads) }
 {
     put(text, NODE_HEADS)?;
-    put(text, COLUMN_HEADS)
+    put(text, COLUMN_HEADS)?;
+    put(text, STUCK_HEADS)
 }
 
 fn put_nodes(text: &mut Vec<u8>, nodes: &[DrawnNode]) -> Result<(), AllocError>
@@ -46,7 +51,7 @@ fn put_nodes(text: &mut Vec<u8>, nodes: &[DrawnNode]) -> Result<(), AllocError>
     Ok(())
 }
 
-#[tactic(auto, using(crate::proofs::Pieces::two), unfolding(crate::specs::Tables::node_lines))]
+#[tactic(auto, using(crate::proofs::Pieces::three), unfolding(crate::specs::Tables::node_lines))]
 fn put_node(text: &mut Vec<u8>, number: usize, node: &DrawnNode) -> Result<(), AllocError>
     ensures { OnOk result (text.new.items ≡ text.old.items ++ node_lines number node.now) }
 {
@@ -57,7 +62,35 @@ fn put_node(text: &mut Vec<u8>, number: usize, node: &DrawnNode) -> Result<(), A
         node.width,
         node.prefixes,
         node.columns.as_slice(),
-    )
+    )?;
+    put_stuck_lines(text, number, node.stuck.as_slice())
+}
+
+fn put_stuck_lines(text: &mut Vec<u8>, number: usize, pages: &[StuckPage]) -> Result<(), AllocError>
+    ensures { OnOk result (text.new.items ≡ text.old.items ++ stuck_lines number pages.now) }
+{
+    for page in pages {
+        put_stuck_line(text, number, page)?;
+    }
+    Ok(())
+}
+
+// How often a page was found pinned, and since which event it waits.
+#[tactic(auto, using(crate::proofs::Pieces::three))]
+fn put_stuck_line(text: &mut Vec<u8>, number: usize, page: &StuckPage) -> Result<(), AllocError>
+    ensures { OnOk result (text.new.items ≡ text.old.items ++ stuck_line number page.now) }
+{
+    put(text, b"stuck")?;
+    put_fields(
+        text,
+        &[
+            number as u128,
+            u128::from(page.page.0),
+            u128::from(page.finds),
+            u128::from(page.since),
+        ],
+    )?;
+    put(text, b"\n")
 }
 
 #[tactic(auto, using(crate::proofs::Pieces::five), unfolding(crate::specs::Tables::node_line))]
@@ -116,6 +149,7 @@ fn put_node_numbers(text: &mut Vec<u8>, node: &DrawnNode) -> Result<(), AllocErr
         splits,
         underused_splits,
         pinned_tries,
+        wait,
         pages,
         ..
     } = node.last;
@@ -131,6 +165,7 @@ fn put_node_numbers(text: &mut Vec<u8>, node: &DrawnNode) -> Result<(), AllocErr
             u128::from(splits),
             u128::from(underused_splits),
             u128::from(pinned_tries),
+            u128::from(wait),
             u128::from(pages.allocated),
             u128::from(pages.partly_mapped),
             u128::from(pages.queued),
@@ -166,7 +201,7 @@ fn put_columns(
     Ok(())
 }
 
-#[tactic(auto, using(crate::proofs::Pieces::six), unfolding(crate::specs::Tables::column_line))]
+#[tactic(auto, using(crate::proofs::Pieces::eight), unfolding(crate::specs::Tables::column_line))]
 fn put_column(
     text: &mut Vec<u8>,
     number: usize,
@@ -181,7 +216,43 @@ fn put_column(
     put_column_numbers(text, column)?;
     put(text, b"\t")?;
     put_stages(text, &column.stages)?;
+    put(text, b"\t")?;
+    put_callers(text, column.callers)?;
     put(text, b"\n")
+}
+
+// Callers that are told as bits: their numbers, joined by commas.
+fn put_callers(text: &mut Vec<u8>, callers: u64) -> Result<(), AllocError>
+    ensures { OnOk result (text.new.items ≡ text.old.items ++ caller_words callers) }
+{
+    if callers == 0 {
+        put(text, b"-")
+    } else {
+        put_caller_items(text, callers)
+    }
+}
+
+fn put_caller_items(text: &mut Vec<u8>, callers: u64) -> Result<(), AllocError>
+    ensures { OnOk result (text.new.items ≡ text.old.items ++ callers_joined callers) }
+{
+    for caller in 0..SHOWN_CALLERS {
+        put_caller_item(text, callers, caller)?;
+    }
+    Ok(())
+}
+
+// A caller, if it is among these, behind a comma if a lesser one is.
+#[tactic(auto, using(crate::proofs::Pieces::two))]
+fn put_caller_item(text: &mut Vec<u8>, callers: u64, caller: u32) -> Result<(), AllocError>
+    ensures { OnOk result (text.new.items ≡ text.old.items ++ caller_item callers caller) }
+{
+    if !is_among(caller, callers) {
+        return Ok(());
+    }
+    if callers % (1 << caller) != 0 {
+        put(text, b",")?;
+    }
+    put(text, Buffer::new().format(caller).as_bytes())
 }
 
 fn put_stages(text: &mut Vec<u8>, stages: &[Option<Stage>]) -> Result<(), AllocError>
@@ -218,6 +289,7 @@ fn put_column_numbers(text: &mut Vec<u8>, column: &Column) -> Result<(), AllocEr
         splits,
         underused_splits,
         pinned_tries,
+        wait,
         pages,
         ..
     } = *column;
@@ -238,6 +310,8 @@ fn put_column_numbers(text: &mut Vec<u8>, column: &Column) -> Result<(), AllocEr
             underused_splits.greatest,
             pinned_tries.least,
             pinned_tries.greatest,
+            wait.least,
+            wait.greatest,
             pages.allocated,
             pages.partly_mapped,
             pages.queued,

@@ -62,9 +62,9 @@ fn put_shape_words(
     put_threshold_words(text, threshold)
 }
 
-// A number and a word, which has an `s` where the number isn't 1.
+/// Puts a number and a word, which has an `s` where the number isn't 1.
 #[tactic(auto, using(crate::proofs::Pieces::four), unfolding(crate::specs::Titles::many))]
-fn put_many(text: &mut Vec<u8>, number: u128, word: &[u8]) -> Result<(), AllocError>
+pub(crate) fn put_many(text: &mut Vec<u8>, number: u128, word: &[u8]) -> Result<(), AllocError>
     ensures { OnOk result (text.new.items ≡ text.old.items ++ many number word.now) }
 {
     put_decimal(text, number)?;

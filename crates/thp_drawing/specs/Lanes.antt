@@ -1,0 +1,84 @@
+-- The callers of a node: a lane for each that ever had pages in its batch, in which bars show when.
+use Rattle.std.specs.Prelude.{ℕ, zero, suc, Bool, false, ◌+◌, ◌&&◌, List, [], ◌++◌, codes, if◌then◌else◌, nat_le, nat_lt}
+use Rattle.thp_series.specs.declared.column.Column.{Column}
+use Rattle.thp_series.specs.Waits.{shown_callers}
+use Rattle.thp_drawing.specs.Axes.{event_rules, tick}
+use Rattle.thp_drawing.specs.Bars.{bar_at, bar_turns}
+use Rattle.thp_drawing.specs.Elements.{group_end, group_start, square_at, text_at}
+use Rattle.thp_drawing.specs.Rows.{max_turns, row_middle}
+use Rattle.thp_drawing.specs.Scales.{plus, times}
+use Rattle.thp_drawing.specs.declared.bar.Bar.TheVariants.{BatchOf}
+use Rattle.thp_drawing.specs.declared.node.DrawnNode.{DrawnNode}
+
+-- the bar of caller c begins somewhere
+abbrev pub has_lane : List Column → ℕ → Bool
+has_lane columns c = nat_lt 0 (bar_turns (BatchOf c) false columns)
+
+-- how many of the first k callers have lanes
+abbrev pub lanes_below : List Column → ℕ → ℕ
+lanes_below columns zero = 0
+lanes_below columns (suc k) = lanes_below columns k + (if has_lane columns k then 1 else 0)
+
+-- how often the bars of the first k callers begin and end
+abbrev pub turns_below : List Column → ℕ → ℕ
+turns_below columns zero = 0
+turns_below columns (suc k) = turns_below columns k + bar_turns (BatchOf k) false columns
+
+-- how many lanes there are
+unfoldable pub lane_count : List Column → ℕ
+lane_count columns = lanes_below columns shown_callers
+
+-- how often the bars of all of them begin and end
+unfoldable pub all_turns : List Column → ℕ
+all_turns columns = turns_below columns shown_callers
+
+-- how many lanes a node has
+abbrev pub lanes_of : DrawnNode → ℕ
+lanes_of d = lane_count d.columns.items
+
+-- there are lanes, and their bars can be told apart
+abbrev pub has_lanes : DrawnNode → Bool
+has_lanes d = nat_le 1 (lanes_of d) && nat_le (all_turns d.columns.items) max_turns
+
+-- the height of a lane
+abbrev pub lane_height : ℕ
+lane_height = 140
+
+-- a lane at this height: the caller's number, and its bar
+unfoldable pub lane_drawn : List Column → ℕ → ℕ → List ℕ
+lane_drawn columns y c =
+    tick [] c y ++ codes "<path class=\"lane s3\" d=\"" ++ bar_at (BatchOf c) y columns ++ codes "\"/>\n"
+
+-- these, or nothing where caller c never had pages in its batch
+abbrev pub lane_at : List Column → ℕ → ℕ → List ℕ
+lane_at columns lane c = if has_lane columns c then lane_drawn columns (row_middle lane_height lane) c else []
+
+-- the lanes of the first k callers
+abbrev pub lanes : List Column → ℕ → List ℕ
+lanes columns zero = []
+lanes columns (suc k) = lanes columns k ++ lane_at columns (lanes_below columns k) k
+
+-- all of them
+unfoldable pub all_lanes : List Column → List ℕ
+all_lanes columns = lanes columns shown_callers
+
+unfoldable pub lanes_title : List ℕ
+lanes_title =
+    codes "<text class=\"soft e\" x=\"-60\" y=\"150\">caller</text>\n" ++ square_at (codes "s3") 0 72
+    ++ text_at (codes "ink") 130 150 (codes "pages in its batch")
+
+unfoldable pub lanes_graph : ℕ → DrawnNode → List ℕ
+lanes_graph high d = event_rules high d ++ all_lanes d.columns.items
+
+unfoldable pub lanes_drawn : ℕ → DrawnNode → List ℕ
+lanes_drawn y d =
+    group_start 900 y ++ lanes_title ++ group_start 0 260 ++ lanes_graph (times lane_height (lanes_of d)) d
+    ++ group_end ++ group_end
+
+-- the panel of lanes, from this height on
+abbrev pub lanes_panel : ℕ → DrawnNode → List ℕ
+lanes_panel y d = if has_lanes d then lanes_drawn y d else []
+
+-- how high it is
+abbrev pub lanes_height : DrawnNode → ℕ
+lanes_height d = if has_lanes d then plus 360 (times lane_height (lanes_of d)) else 0

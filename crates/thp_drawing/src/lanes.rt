@@ -1,0 +1,188 @@
+//! The panel of the callers' batches.
+ghost use Rattle.std.specs.Prelude.{◌≡◌, ◌≤◌, ◌++◌, [], length, if◌then◌else◌, OnOk};
+ghost use Rattle.thp_drawing.specs.Axes.{tick};
+ghost use Rattle.thp_drawing.specs.Lanes.{
+  all_lanes,
+  all_turns,
+  has_lane,
+  has_lanes,
+  lane_at,
+  lane_count,
+  lane_drawn,
+  lanes_drawn,
+  lanes_graph,
+  lanes_height,
+  lanes_of,
+  lanes_panel,
+  lanes_title,
+};
+
+use crate::axis::{put_event_rules, put_group_end, put_tick};
+use crate::bar::{Bar, put_bar};
+use crate::element::{put_group, put_square, put_text};
+use crate::node::DrawnNode;
+use crate::rows::{MAX_TURNS, row_middle};
+use crate::scale::{plus, times};
+use std::alloc::AllocError;
+use thp_journal_writer::put;
+use thp_series::{Column, SHOWN_CALLERS};
+
+// The height of a lane.
+const LANE_HEIGHT: u128 = 140;
+
+// Whether a caller ever had pages in its batch.
+fn has_lane(columns: &[Column], caller: u32) -> bool
+    ensures { result ≡ has_lane columns.now caller }
+{
+    0 < Bar::BatchOf(caller).turns(columns)
+}
+
+// How many lanes a caller has: one or none.
+fn lanes_of_caller(columns: &[Column], caller: u32) -> u128
+    ensures count { result ≡ (if has_lane columns.now caller then 1 else 0) }
+    ensures most { result ≤ 1 }
+{
+    if has_lane(columns, caller) { 1 } else { 0 }
+}
+
+// How many lanes a node has.
+fn lanes_of(node: &DrawnNode) -> u128
+    ensures { result ≡ lanes_of node.now }
+{
+    count_lanes(node.columns.as_slice())
+}
+
+fn count_lanes(columns: &[Column]) -> u128
+    ensures { result ≡ lane_count columns.now }
+{
+    let mut count = 0;
+    for caller in 0..SHOWN_CALLERS {
+        count += lanes_of_caller(columns, caller);
+    }
+    count
+}
+
+// How often their bars begin and end.
+#[tactic(auto, unfolding(crate::specs::Lanes::all_turns))]
+fn all_turns(columns: &[Column]) -> u128
+    ensures { result ≡ all_turns columns.now }
+{
+    let mut count = 0;
+    for caller in 0..SHOWN_CALLERS {
+        count += Bar::BatchOf(caller).turns(columns);
+    }
+    count
+}
+
+// Whether there are lanes, and their bars can be told apart.
+fn has_lanes(node: &DrawnNode) -> bool
+    ensures { result ≡ has_lanes node.now }
+{
+    1 <= lanes_of(node) && all_turns(node.columns.as_slice()) <= MAX_TURNS
+}
+
+/// How high the panel of lanes is.
+pub(crate) fn lanes_height(node: &DrawnNode) -> u128
+    ensures { result ≡ lanes_height node.now }
+{
+    if has_lanes(node) {
+        plus(360, times(LANE_HEIGHT, lanes_of(node)))
+    } else {
+        0
+    }
+}
+
+/// Puts the panel of a node's callers, a lane for each that ever had pages in its batch, from this height on.
+pub(crate) fn put_lanes_panel(
+    text: &mut Vec<u8>,
+    y: u128,
+    node: &DrawnNode,
+) -> Result<(), AllocError>
+    ensures { OnOk result (text.new.items ≡ text.old.items ++ lanes_panel y node.now) }
+{
+    if has_lanes(node) {
+        put_lanes_drawn(text, y, node)
+    } else {
+        Ok(())
+    }
+}
+
+#[tactic(auto, using(crate::proofs::Pieces::six), unfolding(crate::specs::Lanes::lanes_drawn))]
+fn put_lanes_drawn(text: &mut Vec<u8>, y: u128, node: &DrawnNode) -> Result<(), AllocError>
+    ensures { OnOk result (text.new.items ≡ text.old.items ++ lanes_drawn y node.now) }
+{
+    put_group(text, 900, y)?;
+    put_lanes_title(text)?;
+    put_group(text, 0, 260)?;
+    put_lanes_graph(text, times(LANE_HEIGHT, lanes_of(node)), node)?;
+    put_group_end(text)?;
+    put_group_end(text)
+}
+
+#[tactic(auto, using(crate::proofs::Pieces::three), unfolding(crate::specs::Lanes::lanes_title))]
+fn put_lanes_title(text: &mut Vec<u8>) -> Result<(), AllocError>
+    ensures { OnOk result (text.new.items ≡ text.old.items ++ lanes_title) }
+{
+    put(
+        text,
+        b"<text class=\"soft e\" x=\"-60\" y=\"150\">caller</text>\n",
+    )?;
+    put_square(text, b"s3", 0, 72)?;
+    put_text(text, b"ink", 130, 150, b"pages in its batch")
+}
+
+#[tactic(auto, using(crate::proofs::Pieces::two), unfolding(crate::specs::Lanes::lanes_graph))]
+fn put_lanes_graph(text: &mut Vec<u8>, high: u128, node: &DrawnNode) -> Result<(), AllocError>
+    ensures { OnOk result (text.new.items ≡ text.old.items ++ lanes_graph high node.now) }
+{
+    put_event_rules(text, high, node)?;
+    put_lanes(text, node.columns.as_slice())
+}
+
+fn put_lanes(text: &mut Vec<u8>, columns: &[Column]) -> Result<(), AllocError>
+    ensures { OnOk result (text.new.items ≡ text.old.items ++ all_lanes columns.now) }
+{
+    let mut lane = 0;
+    for caller in 0..SHOWN_CALLERS {
+        put_lane(text, columns, lane, caller)?;
+        lane += lanes_of_caller(columns, caller);
+    }
+    Ok(())
+}
+
+// The lane of a caller, if it ever had pages in its batch.
+fn put_lane(
+    text: &mut Vec<u8>,
+    columns: &[Column],
+    lane: u128,
+    caller: u32,
+) -> Result<(), AllocError>
+    ensures { OnOk result (text.new.items ≡ text.old.items ++ lane_at columns.now lane caller) }
+{
+    if has_lane(columns, caller) {
+        put_lane_drawn(text, columns, row_middle(LANE_HEIGHT, lane), caller)
+    } else {
+        Ok(())
+    }
+}
+
+#[tactic(auto, using(crate::proofs::Pieces::four), unfolding(crate::specs::Lanes::lane_drawn))]
+fn put_lane_drawn(
+    text: &mut Vec<u8>,
+    columns: &[Column],
+    y: u128,
+    caller: u32,
+) -> Result<(), AllocError>
+    ensures { OnOk result (text.new.items ≡ text.old.items ++ lane_drawn columns.now y caller) }
+{
+    put_lane_number(text, y, caller)?;
+    put(text, b"<path class=\"lane s3\" d=\"")?;
+    put_bar(text, Bar::BatchOf(caller), y, columns)?;
+    put(text, b"\"/>\n")
+}
+
+fn put_lane_number(text: &mut Vec<u8>, y: u128, caller: u32) -> Result<(), AllocError>
+    ensures { OnOk result (text.new.items ≡ text.old.items ++ tick [] caller y) }
+{
+    put_tick(text, b"", u128::from(caller), y)
+}
