@@ -1,7 +1,9 @@
-//! What is read and written: settings and scripts, journals, their blocks, and reports. Tests alone: they stand above the
-//! crates that they call, so that those are proved once.
+//! What is read and written: settings and scripts, journals, their blocks, reports, tables and pictures. Tests alone: they
+//! stand above the crates that they call, so that those are proved once.
 #![tactic(auto)]
 
+#[cfg(test)]
+mod drawing;
 #[cfg(test)]
 mod grammar;
 #[cfg(test)]

@@ -1,5 +1,5 @@
 //! Pictures of nodes.
-use crate::nodes::{LARGE, first_run, followed};
+use crate::drawing::nodes::{LARGE, first_run, followed};
 use thp_drawing::{DrawnNode, put_escaped, put_picture};
 
 // As it was worked out by hand; looked at in a browser, on a light and on a dark ground.

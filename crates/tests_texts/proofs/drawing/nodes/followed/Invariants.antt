@@ -1,5 +1,5 @@
 use Rattle.std.proofs.Common.{◌≡◌, length, None}
-use Rattle.tests_drawing.proofs.nodes.followed.Given as goal
+use Rattle.tests_texts.proofs.drawing.nodes.followed.Given as goal
 
 -- so many events happened on a large node
 abbrev pub invariant-loop-what : goal.invariant-loop-what

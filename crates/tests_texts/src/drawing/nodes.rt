@@ -1,7 +1,7 @@
 //! The numbers of a node's events.
 ghost use Rattle.std.specs.Prelude.{◌≡◌, ◌<◌, length};
 
-use crate::columns::at;
+use crate::drawing::columns::at;
 use std::alloc::Global;
 use std::process::Abort;
 use thp_model::{Event, Outcome, PageId, Shape, SubSet, What};

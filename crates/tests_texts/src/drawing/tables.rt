@@ -1,5 +1,5 @@
 //! Tables of nodes.
-use crate::nodes::{LARGE, PAGE, first_run, followed};
+use crate::drawing::nodes::{LARGE, PAGE, first_run, followed};
 use thp_drawing::{DrawnNode, IllegalEvent, put_table};
 use thp_model::{Event, What};
 
