@@ -25,7 +25,7 @@ from model import Node
 from outside import FEW_BYTES, FIRST, FIRST_JOURNAL, ILLEGAL, LEGAL, LOST, ROOT, STORED, Row, told
 from process import Call, Ended, Sink, Source, run
 from progress import ASKED, Shown, lines
-from tables import Drawn, drawn_nodes, numbers, table, table_of
+from tables import Drawn, Waits, drawn_nodes, numbers, table, table_of
 from tally import Tally
 
 HELP = (STORED / "drawer_help.txt").read_bytes()
@@ -59,10 +59,10 @@ def drawn() -> Iterator[Row]:
 
 def long_table() -> Ended:
     """The table of the long journal: a page is allocated, and the rounds of two events leave all numbers as they are."""
-    node = Node(16)
-    first = numbers(node)
+    node, waits = Node(16), Waits()
+    first = numbers(node, waits)
     node.alloc(0)
-    return table_of([Drawn(node, [first] + [numbers(node)] * (1 + 2 * ROUNDS))])
+    return table_of([Drawn(node, waits, [first] + [numbers(node, waits)] * (1 + 2 * ROUNDS))])
 
 
 SVG = "{http://www.w3.org/2000/svg}"
