@@ -85,11 +85,14 @@ def handles_are_kept() -> str | None:
 
 
 def nobody_waits() -> str | None:
-    """No library asks for `Wait`, `Net`, `Processes` or `Abort` by a bound, and only those that start threads for `Threads`."""
+    """No library asks for `Wait`, `Net`, `Processes` or `Abort` by a bound, and only those that start threads for `Threads`.
+
+    A bound is named alone or behind a module; what stands behind a type, as `Quantity::Wait`, is a variant of it.
+    """
     wrong = []
     for crate in libraries():
         text = "\n".join(path.read_text() for path in sources(crate))
-        bounds = set(re.findall(r"(?:[:+(]|impl) *(Wait|Net|Processes|Abort|Threads)\b", text))
+        bounds = set(re.findall(r"(?:(?<!:)[:+(]|impl|\b[a-z_]\w*::) *(Wait|Net|Processes|Abort|Threads)\b", text))
         wrong += [f"{crate}: {bound}" for bound in sorted(bounds) if bound != "Threads" or crate not in WITH_THREADS]
     return ", ".join(wrong) or None
 
