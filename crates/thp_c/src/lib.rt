@@ -6,5 +6,6 @@
 
 mod check;
 mod node;
+mod page_calls;
 mod pass;
 mod pass_batches;

@@ -5,11 +5,11 @@ ghost use Rattle.thp_model.specs.Refusals as call;
 ghost use Rattle.thp_c_calls.specs.Calls.{OneCall, AllocCall, ScanCall, TakeCall, NextCall, BackCall, AbandonCall, ReserveCall, Written};
 ghost use Rattle.thp_c_calls.specs.Codes.{answer_of, answers, answer_with};
 ghost use Rattle.thp_c_calls.specs.Engines.{Does, Made, Emptied, shape_of};
-ghost use Rattle.thp_c_calls.specs.Replies.{LoseCall, stats_of, scan_of, tried_of, back_of};
+ghost use Rattle.thp_c_calls.specs.Replies.{stats_of, scan_of, tried_of, back_of};
 ghost use Rattle.thp_journal_writer.specs.Journals.{journal_text};
 
 use std::alloc::Global;
-use thp_c_calls::{ThpBack, ThpDone, ThpNode, ThpScan, ThpStats, ThpTried};
+use thp_c_calls::{ThpBack, ThpNode, ThpScan, ThpStats, ThpTried};
 use thp_model::What;
 
 /// Makes a node, and fills the handle with it. A threshold of 512 or more is none: the shrinker doesn't look for underused
@@ -52,91 +52,6 @@ pub extern "C" fn thp_c_node_alloc(
     thp_c_calls::node_alloc(handle, alloc, caller, page)
 }
 
-/// One more mapping of the whole page, by a PMD entry.
-#[unsafe(no_mangle)]
-pub extern "C" fn thp_c_node_map_whole(
-    handle: &mut ThpNode,
-    alloc: Global,
-    caller: u32,
-    page: u64,
-) -> u32
-    ensures does { Does handle.old.held handle.new.held (answer_of result) (OneCall caller (call.map_whole page) (What.MapWhole page)) }
-    ensures known { result < length answers }
-{
-    thp_c_calls::node_map_whole(handle, alloc, caller, page)
-}
-
-/// One more mapping of each of the `count` subpages from `first` on, by PTE entries.
-#[unsafe(no_mangle)]
-pub extern "C" fn thp_c_node_map_sub(
-    handle: &mut ThpNode,
-    alloc: Global,
-    caller: u32,
-    page: u64,
-    first: u32,
-    count: u32,
-) -> u32
-    ensures does { Does handle.old.held handle.new.held (answer_of result) (OneCall caller (call.map_sub page first count) (What.MapSub page first count)) }
-    ensures known { result < length answers }
-{
-    thp_c_calls::node_map_sub(handle, alloc, caller, page, first, count)
-}
-
-/// One PMD mapping of the page becomes a PTE mapping of each subpage.
-#[unsafe(no_mangle)]
-pub extern "C" fn thp_c_node_split_pmd(
-    handle: &mut ThpNode,
-    alloc: Global,
-    caller: u32,
-    page: u64,
-) -> u32
-    ensures does { Does handle.old.held handle.new.held (answer_of result) (OneCall caller (call.split_pmd page) (What.SplitPmd page)) }
-    ensures known { result < length answers }
-{
-    thp_c_calls::node_split_pmd(handle, alloc, caller, page)
-}
-
-/// One more pin of the page.
-#[unsafe(no_mangle)]
-pub extern "C" fn thp_c_node_pin(handle: &mut ThpNode, alloc: Global, caller: u32, page: u64) -> u32
-    ensures does { Does handle.old.held handle.new.held (answer_of result) (OneCall caller (call.pin page) (What.Pin page)) }
-    ensures known { result < length answers }
-{
-    thp_c_calls::node_pin(handle, alloc, caller, page)
-}
-
-/// Data is written to each of the `count` subpages from `first` on.
-#[unsafe(no_mangle)]
-pub extern "C" fn thp_c_node_write(
-    handle: &mut ThpNode,
-    alloc: Global,
-    caller: u32,
-    page: u64,
-    first: u32,
-    count: u32,
-) -> u32
-    ensures does { Does handle.old.held handle.new.held (answer_of result) (OneCall caller (call.write page first count) (What.Write page first count)) }
-    ensures known { result < length answers }
-{
-    thp_c_calls::node_write(handle, alloc, caller, page, first, count)
-}
-
-/// Zeros are written to each of the `count` subpages from `first` on.
-#[unsafe(no_mangle)]
-pub extern "C" fn thp_c_node_zero(
-    handle: &mut ThpNode,
-    alloc: Global,
-    caller: u32,
-    page: u64,
-    first: u32,
-    count: u32,
-) -> u32
-    ensures does { Does handle.old.held handle.new.held (answer_of result) (OneCall caller (call.zero_fill page first count) (What.Zero page first count)) }
-    ensures known { result < length answers }
-{
-    thp_c_calls::node_zero(handle, alloc, caller, page, first, count)
-}
-
 /// Closes the node: from here on nothing enters the queue and no page is allocated.
 #[unsafe(no_mangle)]
 pub extern "C" fn thp_c_node_close(handle: &mut ThpNode, alloc: Global, caller: u32) -> u32
@@ -144,56 +59,6 @@ pub extern "C" fn thp_c_node_close(handle: &mut ThpNode, alloc: Global, caller: 
     ensures known { result < length answers }
 {
     thp_c_calls::node_close(handle, alloc, caller)
-}
-
-/// One mapping of the whole page less.
-#[unsafe(no_mangle)]
-pub extern "C" fn thp_c_node_unmap_whole(
-    handle: &mut ThpNode,
-    alloc: Global,
-    caller: u32,
-    page: u64,
-    done: &mut ThpDone,
-) -> u32
-    ensures does { Does handle.old.held handle.new.held (answer_of result) (λ old new answer. LoseCall caller (call.unmap_whole page) page (λ o released. What.UnmapWhole o page released) old new (answer_with answer done.new)) }
-    ensures known { result < length answers }
-    ensures kept { OnErr (answer_of result) (done.new ≡ done.old) }
-{
-    thp_c_calls::node_unmap_whole(handle, alloc, caller, page, done)
-}
-
-/// One mapping of each of the `count` subpages from `first` on less.
-#[unsafe(no_mangle)]
-pub extern "C" fn thp_c_node_unmap_sub(
-    handle: &mut ThpNode,
-    alloc: Global,
-    caller: u32,
-    page: u64,
-    first: u32,
-    count: u32,
-    done: &mut ThpDone,
-) -> u32
-    ensures does { Does handle.old.held handle.new.held (answer_of result) (λ old new answer. LoseCall caller (call.unmap_sub page first count) page (λ o released. What.UnmapSub o page first count released) old new (answer_with answer done.new)) }
-    ensures known { result < length answers }
-    ensures kept { OnErr (answer_of result) (done.new ≡ done.old) }
-{
-    thp_c_calls::node_unmap_sub(handle, alloc, caller, page, first, count, done)
-}
-
-/// One pin of the page less.
-#[unsafe(no_mangle)]
-pub extern "C" fn thp_c_node_unpin(
-    handle: &mut ThpNode,
-    alloc: Global,
-    caller: u32,
-    page: u64,
-    done: &mut ThpDone,
-) -> u32
-    ensures does { Does handle.old.held handle.new.held (answer_of result) (λ old new answer. LoseCall caller (call.unpin page) page (λ o released. What.Unpin o page released) old new (answer_with answer done.new)) }
-    ensures known { result < length answers }
-    ensures kept { OnErr (answer_of result) (done.new ≡ done.old) }
-{
-    thp_c_calls::node_unpin(handle, alloc, caller, page, done)
 }
 
 /// Takes up to `n` pages, the oldest first, tries each, and returns those that are pinned.

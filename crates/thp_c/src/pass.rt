@@ -4,11 +4,11 @@ ghost use Rattle.thp_model.specs.Refusals as call;
 ghost use Rattle.thp_c_calls.specs.Engines.{shape_of};
 ghost use Rattle.thp_c_calls.specs.PassCodes.{pass_answer_of, pass_answer_with, IsPassCode};
 ghost use Rattle.thp_c_calls.specs.PassHandle.{pass_of};
-ghost use Rattle.thp_c_calls.specs.Passes.{PassDoes, PassOne, PassAlloc, PassLost, PassScan, PassCount, CellMade, PassEmptied, Divided, WhyUndivided, Joined, WhyApart, OneCellHeld, Finished, WhyUnfinished};
+ghost use Rattle.thp_c_calls.specs.Passes.{PassDoes, PassOne, PassAlloc, PassScan, PassCount, CellMade, PassEmptied, Divided, WhyUndivided, Joined, WhyApart, OneCellHeld, Finished, WhyUnfinished};
 ghost use Rattle.thp_c_calls.specs.Replies.{scan_of};
 
 use std::alloc::Global;
-use thp_c_calls::{ThpDone, ThpNode, ThpPass, ThpScan};
+use thp_c_calls::{ThpNode, ThpPass, ThpScan};
 use thp_model::What;
 
 /// Makes a shared node for a number of callers, and fills the handle with the pass of all of them. The mark tells passes of
@@ -99,109 +99,6 @@ pub extern "C" fn thp_c_pass_alloc(
     thp_c_calls::pass_alloc(handle, alloc, caller, page)
 }
 
-/// One PMD mapping of the page becomes a PTE mapping of each subpage.
-#[unsafe(no_mangle)]
-pub extern "C" fn thp_c_pass_split_pmd(
-    handle: &mut ThpPass,
-    alloc: Global,
-    caller: u32,
-    page: u64,
-) -> u32
-    ensures does { PassDoes (pass_of handle.old.held) (pass_of handle.new.held) (pass_answer_of result) (PassOne caller (call.split_pmd page) (What.SplitPmd page)) }
-    ensures known { IsPassCode result }
-{
-    thp_c_calls::pass_split_pmd(handle, alloc, caller, page)
-}
-
-/// One mapping of each of the `count` subpages from `first` on less.
-#[unsafe(no_mangle)]
-pub extern "C" fn thp_c_pass_unmap_sub(
-    handle: &mut ThpPass,
-    alloc: Global,
-    caller: u32,
-    page: u64,
-    first: u32,
-    count: u32,
-    done: &mut ThpDone,
-) -> u32
-    ensures does { PassDoes (pass_of handle.old.held) (pass_of handle.new.held) (pass_answer_of result) (λ old new answer. PassLost caller (call.unmap_sub page first count) page (λ o released. What.UnmapSub o page first count released) old new (pass_answer_with answer done.new)) }
-    ensures known { IsPassCode result }
-    ensures kept { OnErr (pass_answer_of result) (done.new ≡ done.old) }
-{
-    thp_c_calls::pass_unmap_sub(handle, alloc, caller, page, first, count, done)
-}
-
-/// One more mapping of the whole page, by a PMD entry.
-#[unsafe(no_mangle)]
-pub extern "C" fn thp_c_pass_map_whole(
-    handle: &mut ThpPass,
-    alloc: Global,
-    caller: u32,
-    page: u64,
-) -> u32
-    ensures does { PassDoes (pass_of handle.old.held) (pass_of handle.new.held) (pass_answer_of result) (PassOne caller (call.map_whole page) (What.MapWhole page)) }
-    ensures known { IsPassCode result }
-{
-    thp_c_calls::pass_map_whole(handle, alloc, caller, page)
-}
-
-/// One more mapping of each of the `count` subpages from `first` on, by PTE entries.
-#[unsafe(no_mangle)]
-pub extern "C" fn thp_c_pass_map_sub(
-    handle: &mut ThpPass,
-    alloc: Global,
-    caller: u32,
-    page: u64,
-    first: u32,
-    count: u32,
-) -> u32
-    ensures does { PassDoes (pass_of handle.old.held) (pass_of handle.new.held) (pass_answer_of result) (PassOne caller (call.map_sub page first count) (What.MapSub page first count)) }
-    ensures known { IsPassCode result }
-{
-    thp_c_calls::pass_map_sub(handle, alloc, caller, page, first, count)
-}
-
-/// One more pin of the page.
-#[unsafe(no_mangle)]
-pub extern "C" fn thp_c_pass_pin(handle: &mut ThpPass, alloc: Global, caller: u32, page: u64) -> u32
-    ensures does { PassDoes (pass_of handle.old.held) (pass_of handle.new.held) (pass_answer_of result) (PassOne caller (call.pin page) (What.Pin page)) }
-    ensures known { IsPassCode result }
-{
-    thp_c_calls::pass_pin(handle, alloc, caller, page)
-}
-
-/// Data is written to each of the `count` subpages from `first` on.
-#[unsafe(no_mangle)]
-pub extern "C" fn thp_c_pass_write(
-    handle: &mut ThpPass,
-    alloc: Global,
-    caller: u32,
-    page: u64,
-    first: u32,
-    count: u32,
-) -> u32
-    ensures does { PassDoes (pass_of handle.old.held) (pass_of handle.new.held) (pass_answer_of result) (PassOne caller (call.write page first count) (What.Write page first count)) }
-    ensures known { IsPassCode result }
-{
-    thp_c_calls::pass_write(handle, alloc, caller, page, first, count)
-}
-
-/// Zeros are written to each of the `count` subpages from `first` on.
-#[unsafe(no_mangle)]
-pub extern "C" fn thp_c_pass_zero(
-    handle: &mut ThpPass,
-    alloc: Global,
-    caller: u32,
-    page: u64,
-    first: u32,
-    count: u32,
-) -> u32
-    ensures does { PassDoes (pass_of handle.old.held) (pass_of handle.new.held) (pass_answer_of result) (PassOne caller (call.zero_fill page first count) (What.Zero page first count)) }
-    ensures known { IsPassCode result }
-{
-    thp_c_calls::pass_zero(handle, alloc, caller, page, first, count)
-}
-
 /// Closes the node: from here on nothing enters the queue and no page is allocated.
 #[unsafe(no_mangle)]
 pub extern "C" fn thp_c_pass_close(handle: &mut ThpPass, alloc: Global, caller: u32) -> u32
@@ -209,38 +106,6 @@ pub extern "C" fn thp_c_pass_close(handle: &mut ThpPass, alloc: Global, caller: 
     ensures known { IsPassCode result }
 {
     thp_c_calls::pass_close(handle, alloc, caller)
-}
-
-/// One mapping of the whole page less.
-#[unsafe(no_mangle)]
-pub extern "C" fn thp_c_pass_unmap_whole(
-    handle: &mut ThpPass,
-    alloc: Global,
-    caller: u32,
-    page: u64,
-    done: &mut ThpDone,
-) -> u32
-    ensures does { PassDoes (pass_of handle.old.held) (pass_of handle.new.held) (pass_answer_of result) (λ old new answer. PassLost caller (call.unmap_whole page) page (λ o released. What.UnmapWhole o page released) old new (pass_answer_with answer done.new)) }
-    ensures known { IsPassCode result }
-    ensures kept { OnErr (pass_answer_of result) (done.new ≡ done.old) }
-{
-    thp_c_calls::pass_unmap_whole(handle, alloc, caller, page, done)
-}
-
-/// One pin of the page less.
-#[unsafe(no_mangle)]
-pub extern "C" fn thp_c_pass_unpin(
-    handle: &mut ThpPass,
-    alloc: Global,
-    caller: u32,
-    page: u64,
-    done: &mut ThpDone,
-) -> u32
-    ensures does { PassDoes (pass_of handle.old.held) (pass_of handle.new.held) (pass_answer_of result) (λ old new answer. PassLost caller (call.unpin page) page (λ o released. What.Unpin o page released) old new (pass_answer_with answer done.new)) }
-    ensures known { IsPassCode result }
-    ensures kept { OnErr (pass_answer_of result) (done.new ≡ done.old) }
-{
-    thp_c_calls::pass_unpin(handle, alloc, caller, page, done)
 }
 
 /// Takes up to `n` pages, the oldest first, tries each, and returns those that are pinned.

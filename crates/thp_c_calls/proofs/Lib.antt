@@ -10,3 +10,4 @@ mod PassCrossings
 mod CheckCrossings
 mod Places
 mod Opened
+pub mod Ranges

@@ -1,8 +1,8 @@
 -- What contracts see of what a node's handle leads to.
-use Rattle.std.specs.Prelude.{◌≡◌, ◌≢◌, ℕ, [], List, Option, None, Some, length, get_or, Ok, Err, ◌⊎◌, if◌then◌else◌, nat_lt}
+use Rattle.std.specs.Prelude.{◌≡◌, ◌≢◌, ℕ, ◌≤◌, [], List, Option, None, Some, length, get_or, Ok, Err, ◌⊎◌, if◌then◌else◌, nat_lt}
 use Rattle.thp_model.specs.declared.refusal.Refusal.TheVariants.{OutOfMemory}
 use Rattle.thp_model.specs.declared.shape.Shape.{Shape}
-use Rattle.thp_model.specs.Limits.{max_callers, max_subpages}
+use Rattle.thp_model.specs.Limits.{max_callers, max_order, max_subpages}
 use Rattle.thp_model.specs.Shapes.{IsShape}
 use Rattle.thp_node.specs.Batches.{BatchState}
 use Rattle.thp_node.specs.NodeState.{NodeState}
@@ -54,3 +54,7 @@ Emptied _ (Some new) answer = ⊥
 -- the shape of these numbers. A threshold that no page can have, of 512 or more, is none.
 abbrev pub shape_of : ℕ → ℕ → ℕ → Shape
 shape_of blocks order underused = record { blocks = blocks; order = order; underused = if nat_lt underused max_subpages then Some underused else None }
+
+-- its pages have an order that pages can have
+abbrev pub IsLow : EngineState → Type 0
+IsLow e = e.node.shape.order ≤ max_order

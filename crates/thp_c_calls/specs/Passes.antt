@@ -6,7 +6,7 @@ use Rattle.thp_model.specs.declared.page_call.Done.{Done}
 use Rattle.thp_model.specs.declared.refusal.Refusal.{Refusal}
 use Rattle.thp_model.specs.declared.refusal.Refusal.TheVariants.{OutOfMemory}
 use Rattle.thp_model.specs.declared.shape.Shape.{Shape}
-use Rattle.thp_model.specs.Limits.{max_batch, max_callers}
+use Rattle.thp_model.specs.Limits.{max_batch, max_callers, max_order}
 use Rattle.thp_model.specs.Places.{queue}
 use Rattle.thp_model.specs.Refusals.{Call, refusal, alloc_page, scan}
 use Rattle.thp_model.specs.Runs.{take_events}
@@ -73,6 +73,10 @@ PassCount pages old new =
     OnlyFront old new
     × Follows old.pass new.pass
     × (pages ≡ length (queue new.pass.shape new.pass.front))
+
+-- the node's pages have an order that pages can have
+abbrev pub IsLowPass : SharedState → Type 0
+IsLowPass s = s.pass.shape.order ≤ max_order
 
 -- ---- passes that are divided and joined, and the cell's ends
 

@@ -1,5 +1,7 @@
 //! What a node's handle leads to: a node, and the batches that its callers have open.
-ghost use Rattle.std.specs.Prelude.{◌≡◌, ◌<◌, None, IsSome, IfSome, IfNone, IfOk, IfErr, OnOk, length};
+ghost use Rattle.std.specs.Prelude.{◌≡◌, ◌<◌, ◌≤◌, None, IsSome, IfSome, IfNone, IfOk, IfErr, OnOk, length};
+ghost use Rattle.thp_model.specs.Limits.{max_order};
+ghost use Rattle.thp_model.specs.PageCalls.{gain_call, gain_what, loss_call, loss_what};
 ghost use Rattle.thp_model.specs.Places.{queue};
 ghost use Rattle.thp_model.specs.Refusals as call;
 ghost use Rattle.thp_c_calls.specs.Calls.{OneCall, Allowed, Loses, TellsOutcome, TellsReleased, FailsAt, AllocCall, ScanCall, TakeCall, NextCall, BackReplies, BackRecords, BackFails, ReserveCall, AbandonCall};
@@ -12,7 +14,7 @@ use crate::stats::{ThpStats, narrow};
 use std::alloc::{AllocError, Global};
 use std::marker::Model;
 use thp_journal_writer::{NodeHistory, journal_text};
-use thp_model::{Done, MAX_BATCH, MAX_CALLERS, PageId, Shape, What};
+use thp_model::{Done, Gain, Loss, MAX_BATCH, MAX_CALLERS, PageId, Shape, What};
 use thp_node::{BackReply, Batch, NewFault, Node, ScanReply, Tried};
 
 /// A node, and the open batches of its callers, each of whose pages come first in their caller's flight.
@@ -77,85 +79,18 @@ impl Engine {
         }
     }
 
-    /// One more mapping of the whole page, by a PMD entry.
-    pub fn map_whole(&mut self, caller: u32, page: PageId) -> Result<(), Fault>
-        ensures { OneCall caller (call.map_whole page) (What.MapWhole page) self.old self.new result }
+    /// Gives a page mappings or a pin, or fills subpages of it.
+    #[inline(always)]
+    pub fn gain(&mut self, caller: u32, page: PageId, gain: Gain) -> Result<(), Fault>
+        ensures did { OneCall caller (gain_call gain page) (gain_what gain page) self.old self.new result }
+        ensures low { self.old.node.shape.order ≤ max_order }
     {
+        // Tells the proof of what order the pages are at most.
+        let _ = self.node.shape();
         if caller >= MAX_CALLERS {
             return Err(Fault::BadCaller);
         }
-        match self.node.map_whole(caller, page) {
-            Ok(()) => Ok(()),
-            Err(refusal) => Err(Fault::Refused(refusal)),
-        }
-    }
-
-    /// One more mapping of each of the `count` subpages from `first` on, by PTE entries.
-    pub fn map_sub(
-        &mut self,
-        caller: u32,
-        page: PageId,
-        first: u32,
-        count: u32,
-    ) -> Result<(), Fault>
-        ensures { OneCall caller (call.map_sub page first count) (What.MapSub page first count) self.old self.new result }
-    {
-        if caller >= MAX_CALLERS {
-            return Err(Fault::BadCaller);
-        }
-        match self.node.map_sub(caller, page, first, count) {
-            Ok(()) => Ok(()),
-            Err(refusal) => Err(Fault::Refused(refusal)),
-        }
-    }
-
-    /// One PMD mapping of the page becomes a PTE mapping of each subpage.
-    pub fn split_pmd(&mut self, caller: u32, page: PageId) -> Result<(), Fault>
-        ensures { OneCall caller (call.split_pmd page) (What.SplitPmd page) self.old self.new result }
-    {
-        if caller >= MAX_CALLERS {
-            return Err(Fault::BadCaller);
-        }
-        match self.node.split_pmd(caller, page) {
-            Ok(()) => Ok(()),
-            Err(refusal) => Err(Fault::Refused(refusal)),
-        }
-    }
-
-    /// One more pin of the page.
-    pub fn pin(&mut self, caller: u32, page: PageId) -> Result<(), Fault>
-        ensures { OneCall caller (call.pin page) (What.Pin page) self.old self.new result }
-    {
-        if caller >= MAX_CALLERS {
-            return Err(Fault::BadCaller);
-        }
-        match self.node.pin(caller, page) {
-            Ok(()) => Ok(()),
-            Err(refusal) => Err(Fault::Refused(refusal)),
-        }
-    }
-
-    /// Data is written to each of the `count` subpages from `first` on.
-    pub fn write(&mut self, caller: u32, page: PageId, first: u32, count: u32) -> Result<(), Fault>
-        ensures { OneCall caller (call.write page first count) (What.Write page first count) self.old self.new result }
-    {
-        if caller >= MAX_CALLERS {
-            return Err(Fault::BadCaller);
-        }
-        match self.node.write(caller, page, first, count) {
-            Ok(()) => Ok(()),
-            Err(refusal) => Err(Fault::Refused(refusal)),
-        }
-    }
-
-    /// Zeros are written to each of the `count` subpages from `first` on.
-    pub fn zero(&mut self, caller: u32, page: PageId, first: u32, count: u32) -> Result<(), Fault>
-        ensures { OneCall caller (call.zero_fill page first count) (What.Zero page first count) self.old self.new result }
-    {
-        if caller >= MAX_CALLERS {
-            return Err(Fault::BadCaller);
-        }
-        match self.node.zero(caller, page, first, count) {
+        match self.node.gain(caller, page, gain) {
             Ok(()) => Ok(()),
             Err(refusal) => Err(Fault::Refused(refusal)),
         }
@@ -174,61 +109,23 @@ impl Engine {
         }
     }
 
-    /// One mapping of the whole page less.
-    pub fn unmap_whole(&mut self, caller: u32, page: PageId) -> Result<Done, Fault>
+    /// Takes mappings or a pin from a page, which can queue or free it.
+    #[inline(always)]
+    pub fn lose(&mut self, caller: u32, page: PageId, loss: Loss) -> Result<Done, Fault>
         ensures batches { self.new.batches ≡ self.old.batches }
-        ensures allowed { OnOk result (Allowed self.old (call.unmap_whole page)) }
-        ensures recorded { IfOk result (Loses caller (λ o released. What.UnmapWhole o page released) self.old self.new) }
+        ensures allowed { OnOk result (Allowed self.old (loss_call loss page)) }
+        ensures recorded { IfOk result (Loses caller (loss_what loss page) self.old self.new) }
         ensures outcome { IfOk result (TellsOutcome page self.old self.new) }
         ensures released { IfOk result (TellsReleased page self.old self.new) }
-        ensures failed { IfErr result (FailsAt caller (call.unmap_whole page) self.old self.new) }
+        ensures failed { IfErr result (FailsAt caller (loss_call loss page) self.old self.new) }
+        ensures low { self.old.node.shape.order ≤ max_order }
     {
+        // Tells the proof of what order the pages are at most.
+        let _ = self.node.shape();
         if caller >= MAX_CALLERS {
             return Err(Fault::BadCaller);
         }
-        match self.node.unmap_whole(caller, page) {
-            Ok(done) => Ok(done),
-            Err(refusal) => Err(Fault::Refused(refusal)),
-        }
-    }
-
-    /// One mapping of each of the `count` subpages from `first` on less.
-    pub fn unmap_sub(
-        &mut self,
-        caller: u32,
-        page: PageId,
-        first: u32,
-        count: u32,
-    ) -> Result<Done, Fault>
-        ensures batches { self.new.batches ≡ self.old.batches }
-        ensures allowed { OnOk result (Allowed self.old (call.unmap_sub page first count)) }
-        ensures recorded { IfOk result (Loses caller (λ o released. What.UnmapSub o page first count released) self.old self.new) }
-        ensures outcome { IfOk result (TellsOutcome page self.old self.new) }
-        ensures released { IfOk result (TellsReleased page self.old self.new) }
-        ensures failed { IfErr result (FailsAt caller (call.unmap_sub page first count) self.old self.new) }
-    {
-        if caller >= MAX_CALLERS {
-            return Err(Fault::BadCaller);
-        }
-        match self.node.unmap_sub(caller, page, first, count) {
-            Ok(done) => Ok(done),
-            Err(refusal) => Err(Fault::Refused(refusal)),
-        }
-    }
-
-    /// One pin of the page less.
-    pub fn unpin(&mut self, caller: u32, page: PageId) -> Result<Done, Fault>
-        ensures batches { self.new.batches ≡ self.old.batches }
-        ensures allowed { OnOk result (Allowed self.old (call.unpin page)) }
-        ensures recorded { IfOk result (Loses caller (λ o released. What.Unpin o page released) self.old self.new) }
-        ensures outcome { IfOk result (TellsOutcome page self.old self.new) }
-        ensures released { IfOk result (TellsReleased page self.old self.new) }
-        ensures failed { IfErr result (FailsAt caller (call.unpin page) self.old self.new) }
-    {
-        if caller >= MAX_CALLERS {
-            return Err(Fault::BadCaller);
-        }
-        match self.node.unpin(caller, page) {
+        match self.node.lose(caller, page, loss) {
             Ok(done) => Ok(done),
             Err(refusal) => Err(Fault::Refused(refusal)),
         }

@@ -32,17 +32,15 @@ pub use checks::check_text;
 pub use codes::Fault;
 pub use engine::Engine;
 pub use node_calls::{
-    node_abandon, node_alloc, node_close, node_create, node_destroy, node_journal, node_map_sub,
-    node_map_whole, node_pin, node_put_back, node_queue_length, node_reserve, node_scan,
-    node_split_next, node_split_pmd, node_stats, node_take, node_unmap_sub, node_unmap_whole,
-    node_unpin, node_write, node_zero,
+    node_abandon, node_alloc, node_close, node_create, node_destroy, node_gain, node_journal,
+    node_lose, node_put_back, node_queue_length, node_reserve, node_scan, node_split_next,
+    node_stats, node_take,
 };
 pub use node_handle::ThpNode;
 pub use pass_batch_calls::{pass_abandon, pass_put_back, pass_split_next, pass_take};
 pub use pass_calls::{
-    cell_create, cell_finish, pass_alloc, pass_close, pass_count, pass_destroy, pass_join,
-    pass_map_sub, pass_map_whole, pass_pin, pass_scan, pass_split, pass_split_pmd, pass_unmap_sub,
-    pass_unmap_whole, pass_unpin, pass_write, pass_zero,
+    cell_create, cell_finish, pass_alloc, pass_close, pass_count, pass_destroy, pass_gain,
+    pass_join, pass_lose, pass_scan, pass_split,
 };
 pub use pass_codes::PassFault;
 pub use pass_handle::ThpPass;

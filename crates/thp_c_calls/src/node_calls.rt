@@ -1,10 +1,11 @@
 //! The calls of a node, for C.
-ghost use Rattle.std.specs.Prelude.{◌≡◌, ◌∷◌, ◌++◌, ◌<◌, ◌≤◌, [], Ok, OnOk, OnErr, IfErr, drop, length};
+ghost use Rattle.std.specs.Prelude.{◌≡◌, ◌∷◌, ◌++◌, ◌<◌, ◌≤◌, [], Ok, IfSome, OnOk, OnErr, IfErr, drop, length};
+ghost use Rattle.thp_model.specs.PageCalls.{gain_call, gain_what, loss_call, loss_what};
 ghost use Rattle.thp_model.specs.Places.{queue};
 ghost use Rattle.thp_model.specs.Refusals as call;
 ghost use Rattle.thp_c_calls.specs.Calls.{OneCall, AllocCall, ScanCall, TakeCall, NextCall, BackCall, AbandonCall, ReserveCall, Written};
 ghost use Rattle.thp_c_calls.specs.Codes.{answer_of, answers, answer_with};
-ghost use Rattle.thp_c_calls.specs.Engines.{Does, Made, Emptied, shape_of};
+ghost use Rattle.thp_c_calls.specs.Engines.{Does, Made, Emptied, IsLow, shape_of};
 ghost use Rattle.thp_c_calls.specs.Replies.{LoseCall, stats_of, scan_of, tried_of, back_of};
 ghost use Rattle.thp_journal_writer.specs.Journals.{journal_text};
 
@@ -14,7 +15,7 @@ use crate::node_handle::ThpNode;
 use crate::replies::{ThpBack, ThpDone, ThpScan, ThpTried};
 use crate::stats::ThpStats;
 use std::alloc::Global;
-use thp_model::{PageId, Refusal, Shape, What};
+use thp_model::{Gain, Loss, PageId, Refusal, Shape, What};
 use thp_node::NewFault;
 
 /// Makes a node, and fills the handle with it. A threshold of 512 or more is none: the shrinker doesn't look for underused
@@ -91,101 +92,17 @@ pub fn node_alloc(handle: &mut ThpNode, alloc: Global, caller: u32, page: &mut u
     }
 }
 
-/// One more mapping of the whole page, by a PMD entry.
-pub fn node_map_whole(handle: &mut ThpNode, alloc: Global, caller: u32, page: u64) -> u32
-    ensures does { Does handle.old.held handle.new.held (answer_of result) (OneCall caller (call.map_whole page) (What.MapWhole page)) }
+/// Gives a page mappings or a pin, or fills subpages of it.
+#[inline(always)]
+pub fn node_gain(handle: &mut ThpNode, alloc: Global, caller: u32, page: u64, gain: Gain) -> u32
+    ensures does { Does handle.old.held handle.new.held (answer_of result) (OneCall caller (gain_call gain page) (gain_what gain page)) }
     ensures known { result < length answers }
+    ensures low { IfSome handle.old.held IsLow }
 {
     let Some(mut engine) = handle.open(alloc) else {
         return code(Err(Fault::Empty));
     };
-    let answer = engine.map_whole(caller, PageId(page));
-    *handle = ThpNode::full(engine);
-    code(answer)
-}
-
-/// One more mapping of each of the `count` subpages from `first` on, by PTE entries.
-pub fn node_map_sub(
-    handle: &mut ThpNode,
-    alloc: Global,
-    caller: u32,
-    page: u64,
-    first: u32,
-    count: u32,
-) -> u32
-    ensures does { Does handle.old.held handle.new.held (answer_of result) (OneCall caller (call.map_sub page first count) (What.MapSub page first count)) }
-    ensures known { result < length answers }
-{
-    let Some(mut engine) = handle.open(alloc) else {
-        return code(Err(Fault::Empty));
-    };
-    let answer = engine.map_sub(caller, PageId(page), first, count);
-    *handle = ThpNode::full(engine);
-    code(answer)
-}
-
-/// One PMD mapping of the page becomes a PTE mapping of each subpage.
-pub fn node_split_pmd(handle: &mut ThpNode, alloc: Global, caller: u32, page: u64) -> u32
-    ensures does { Does handle.old.held handle.new.held (answer_of result) (OneCall caller (call.split_pmd page) (What.SplitPmd page)) }
-    ensures known { result < length answers }
-{
-    let Some(mut engine) = handle.open(alloc) else {
-        return code(Err(Fault::Empty));
-    };
-    let answer = engine.split_pmd(caller, PageId(page));
-    *handle = ThpNode::full(engine);
-    code(answer)
-}
-
-/// One more pin of the page.
-pub fn node_pin(handle: &mut ThpNode, alloc: Global, caller: u32, page: u64) -> u32
-    ensures does { Does handle.old.held handle.new.held (answer_of result) (OneCall caller (call.pin page) (What.Pin page)) }
-    ensures known { result < length answers }
-{
-    let Some(mut engine) = handle.open(alloc) else {
-        return code(Err(Fault::Empty));
-    };
-    let answer = engine.pin(caller, PageId(page));
-    *handle = ThpNode::full(engine);
-    code(answer)
-}
-
-/// Data is written to each of the `count` subpages from `first` on.
-pub fn node_write(
-    handle: &mut ThpNode,
-    alloc: Global,
-    caller: u32,
-    page: u64,
-    first: u32,
-    count: u32,
-) -> u32
-    ensures does { Does handle.old.held handle.new.held (answer_of result) (OneCall caller (call.write page first count) (What.Write page first count)) }
-    ensures known { result < length answers }
-{
-    let Some(mut engine) = handle.open(alloc) else {
-        return code(Err(Fault::Empty));
-    };
-    let answer = engine.write(caller, PageId(page), first, count);
-    *handle = ThpNode::full(engine);
-    code(answer)
-}
-
-/// Zeros are written to each of the `count` subpages from `first` on.
-pub fn node_zero(
-    handle: &mut ThpNode,
-    alloc: Global,
-    caller: u32,
-    page: u64,
-    first: u32,
-    count: u32,
-) -> u32
-    ensures does { Does handle.old.held handle.new.held (answer_of result) (OneCall caller (call.zero_fill page first count) (What.Zero page first count)) }
-    ensures known { result < length answers }
-{
-    let Some(mut engine) = handle.open(alloc) else {
-        return code(Err(Fault::Empty));
-    };
-    let answer = engine.zero(caller, PageId(page), first, count);
+    let answer = engine.gain(caller, PageId(page), gain);
     *handle = ThpNode::full(engine);
     code(answer)
 }
@@ -203,76 +120,25 @@ pub fn node_close(handle: &mut ThpNode, alloc: Global, caller: u32) -> u32
     code(answer)
 }
 
-/// One mapping of the whole page less.
-pub fn node_unmap_whole(
+/// Takes mappings or a pin from a page, which can queue or free it.
+#[inline(always)]
+pub fn node_lose(
     handle: &mut ThpNode,
     alloc: Global,
     caller: u32,
     page: u64,
+    loss: Loss,
     done: &mut ThpDone,
 ) -> u32
-    ensures does { Does handle.old.held handle.new.held (answer_of result) (λ old new answer. LoseCall caller (call.unmap_whole page) page (λ o released. What.UnmapWhole o page released) old new (answer_with answer done.new)) }
+    ensures does { Does handle.old.held handle.new.held (answer_of result) (λ old new answer. LoseCall caller (loss_call loss page) page (loss_what loss page) old new (answer_with answer done.new)) }
     ensures known { result < length answers }
     ensures kept { OnErr (answer_of result) (done.new ≡ done.old) }
+    ensures low { IfSome handle.old.held IsLow }
 {
     let Some(mut engine) = handle.open(alloc) else {
         return code(Err(Fault::Empty));
     };
-    let answer = engine.unmap_whole(caller, PageId(page));
-    *handle = ThpNode::full(engine);
-    match answer {
-        Ok(did) => {
-            *done = ThpDone::of(&did);
-            code(Ok(()))
-        }
-        Err(fault) => code(Err(fault)),
-    }
-}
-
-/// One mapping of each of the `count` subpages from `first` on less.
-pub fn node_unmap_sub(
-    handle: &mut ThpNode,
-    alloc: Global,
-    caller: u32,
-    page: u64,
-    first: u32,
-    count: u32,
-    done: &mut ThpDone,
-) -> u32
-    ensures does { Does handle.old.held handle.new.held (answer_of result) (λ old new answer. LoseCall caller (call.unmap_sub page first count) page (λ o released. What.UnmapSub o page first count released) old new (answer_with answer done.new)) }
-    ensures known { result < length answers }
-    ensures kept { OnErr (answer_of result) (done.new ≡ done.old) }
-{
-    let Some(mut engine) = handle.open(alloc) else {
-        return code(Err(Fault::Empty));
-    };
-    let answer = engine.unmap_sub(caller, PageId(page), first, count);
-    *handle = ThpNode::full(engine);
-    match answer {
-        Ok(did) => {
-            *done = ThpDone::of(&did);
-            code(Ok(()))
-        }
-        Err(fault) => code(Err(fault)),
-    }
-}
-
-/// One pin of the page less.
-pub fn node_unpin(
-    handle: &mut ThpNode,
-    alloc: Global,
-    caller: u32,
-    page: u64,
-    done: &mut ThpDone,
-) -> u32
-    ensures does { Does handle.old.held handle.new.held (answer_of result) (λ old new answer. LoseCall caller (call.unpin page) page (λ o released. What.Unpin o page released) old new (answer_with answer done.new)) }
-    ensures known { result < length answers }
-    ensures kept { OnErr (answer_of result) (done.new ≡ done.old) }
-{
-    let Some(mut engine) = handle.open(alloc) else {
-        return code(Err(Fault::Empty));
-    };
-    let answer = engine.unpin(caller, PageId(page));
+    let answer = engine.lose(caller, PageId(page), loss);
     *handle = ThpNode::full(engine);
     match answer {
         Ok(did) => {

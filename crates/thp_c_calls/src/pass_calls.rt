@@ -1,10 +1,11 @@
 //! The calls of a shared node, for C: its cell, and passes to it.
 ghost use Rattle.std.specs.Prelude.{◌≡◌, None, OnOk, OnErr, IfErr, IfSome, Ok};
+ghost use Rattle.thp_model.specs.PageCalls.{gain_call, gain_what, loss_call, loss_what};
 ghost use Rattle.thp_model.specs.Refusals as call;
 ghost use Rattle.thp_c_calls.specs.Engines.{NoneOpen, shape_of};
 ghost use Rattle.thp_c_calls.specs.PassCodes.{pass_answer_of, pass_answer_with, IsPassCode};
 ghost use Rattle.thp_c_calls.specs.PassHandle.{pass_of};
-ghost use Rattle.thp_c_calls.specs.Passes.{PassDoes, PassOne, PassAlloc, PassLost, PassScan, PassCount, CellMade, PassEmptied, Divided, WhyUndivided, Joined, WhyApart, OneCellHeld, Finished, WhyUnfinished};
+ghost use Rattle.thp_c_calls.specs.Passes.{IsLowPass, PassDoes, PassOne, PassAlloc, PassLost, PassScan, PassCount, CellMade, PassEmptied, Divided, WhyUndivided, Joined, WhyApart, OneCellHeld, Finished, WhyUnfinished};
 ghost use Rattle.thp_c_calls.specs.Replies.{scan_of};
 
 use crate::codes::Fault;
@@ -16,7 +17,7 @@ use crate::pass_handle::ThpPass;
 use crate::replies::{ThpDone, ThpScan};
 use crate::shared_pass::SharedPass;
 use std::alloc::Global;
-use thp_model::{PageId, Refusal, Shape, What};
+use thp_model::{Gain, Loss, PageId, Refusal, Shape, What};
 use thp_node::NewFault;
 
 /// Makes a shared node for a number of callers, and fills the handle with the pass of all of them. The mark tells passes of
@@ -199,41 +200,44 @@ pub fn pass_alloc(handle: &mut ThpPass, alloc: Global, caller: u32, page: &mut u
     }
 }
 
-/// One PMD mapping of the page becomes a PTE mapping of each subpage.
-pub fn pass_split_pmd(handle: &mut ThpPass, alloc: Global, caller: u32, page: u64) -> u32
-    ensures does { PassDoes (pass_of handle.old.held) (pass_of handle.new.held) (pass_answer_of result) (PassOne caller (call.split_pmd page) (What.SplitPmd page)) }
+/// Gives a page mappings or a pin, or fills subpages of it.
+#[inline(always)]
+pub fn pass_gain(handle: &mut ThpPass, alloc: Global, caller: u32, page: u64, gain: Gain) -> u32
+    ensures does { PassDoes (pass_of handle.old.held) (pass_of handle.new.held) (pass_answer_of result) (PassOne caller (gain_call gain page) (gain_what gain page)) }
     ensures known { IsPassCode result }
+    ensures low { IfSome (pass_of handle.old.held) IsLowPass }
 {
     let Some(mut room) = handle.lend(alloc) else {
         return pass_code(Err(PassFault::Plain(Fault::Empty)));
     };
     let answer = match &mut room.shared {
-        Some(shared) => shared.split_pmd(caller, PageId(page)),
+        Some(shared) => shared.gain(caller, PageId(page), gain),
         None => Err(PassFault::Plain(Fault::Empty)),
     };
     *handle = ThpPass::of_room(room);
     pass_code(answer)
 }
 
-/// One mapping of each of the `count` subpages from `first` on less.
-pub fn pass_unmap_sub(
+/// Takes mappings or a pin from a page, which can queue or free it.
+#[inline(always)]
+pub fn pass_lose(
     handle: &mut ThpPass,
     alloc: Global,
     caller: u32,
     page: u64,
-    first: u32,
-    count: u32,
+    loss: Loss,
     done: &mut ThpDone,
 ) -> u32
-    ensures does { PassDoes (pass_of handle.old.held) (pass_of handle.new.held) (pass_answer_of result) (λ old new answer. PassLost caller (call.unmap_sub page first count) page (λ o released. What.UnmapSub o page first count released) old new (pass_answer_with answer done.new)) }
+    ensures does { PassDoes (pass_of handle.old.held) (pass_of handle.new.held) (pass_answer_of result) (λ old new answer. PassLost caller (loss_call loss page) page (loss_what loss page) old new (pass_answer_with answer done.new)) }
     ensures known { IsPassCode result }
     ensures kept { OnErr (pass_answer_of result) (done.new ≡ done.old) }
+    ensures low { IfSome (pass_of handle.old.held) IsLowPass }
 {
     let Some(mut room) = handle.lend(alloc) else {
         return pass_code(Err(PassFault::Plain(Fault::Empty)));
     };
     let answer = match &mut room.shared {
-        Some(shared) => shared.unmap_sub(caller, PageId(page), first, count),
+        Some(shared) => shared.lose(caller, PageId(page), loss),
         None => Err(PassFault::Plain(Fault::Empty)),
     };
     *handle = ThpPass::of_room(room);
@@ -244,107 +248,6 @@ pub fn pass_unmap_sub(
         }
         Err(fault) => pass_code(Err(fault)),
     }
-}
-
-/// One more mapping of the whole page, by a PMD entry.
-pub fn pass_map_whole(handle: &mut ThpPass, alloc: Global, caller: u32, page: u64) -> u32
-    ensures does { PassDoes (pass_of handle.old.held) (pass_of handle.new.held) (pass_answer_of result) (PassOne caller (call.map_whole page) (What.MapWhole page)) }
-    ensures known { IsPassCode result }
-{
-    let Some(mut room) = handle.lend(alloc) else {
-        return pass_code(Err(PassFault::Plain(Fault::Empty)));
-    };
-    let answer = match &mut room.shared {
-        Some(shared) => shared.map_whole(caller, PageId(page)),
-        None => Err(PassFault::Plain(Fault::Empty)),
-    };
-    *handle = ThpPass::of_room(room);
-    pass_code(answer)
-}
-
-/// One more mapping of each of the `count` subpages from `first` on, by PTE entries.
-pub fn pass_map_sub(
-    handle: &mut ThpPass,
-    alloc: Global,
-    caller: u32,
-    page: u64,
-    first: u32,
-    count: u32,
-) -> u32
-    ensures does { PassDoes (pass_of handle.old.held) (pass_of handle.new.held) (pass_answer_of result) (PassOne caller (call.map_sub page first count) (What.MapSub page first count)) }
-    ensures known { IsPassCode result }
-{
-    let Some(mut room) = handle.lend(alloc) else {
-        return pass_code(Err(PassFault::Plain(Fault::Empty)));
-    };
-    let answer = match &mut room.shared {
-        Some(shared) => shared.map_sub(caller, PageId(page), first, count),
-        None => Err(PassFault::Plain(Fault::Empty)),
-    };
-    *handle = ThpPass::of_room(room);
-    pass_code(answer)
-}
-
-/// One more pin of the page.
-pub fn pass_pin(handle: &mut ThpPass, alloc: Global, caller: u32, page: u64) -> u32
-    ensures does { PassDoes (pass_of handle.old.held) (pass_of handle.new.held) (pass_answer_of result) (PassOne caller (call.pin page) (What.Pin page)) }
-    ensures known { IsPassCode result }
-{
-    let Some(mut room) = handle.lend(alloc) else {
-        return pass_code(Err(PassFault::Plain(Fault::Empty)));
-    };
-    let answer = match &mut room.shared {
-        Some(shared) => shared.pin(caller, PageId(page)),
-        None => Err(PassFault::Plain(Fault::Empty)),
-    };
-    *handle = ThpPass::of_room(room);
-    pass_code(answer)
-}
-
-/// Data is written to each of the `count` subpages from `first` on.
-pub fn pass_write(
-    handle: &mut ThpPass,
-    alloc: Global,
-    caller: u32,
-    page: u64,
-    first: u32,
-    count: u32,
-) -> u32
-    ensures does { PassDoes (pass_of handle.old.held) (pass_of handle.new.held) (pass_answer_of result) (PassOne caller (call.write page first count) (What.Write page first count)) }
-    ensures known { IsPassCode result }
-{
-    let Some(mut room) = handle.lend(alloc) else {
-        return pass_code(Err(PassFault::Plain(Fault::Empty)));
-    };
-    let answer = match &mut room.shared {
-        Some(shared) => shared.write(caller, PageId(page), first, count),
-        None => Err(PassFault::Plain(Fault::Empty)),
-    };
-    *handle = ThpPass::of_room(room);
-    pass_code(answer)
-}
-
-/// Zeros are written to each of the `count` subpages from `first` on.
-pub fn pass_zero(
-    handle: &mut ThpPass,
-    alloc: Global,
-    caller: u32,
-    page: u64,
-    first: u32,
-    count: u32,
-) -> u32
-    ensures does { PassDoes (pass_of handle.old.held) (pass_of handle.new.held) (pass_answer_of result) (PassOne caller (call.zero_fill page first count) (What.Zero page first count)) }
-    ensures known { IsPassCode result }
-{
-    let Some(mut room) = handle.lend(alloc) else {
-        return pass_code(Err(PassFault::Plain(Fault::Empty)));
-    };
-    let answer = match &mut room.shared {
-        Some(shared) => shared.zero(caller, PageId(page), first, count),
-        None => Err(PassFault::Plain(Fault::Empty)),
-    };
-    *handle = ThpPass::of_room(room);
-    pass_code(answer)
 }
 
 /// Closes the node: from here on nothing enters the queue and no page is allocated.
@@ -361,64 +264,6 @@ pub fn pass_close(handle: &mut ThpPass, alloc: Global, caller: u32) -> u32
     };
     *handle = ThpPass::of_room(room);
     pass_code(answer)
-}
-
-/// One mapping of the whole page less.
-pub fn pass_unmap_whole(
-    handle: &mut ThpPass,
-    alloc: Global,
-    caller: u32,
-    page: u64,
-    done: &mut ThpDone,
-) -> u32
-    ensures does { PassDoes (pass_of handle.old.held) (pass_of handle.new.held) (pass_answer_of result) (λ old new answer. PassLost caller (call.unmap_whole page) page (λ o released. What.UnmapWhole o page released) old new (pass_answer_with answer done.new)) }
-    ensures known { IsPassCode result }
-    ensures kept { OnErr (pass_answer_of result) (done.new ≡ done.old) }
-{
-    let Some(mut room) = handle.lend(alloc) else {
-        return pass_code(Err(PassFault::Plain(Fault::Empty)));
-    };
-    let answer = match &mut room.shared {
-        Some(shared) => shared.unmap_whole(caller, PageId(page)),
-        None => Err(PassFault::Plain(Fault::Empty)),
-    };
-    *handle = ThpPass::of_room(room);
-    match answer {
-        Ok(did) => {
-            *done = ThpDone::of(&did);
-            pass_code(Ok(()))
-        }
-        Err(fault) => pass_code(Err(fault)),
-    }
-}
-
-/// One pin of the page less.
-pub fn pass_unpin(
-    handle: &mut ThpPass,
-    alloc: Global,
-    caller: u32,
-    page: u64,
-    done: &mut ThpDone,
-) -> u32
-    ensures does { PassDoes (pass_of handle.old.held) (pass_of handle.new.held) (pass_answer_of result) (λ old new answer. PassLost caller (call.unpin page) page (λ o released. What.Unpin o page released) old new (pass_answer_with answer done.new)) }
-    ensures known { IsPassCode result }
-    ensures kept { OnErr (pass_answer_of result) (done.new ≡ done.old) }
-{
-    let Some(mut room) = handle.lend(alloc) else {
-        return pass_code(Err(PassFault::Plain(Fault::Empty)));
-    };
-    let answer = match &mut room.shared {
-        Some(shared) => shared.unpin(caller, PageId(page)),
-        None => Err(PassFault::Plain(Fault::Empty)),
-    };
-    *handle = ThpPass::of_room(room);
-    match answer {
-        Ok(did) => {
-            *done = ThpDone::of(&did);
-            pass_code(Ok(()))
-        }
-        Err(fault) => pass_code(Err(fault)),
-    }
 }
 
 /// Takes up to `n` pages, the oldest first, tries each, and returns those that are pinned.

@@ -1,5 +1,7 @@
 //! A pass with a share of its cell.
-ghost use Rattle.std.specs.Prelude.{◌≡◌, true, false, IfOk, IfErr, ◌⊎◌};
+ghost use Rattle.std.specs.Prelude.{◌≡◌, ◌≤◌, true, false, IfOk, IfErr, ◌⊎◌};
+ghost use Rattle.thp_model.specs.Limits.{max_order};
+ghost use Rattle.thp_model.specs.PageCalls.{gain_call, gain_what, loss_call, loss_what};
 ghost use Rattle.thp_model.specs.Refusals.{refusal};
 ghost use Rattle.thp_model.specs.Refusals as call;
 ghost use Rattle.thp_cell.specs.Calls.{Called, below, from, IsJoined};
@@ -17,7 +19,7 @@ use std::alloc::Global;
 use std::marker::Model;
 use std::sync::Arc;
 use thp_cell::{CellFault, NodeCell, Pass};
-use thp_model::{Done, MAX_BATCH, PageId, Refusal, Shape, What};
+use thp_model::{Done, Gain, Loss, MAX_BATCH, PageId, Refusal, Shape, What};
 use thp_node::{Batch, NewFault, Node, ScanReply};
 
 /// A pass, its share of the cell, and the mark by which passes of other cells are told.
@@ -99,131 +101,39 @@ impl SharedPass {
         }
     }
 
-    /// One PMD mapping of the page becomes a PTE mapping of each subpage.
-    pub fn split_pmd(&mut self, caller: u32, page: PageId) -> Result<(), PassFault>
-        ensures { PassOne caller (call.split_pmd page) (What.SplitPmd page) self.old self.new result }
+    /// Gives a page mappings or a pin, or fills subpages of it.
+    #[inline(always)]
+    pub fn gain(&mut self, caller: u32, page: PageId, gain: Gain) -> Result<(), PassFault>
+        ensures did { PassOne caller (gain_call gain page) (gain_what gain page) self.old self.new result }
+        ensures low { self.old.pass.shape.order ≤ max_order }
     {
+        // Tells the proof of what order the pages are at most.
+        let _ = self.pass.callers();
         if !self.has(caller) {
             return Err(PassFault::Plain(Fault::BadCaller));
         }
-        match self.cell.split_pmd(&mut self.pass, caller, page) {
+        match self.cell.gain(&mut self.pass, caller, page, gain) {
             Ok(()) => Ok(()),
             Err(CellFault::Busy) => Err(PassFault::Busy),
             Err(CellFault::Refused(refusal)) => Err(PassFault::Plain(Fault::Refused(refusal))),
         }
     }
 
-    /// One mapping of each of the `count` subpages from `first` on less.
-    pub fn unmap_sub(
-        &mut self,
-        caller: u32,
-        page: PageId,
-        first: u32,
-        count: u32,
-    ) -> Result<Done, PassFault>
+    /// Takes mappings or a pin from a page, which can queue or free it.
+    #[inline(always)]
+    pub fn lose(&mut self, caller: u32, page: PageId, loss: Loss) -> Result<Done, PassFault>
         ensures front { OnlyFront self.old self.new }
-        ensures recorded { IfOk result (λ d. Called self.old.pass self.new.pass caller (DidLose self.old.pass.shape (call.unmap_sub page first count) caller page (λ o released. What.UnmapSub o page first count released) d)) }
-        ensures failed { IfErr result (PassFails caller (refusal self.new.pass.shape self.new.pass.front (call.unmap_sub page first count)) 1 self.old.pass self.new.pass) }
+        ensures recorded { IfOk result (λ d. Called self.old.pass self.new.pass caller (DidLose self.old.pass.shape (loss_call loss page) caller page (loss_what loss page) d)) }
+        ensures failed { IfErr result (PassFails caller (refusal self.new.pass.shape self.new.pass.front (loss_call loss page)) 1 self.old.pass self.new.pass) }
+        ensures low { self.old.pass.shape.order ≤ max_order }
     {
+        // Tells the proof of what order the pages are at most.
+        let _ = self.pass.callers();
         if !self.has(caller) {
             return Err(PassFault::Plain(Fault::BadCaller));
         }
-        match self
-            .cell
-            .unmap_sub(&mut self.pass, caller, page, first, count)
-        {
+        match self.cell.lose(&mut self.pass, caller, page, loss) {
             Ok(done) => Ok(done),
-            Err(CellFault::Busy) => Err(PassFault::Busy),
-            Err(CellFault::Refused(refusal)) => Err(PassFault::Plain(Fault::Refused(refusal))),
-        }
-    }
-
-    /// One more mapping of the whole page, by a PMD entry.
-    pub fn map_whole(&mut self, caller: u32, page: PageId) -> Result<(), PassFault>
-        ensures { PassOne caller (call.map_whole page) (What.MapWhole page) self.old self.new result }
-    {
-        if !self.has(caller) {
-            return Err(PassFault::Plain(Fault::BadCaller));
-        }
-        match self.cell.map_whole(&mut self.pass, caller, page) {
-            Ok(()) => Ok(()),
-            Err(CellFault::Busy) => Err(PassFault::Busy),
-            Err(CellFault::Refused(refusal)) => Err(PassFault::Plain(Fault::Refused(refusal))),
-        }
-    }
-
-    /// One more mapping of each of the `count` subpages from `first` on, by PTE entries.
-    pub fn map_sub(
-        &mut self,
-        caller: u32,
-        page: PageId,
-        first: u32,
-        count: u32,
-    ) -> Result<(), PassFault>
-        ensures { PassOne caller (call.map_sub page first count) (What.MapSub page first count) self.old self.new result }
-    {
-        if !self.has(caller) {
-            return Err(PassFault::Plain(Fault::BadCaller));
-        }
-        match self
-            .cell
-            .map_sub(&mut self.pass, caller, page, first, count)
-        {
-            Ok(()) => Ok(()),
-            Err(CellFault::Busy) => Err(PassFault::Busy),
-            Err(CellFault::Refused(refusal)) => Err(PassFault::Plain(Fault::Refused(refusal))),
-        }
-    }
-
-    /// One more pin of the page.
-    pub fn pin(&mut self, caller: u32, page: PageId) -> Result<(), PassFault>
-        ensures { PassOne caller (call.pin page) (What.Pin page) self.old self.new result }
-    {
-        if !self.has(caller) {
-            return Err(PassFault::Plain(Fault::BadCaller));
-        }
-        match self.cell.pin(&mut self.pass, caller, page) {
-            Ok(()) => Ok(()),
-            Err(CellFault::Busy) => Err(PassFault::Busy),
-            Err(CellFault::Refused(refusal)) => Err(PassFault::Plain(Fault::Refused(refusal))),
-        }
-    }
-
-    /// Data is written to each of the `count` subpages from `first` on.
-    pub fn write(
-        &mut self,
-        caller: u32,
-        page: PageId,
-        first: u32,
-        count: u32,
-    ) -> Result<(), PassFault>
-        ensures { PassOne caller (call.write page first count) (What.Write page first count) self.old self.new result }
-    {
-        if !self.has(caller) {
-            return Err(PassFault::Plain(Fault::BadCaller));
-        }
-        match self.cell.write(&mut self.pass, caller, page, first, count) {
-            Ok(()) => Ok(()),
-            Err(CellFault::Busy) => Err(PassFault::Busy),
-            Err(CellFault::Refused(refusal)) => Err(PassFault::Plain(Fault::Refused(refusal))),
-        }
-    }
-
-    /// Zeros are written to each of the `count` subpages from `first` on.
-    pub fn zero(
-        &mut self,
-        caller: u32,
-        page: PageId,
-        first: u32,
-        count: u32,
-    ) -> Result<(), PassFault>
-        ensures { PassOne caller (call.zero_fill page first count) (What.Zero page first count) self.old self.new result }
-    {
-        if !self.has(caller) {
-            return Err(PassFault::Plain(Fault::BadCaller));
-        }
-        match self.cell.zero(&mut self.pass, caller, page, first, count) {
-            Ok(()) => Ok(()),
             Err(CellFault::Busy) => Err(PassFault::Busy),
             Err(CellFault::Refused(refusal)) => Err(PassFault::Plain(Fault::Refused(refusal))),
         }
@@ -238,38 +148,6 @@ impl SharedPass {
         }
         match self.cell.close(&mut self.pass, caller) {
             Ok(()) => Ok(()),
-            Err(CellFault::Busy) => Err(PassFault::Busy),
-            Err(CellFault::Refused(refusal)) => Err(PassFault::Plain(Fault::Refused(refusal))),
-        }
-    }
-
-    /// One mapping of the whole page less.
-    pub fn unmap_whole(&mut self, caller: u32, page: PageId) -> Result<Done, PassFault>
-        ensures front { OnlyFront self.old self.new }
-        ensures recorded { IfOk result (λ d. Called self.old.pass self.new.pass caller (DidLose self.old.pass.shape (call.unmap_whole page) caller page (λ o released. What.UnmapWhole o page released) d)) }
-        ensures failed { IfErr result (PassFails caller (refusal self.new.pass.shape self.new.pass.front (call.unmap_whole page)) 1 self.old.pass self.new.pass) }
-    {
-        if !self.has(caller) {
-            return Err(PassFault::Plain(Fault::BadCaller));
-        }
-        match self.cell.unmap_whole(&mut self.pass, caller, page) {
-            Ok(done) => Ok(done),
-            Err(CellFault::Busy) => Err(PassFault::Busy),
-            Err(CellFault::Refused(refusal)) => Err(PassFault::Plain(Fault::Refused(refusal))),
-        }
-    }
-
-    /// One pin of the page less.
-    pub fn unpin(&mut self, caller: u32, page: PageId) -> Result<Done, PassFault>
-        ensures front { OnlyFront self.old self.new }
-        ensures recorded { IfOk result (λ d. Called self.old.pass self.new.pass caller (DidLose self.old.pass.shape (call.unpin page) caller page (λ o released. What.Unpin o page released) d)) }
-        ensures failed { IfErr result (PassFails caller (refusal self.new.pass.shape self.new.pass.front (call.unpin page)) 1 self.old.pass self.new.pass) }
-    {
-        if !self.has(caller) {
-            return Err(PassFault::Plain(Fault::BadCaller));
-        }
-        match self.cell.unpin(&mut self.pass, caller, page) {
-            Ok(done) => Ok(done),
             Err(CellFault::Busy) => Err(PassFault::Busy),
             Err(CellFault::Refused(refusal)) => Err(PassFault::Plain(Fault::Refused(refusal))),
         }

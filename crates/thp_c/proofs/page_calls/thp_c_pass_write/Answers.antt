@@ -1,0 +1,6 @@
+-- The range as it is kept does what the range itself does.
+use Rattle.thp_c_calls.proofs.Ranges.{pass_write}
+use Rattle.thp_c.proofs.page_calls.thp_c_pass_write.Goals as goal
+
+pub returns-clause-does : goal.returns-clause-does
+returns-clause-does c = pass_write _ _ _ _ _ _ c.narrowed-first.ensures c.narrowed-count.ensures _ _ _ c.pass_gain.ensures.low c.pass_gain.ensures.does

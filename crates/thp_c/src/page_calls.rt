@@ -1,0 +1,308 @@
+//! The calls about one page, exported: of a node, and of a pass to a shared one.
+ghost use Rattle.std.specs.Prelude.{◌≡◌, ◌<◌, OnErr, length};
+ghost use Rattle.thp_model.specs.Refusals as call;
+ghost use Rattle.thp_c_calls.specs.Calls.{OneCall};
+ghost use Rattle.thp_c_calls.specs.Codes.{answer_of, answers, answer_with};
+ghost use Rattle.thp_c_calls.specs.Engines.{Does};
+ghost use Rattle.thp_c_calls.specs.PassCodes.{pass_answer_of, pass_answer_with, IsPassCode};
+ghost use Rattle.thp_c_calls.specs.PassHandle.{pass_of};
+ghost use Rattle.thp_c_calls.specs.Passes.{PassDoes, PassOne, PassLost};
+ghost use Rattle.thp_c_calls.specs.Replies.{LoseCall};
+
+use std::alloc::Global;
+use thp_c_calls::{ThpDone, ThpNode, ThpPass};
+use thp_model::{Gain, Loss, What, narrowed};
+
+/// One more mapping of the whole page, by a PMD entry.
+#[unsafe(no_mangle)]
+pub extern "C" fn thp_c_node_map_whole(
+    handle: &mut ThpNode,
+    alloc: Global,
+    caller: u32,
+    page: u64,
+) -> u32
+    ensures does { Does handle.old.held handle.new.held (answer_of result) (OneCall caller (call.map_whole page) (What.MapWhole page)) }
+    ensures known { result < length answers }
+{
+    thp_c_calls::node_gain(handle, alloc, caller, page, Gain::MapWhole)
+}
+
+/// One more mapping of each of the `count` subpages from `first` on, by PTE entries.
+#[unsafe(no_mangle)]
+pub extern "C" fn thp_c_node_map_sub(
+    handle: &mut ThpNode,
+    alloc: Global,
+    caller: u32,
+    page: u64,
+    first: u32,
+    count: u32,
+) -> u32
+    ensures does { Does handle.old.held handle.new.held (answer_of result) (OneCall caller (call.map_sub page first count) (What.MapSub page first count)) }
+    ensures known { result < length answers }
+{
+    let first = narrowed(first);
+    let count = narrowed(count);
+    let gain = Gain::MapSub { first, count };
+    thp_c_calls::node_gain(handle, alloc, caller, page, gain)
+}
+
+/// One PMD mapping of the page becomes a PTE mapping of each subpage.
+#[unsafe(no_mangle)]
+pub extern "C" fn thp_c_node_split_pmd(
+    handle: &mut ThpNode,
+    alloc: Global,
+    caller: u32,
+    page: u64,
+) -> u32
+    ensures does { Does handle.old.held handle.new.held (answer_of result) (OneCall caller (call.split_pmd page) (What.SplitPmd page)) }
+    ensures known { result < length answers }
+{
+    thp_c_calls::node_gain(handle, alloc, caller, page, Gain::SplitPmd)
+}
+
+/// One more pin of the page.
+#[unsafe(no_mangle)]
+pub extern "C" fn thp_c_node_pin(handle: &mut ThpNode, alloc: Global, caller: u32, page: u64) -> u32
+    ensures does { Does handle.old.held handle.new.held (answer_of result) (OneCall caller (call.pin page) (What.Pin page)) }
+    ensures known { result < length answers }
+{
+    thp_c_calls::node_gain(handle, alloc, caller, page, Gain::Pin)
+}
+
+/// Data is written to each of the `count` subpages from `first` on.
+#[unsafe(no_mangle)]
+pub extern "C" fn thp_c_node_write(
+    handle: &mut ThpNode,
+    alloc: Global,
+    caller: u32,
+    page: u64,
+    first: u32,
+    count: u32,
+) -> u32
+    ensures does { Does handle.old.held handle.new.held (answer_of result) (OneCall caller (call.write page first count) (What.Write page first count)) }
+    ensures known { result < length answers }
+{
+    let first = narrowed(first);
+    let count = narrowed(count);
+    let gain = Gain::Write { first, count };
+    thp_c_calls::node_gain(handle, alloc, caller, page, gain)
+}
+
+/// Zeros are written to each of the `count` subpages from `first` on.
+#[unsafe(no_mangle)]
+pub extern "C" fn thp_c_node_zero(
+    handle: &mut ThpNode,
+    alloc: Global,
+    caller: u32,
+    page: u64,
+    first: u32,
+    count: u32,
+) -> u32
+    ensures does { Does handle.old.held handle.new.held (answer_of result) (OneCall caller (call.zero_fill page first count) (What.Zero page first count)) }
+    ensures known { result < length answers }
+{
+    let first = narrowed(first);
+    let count = narrowed(count);
+    let gain = Gain::Zero { first, count };
+    thp_c_calls::node_gain(handle, alloc, caller, page, gain)
+}
+
+/// One mapping of the whole page less.
+#[unsafe(no_mangle)]
+pub extern "C" fn thp_c_node_unmap_whole(
+    handle: &mut ThpNode,
+    alloc: Global,
+    caller: u32,
+    page: u64,
+    done: &mut ThpDone,
+) -> u32
+    ensures does { Does handle.old.held handle.new.held (answer_of result) (λ old new answer. LoseCall caller (call.unmap_whole page) page (λ o released. What.UnmapWhole o page released) old new (answer_with answer done.new)) }
+    ensures known { result < length answers }
+    ensures kept { OnErr (answer_of result) (done.new ≡ done.old) }
+{
+    thp_c_calls::node_lose(handle, alloc, caller, page, Loss::UnmapWhole, done)
+}
+
+/// One mapping of each of the `count` subpages from `first` on less.
+#[unsafe(no_mangle)]
+pub extern "C" fn thp_c_node_unmap_sub(
+    handle: &mut ThpNode,
+    alloc: Global,
+    caller: u32,
+    page: u64,
+    first: u32,
+    count: u32,
+    done: &mut ThpDone,
+) -> u32
+    ensures does { Does handle.old.held handle.new.held (answer_of result) (λ old new answer. LoseCall caller (call.unmap_sub page first count) page (λ o released. What.UnmapSub o page first count released) old new (answer_with answer done.new)) }
+    ensures known { result < length answers }
+    ensures kept { OnErr (answer_of result) (done.new ≡ done.old) }
+{
+    let first = narrowed(first);
+    let count = narrowed(count);
+    let loss = Loss::UnmapSub { first, count };
+    thp_c_calls::node_lose(handle, alloc, caller, page, loss, done)
+}
+
+/// One pin of the page less.
+#[unsafe(no_mangle)]
+pub extern "C" fn thp_c_node_unpin(
+    handle: &mut ThpNode,
+    alloc: Global,
+    caller: u32,
+    page: u64,
+    done: &mut ThpDone,
+) -> u32
+    ensures does { Does handle.old.held handle.new.held (answer_of result) (λ old new answer. LoseCall caller (call.unpin page) page (λ o released. What.Unpin o page released) old new (answer_with answer done.new)) }
+    ensures known { result < length answers }
+    ensures kept { OnErr (answer_of result) (done.new ≡ done.old) }
+{
+    thp_c_calls::node_lose(handle, alloc, caller, page, Loss::Unpin, done)
+}
+
+/// One more mapping of the whole page, by a PMD entry.
+#[unsafe(no_mangle)]
+pub extern "C" fn thp_c_pass_map_whole(
+    handle: &mut ThpPass,
+    alloc: Global,
+    caller: u32,
+    page: u64,
+) -> u32
+    ensures does { PassDoes (pass_of handle.old.held) (pass_of handle.new.held) (pass_answer_of result) (PassOne caller (call.map_whole page) (What.MapWhole page)) }
+    ensures known { IsPassCode result }
+{
+    thp_c_calls::pass_gain(handle, alloc, caller, page, Gain::MapWhole)
+}
+
+/// One more mapping of each of the `count` subpages from `first` on, by PTE entries.
+#[unsafe(no_mangle)]
+pub extern "C" fn thp_c_pass_map_sub(
+    handle: &mut ThpPass,
+    alloc: Global,
+    caller: u32,
+    page: u64,
+    first: u32,
+    count: u32,
+) -> u32
+    ensures does { PassDoes (pass_of handle.old.held) (pass_of handle.new.held) (pass_answer_of result) (PassOne caller (call.map_sub page first count) (What.MapSub page first count)) }
+    ensures known { IsPassCode result }
+{
+    let first = narrowed(first);
+    let count = narrowed(count);
+    let gain = Gain::MapSub { first, count };
+    thp_c_calls::pass_gain(handle, alloc, caller, page, gain)
+}
+
+/// One PMD mapping of the page becomes a PTE mapping of each subpage.
+#[unsafe(no_mangle)]
+pub extern "C" fn thp_c_pass_split_pmd(
+    handle: &mut ThpPass,
+    alloc: Global,
+    caller: u32,
+    page: u64,
+) -> u32
+    ensures does { PassDoes (pass_of handle.old.held) (pass_of handle.new.held) (pass_answer_of result) (PassOne caller (call.split_pmd page) (What.SplitPmd page)) }
+    ensures known { IsPassCode result }
+{
+    thp_c_calls::pass_gain(handle, alloc, caller, page, Gain::SplitPmd)
+}
+
+/// One more pin of the page.
+#[unsafe(no_mangle)]
+pub extern "C" fn thp_c_pass_pin(handle: &mut ThpPass, alloc: Global, caller: u32, page: u64) -> u32
+    ensures does { PassDoes (pass_of handle.old.held) (pass_of handle.new.held) (pass_answer_of result) (PassOne caller (call.pin page) (What.Pin page)) }
+    ensures known { IsPassCode result }
+{
+    thp_c_calls::pass_gain(handle, alloc, caller, page, Gain::Pin)
+}
+
+/// Data is written to each of the `count` subpages from `first` on.
+#[unsafe(no_mangle)]
+pub extern "C" fn thp_c_pass_write(
+    handle: &mut ThpPass,
+    alloc: Global,
+    caller: u32,
+    page: u64,
+    first: u32,
+    count: u32,
+) -> u32
+    ensures does { PassDoes (pass_of handle.old.held) (pass_of handle.new.held) (pass_answer_of result) (PassOne caller (call.write page first count) (What.Write page first count)) }
+    ensures known { IsPassCode result }
+{
+    let first = narrowed(first);
+    let count = narrowed(count);
+    let gain = Gain::Write { first, count };
+    thp_c_calls::pass_gain(handle, alloc, caller, page, gain)
+}
+
+/// Zeros are written to each of the `count` subpages from `first` on.
+#[unsafe(no_mangle)]
+pub extern "C" fn thp_c_pass_zero(
+    handle: &mut ThpPass,
+    alloc: Global,
+    caller: u32,
+    page: u64,
+    first: u32,
+    count: u32,
+) -> u32
+    ensures does { PassDoes (pass_of handle.old.held) (pass_of handle.new.held) (pass_answer_of result) (PassOne caller (call.zero_fill page first count) (What.Zero page first count)) }
+    ensures known { IsPassCode result }
+{
+    let first = narrowed(first);
+    let count = narrowed(count);
+    let gain = Gain::Zero { first, count };
+    thp_c_calls::pass_gain(handle, alloc, caller, page, gain)
+}
+
+/// One mapping of the whole page less.
+#[unsafe(no_mangle)]
+pub extern "C" fn thp_c_pass_unmap_whole(
+    handle: &mut ThpPass,
+    alloc: Global,
+    caller: u32,
+    page: u64,
+    done: &mut ThpDone,
+) -> u32
+    ensures does { PassDoes (pass_of handle.old.held) (pass_of handle.new.held) (pass_answer_of result) (λ old new answer. PassLost caller (call.unmap_whole page) page (λ o released. What.UnmapWhole o page released) old new (pass_answer_with answer done.new)) }
+    ensures known { IsPassCode result }
+    ensures kept { OnErr (pass_answer_of result) (done.new ≡ done.old) }
+{
+    thp_c_calls::pass_lose(handle, alloc, caller, page, Loss::UnmapWhole, done)
+}
+
+/// One mapping of each of the `count` subpages from `first` on less.
+#[unsafe(no_mangle)]
+pub extern "C" fn thp_c_pass_unmap_sub(
+    handle: &mut ThpPass,
+    alloc: Global,
+    caller: u32,
+    page: u64,
+    first: u32,
+    count: u32,
+    done: &mut ThpDone,
+) -> u32
+    ensures does { PassDoes (pass_of handle.old.held) (pass_of handle.new.held) (pass_answer_of result) (λ old new answer. PassLost caller (call.unmap_sub page first count) page (λ o released. What.UnmapSub o page first count released) old new (pass_answer_with answer done.new)) }
+    ensures known { IsPassCode result }
+    ensures kept { OnErr (pass_answer_of result) (done.new ≡ done.old) }
+{
+    let first = narrowed(first);
+    let count = narrowed(count);
+    let loss = Loss::UnmapSub { first, count };
+    thp_c_calls::pass_lose(handle, alloc, caller, page, loss, done)
+}
+
+/// One pin of the page less.
+#[unsafe(no_mangle)]
+pub extern "C" fn thp_c_pass_unpin(
+    handle: &mut ThpPass,
+    alloc: Global,
+    caller: u32,
+    page: u64,
+    done: &mut ThpDone,
+) -> u32
+    ensures does { PassDoes (pass_of handle.old.held) (pass_of handle.new.held) (pass_answer_of result) (λ old new answer. PassLost caller (call.unpin page) page (λ o released. What.Unpin o page released) old new (pass_answer_with answer done.new)) }
+    ensures known { IsPassCode result }
+    ensures kept { OnErr (pass_answer_of result) (done.new ≡ done.old) }
+{
+    thp_c_calls::pass_lose(handle, alloc, caller, page, Loss::Unpin, done)
+}
