@@ -3,7 +3,7 @@ ghost use Rattle.std.specs.Prelude.{◌≤◌};
 
 use std::alloc::Global;
 use std::process::Abort;
-use thp_least_blocks::{LeastBlocks, with_least_blocks};
+use thp_live_pages::{LeastBlocks, with_least_blocks};
 use thp_model::{Event, Outcome, PageId, Shape, SubSet, What};
 
 const LAST: u64 = u64::MAX;

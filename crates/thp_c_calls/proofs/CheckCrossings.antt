@@ -12,10 +12,10 @@ use Rattle.std.proofs.Crossing.{Box-send, crosses, frees, send}
 use Rattle.std.proofs.option.Option.TheSendSync as option
 use Rattle.std.proofs.result.Result.TheSendSync as result
 use Rattle.std_alloc.proofs.SendSync.{lies, quiet}
-use Rattle.thp_least_blocks.specs.contracts.free_blocks.FreeBlocks as FreeBlocks
-use Rattle.thp_least_blocks.specs.contracts.free_blocks.FreeBlocks.TheInside as in_free
-use Rattle.thp_least_blocks.specs.contracts.past.Past as Past
-use Rattle.thp_least_blocks.specs.contracts.past.Past.TheInside as in_past
+use Rattle.thp_live_pages.specs.contracts.free_blocks.FreeBlocks as FreeBlocks
+use Rattle.thp_live_pages.specs.contracts.free_blocks.FreeBlocks.TheInside as in_free
+use Rattle.thp_live_pages.specs.contracts.past.Past as Past
+use Rattle.thp_live_pages.specs.contracts.past.Past.TheInside as in_past
 use Rattle.thp_check.specs.contracts.flights.Flights as Flights
 use Rattle.thp_check.specs.contracts.flights.Flights.TheInside as in_flights
 use Rattle.thp_check.specs.contracts.links.Links as Links

@@ -22,7 +22,7 @@ use Rattle.thp_live_pages.specs.Holding.{IsNode}
 use Rattle.thp_live_pages.specs.Homes.{block_of, block_after}
 use Rattle.thp_live_pages.proofs.Admitting.{found, at_home}
 use Rattle.thp_live_pages.proofs.Homing.{Homed, legal_homed, block_push, block_stays, block_freed, block_free, block_taken}
-use Rattle.thp_least_blocks.proofs.Least.{first_found, first_none}
+use Rattle.thp_live_pages.proofs.Least.{first_found, first_none}
 use Rattle.thp_check.specs.Freeing.{MarksFree, IsFreed, free_after, taken_block}
 
 no_both : (z : Bool) → z ≡ false → z ≡ true → ⊥

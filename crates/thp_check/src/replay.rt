@@ -21,7 +21,7 @@ use crate::node_state::NodeState;
 use crate::tally::{Tally, Unsaid};
 use std::alloc::{AllocError, Global};
 use std::marker::Model;
-use thp_least_blocks::{FreeBlocks, Past, freed_page};
+use thp_live_pages::{FreeBlocks, Past, freed_page};
 use thp_model::{Event, PageId, Shape, What};
 
 /// What a node holds after the events of its history so far, which is legal: its pages, its queue, and its flights. What lives

@@ -11,7 +11,7 @@ use crate::journals::{Journals, NodeJournal};
 use crate::keeps_nodes::KeepsNodes;
 use crate::line::Line;
 use std::alloc::{AllocError, Global};
-use thp_least_blocks::LeastBlocks;
+use thp_live_pages::LeastBlocks;
 use thp_model::{Event, Shape, What};
 use thp_text::{ReadFault, Sequence};
 

@@ -12,3 +12,10 @@ pub mod Closing
 pub mod Starting
 pub mod Walking
 pub mod Looking
+pub mod FreeWords
+pub mod Least
+pub mod Lookups
+pub mod Chaining
+pub mod Held
+pub mod KeepSteps
+pub mod Noting

@@ -5,3 +5,10 @@ pub mod FreeChains
 pub mod Homes
 pub mod Holding
 pub mod Flying
+pub mod Past
+pub mod State
+pub mod Holders
+pub mod Known
+pub mod Chains
+pub mod Keeping
+pub mod Freeing

@@ -4,7 +4,7 @@ ghost use Rattle.thp_model.specs.History.{History, by};
 
 use std::alloc::{AllocError, Global};
 use std::marker::Model;
-use thp_least_blocks::Past;
+use thp_live_pages::Past;
 use thp_model::{Event, What};
 
 /// What a node does with its events. To contracts they are the same history whether a recorder keeps them or not.

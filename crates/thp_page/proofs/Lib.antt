@@ -12,3 +12,7 @@ pub mod Buckets
 pub mod TableSlots
 pub mod TableSteps
 pub mod Recording
+mod Carries
+mod Chosen
+mod WordBits
+mod Seen

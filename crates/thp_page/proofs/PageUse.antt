@@ -7,7 +7,7 @@ use Rattle.thp_model.specs.Words.{get_or-set_of}
 use Rattle.thp_model.specs.Pages.{PageState, size, own_at, total_at, holds, used_set, has_use, drops_use, gives_frames, zero_at, zero_set, WholeUnmapped, RangeUnmapped, PageSplit, Pinned}
 use Rattle.thp_page.specs.Changes.{IsChange, split_set}
 use Rattle.thp_page.specs.PageView.{NothingBehind}
-use Rattle.thp_planes.specs.Ranges.{some_count}
+use Rattle.thp_page.specs.Ranges.{some_count}
 use Rattle.thp_model.proofs.Below.{some_yes, some_no, some_below-ext}
 use Rattle.thp_page.proofs.Behind.{mapped_inside}
 use Rattle.thp_page.proofs.SubSets.{set_of-ext}

@@ -7,3 +7,8 @@ pub mod Descriptors
 pub mod Searching
 pub mod Lending
 pub mod Bridge
+pub mod Planes
+pub mod OneWords
+pub mod Tallies
+pub mod Ranges
+pub mod MapCounts

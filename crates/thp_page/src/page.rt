@@ -10,7 +10,7 @@ mod calls;
 
 use std::marker::Model;
 use thp_model::SubSet;
-use thp_planes::MapCounts;
+use crate::map_counts::MapCounts;
 
 /// What an unmap did to the use of its page.
 #[derive(Clone, Copy, PartialEq, Eq, Debug)]

@@ -14,7 +14,7 @@ use crate::finds::Finds;
 use crate::stuck_page::StuckPage;
 use std::alloc::{AllocError, Global};
 use std::marker::Model;
-use thp_least_blocks::Past;
+use thp_live_pages::Past;
 use thp_model::{Event, Shape};
 
 /// The pages of a node that wait, in the queue or in a batch, each since when.

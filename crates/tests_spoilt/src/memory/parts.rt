@@ -6,7 +6,7 @@ use std::process::Abort;
 use thp_check::{CheckFault, check};
 use thp_journal_reader::{check_text, read_journal};
 use thp_journal_writer::{NodeHistory, journal_text};
-use thp_least_blocks::LeastBlocks;
+use thp_live_pages::LeastBlocks;
 use thp_live_pages::Places;
 use thp_model::{Event, PageId, Shape, What};
 use thp_options::read_line;

@@ -1,7 +1,0 @@
-pub mod FreeWords
-pub mod Least
-pub mod Lookups
-pub mod Chaining
-pub mod Held
-pub mod KeepSteps
-pub mod Noting

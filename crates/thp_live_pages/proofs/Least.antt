@@ -1,0 +1,121 @@
+-- The least block that isn't held.
+use Rattle.std.proofs.Common.{◌≡◌, ℕ, suc, zero, ◌+◌, ◌*◌, ◌<◌, ◌≤◌, Bool, true, false, cond, ◌&&◌, List, length, set, get_or, refl, ap, sym, ◌∙◌, arith, inl, inr, nat_eq, nat_lt, eq-eqb, ne_eqb, length-set, replicate}
+use Rattle.std.specs.List.{range_with_len}
+use Rattle.std.proofs.lemmas.List.{get_or-set_same, get_or-set_other, get_or_past}
+use Rattle.std.proofs.lemmas.Bool.{cases_lt, lt-ltb}
+use Rattle.std.proofs.lemmas.Bool.Decides.{eqb_tells}
+use Rattle.thp_model.specs.BlockLaws.{first_that}
+use Rattle.thp_model.specs.Words.{in_words}
+use Rattle.thp_model.proofs.Bools.{and_both, and-false, and-true}
+use Rattle.thp_live_pages.specs.Holders.{least_of, AreFree}
+use Rattle.thp_live_pages.proofs.FreeWords.{zeros-get, zeros-length}
+
+-- the first number of a range that passes
+pub first_found : (test : ℕ → Bool) (a n b : ℕ) → a ≤ b → b < a + n → test b ≡ true → ((k : ℕ) → k < b → test k ≡ false) → first_that test (range_with_len a n) ≡ b
+first_found test a zero b l m t f = absurd (omega arith)
+first_found test a (suc n) b l m t f =
+    elim (eqb_tells a b) [
+      | inl y ↦ ap (λ c. cond c a (first_that test (range_with_len (a + 1) n))) (ap test y.1 ∙ t) ∙ y.1
+      | inr y ↦
+          ap (λ c. cond c a (first_that test (range_with_len (a + 1) n))) (f a (omega (arith, y.1)))
+          ∙ first_found test (a + 1) n b (omega (arith, y.1)) (omega arith) t f
+    ]
+
+-- none of a range passes
+pub first_none : (test : ℕ → Bool) (a n : ℕ) → ((k : ℕ) → k < a + n → test k ≡ false) → first_that test (range_with_len a n) ≡ 0
+first_none test a zero f = refl
+first_none test a (suc n) f =
+    ap (λ c. cond c a (first_that test (range_with_len (a + 1) n))) (f a (omega arith)) ∙ first_none test (a + 1) n (λ k h. f k (omega arith))
+
+-- tests that agree find the same
+pub first_alike : (f g : ℕ → Bool) (a n : ℕ) → ((k : ℕ) → f k ≡ g k) → first_that f (range_with_len a n) ≡ first_that g (range_with_len a n)
+first_alike f g a zero h = refl
+first_alike f g a (suc n) h =
+    ap (λ c. cond c a (first_that f (range_with_len (a + 1) n))) (h a) ∙ ap (λ m. cond (g a) a m) (first_alike f g (a + 1) n h)
+
+-- a block of the set is one that is held by none
+pub free_block : (counts words : List ℕ) (b : ℕ) → AreFree counts words → in_words words b ≡ true → (b < length counts) × (nat_eq (get_or counts b 0) 0 ≡ true)
+free_block counts words b a e =
+    let both : (nat_lt b (length counts) ≡ true) × (nat_eq (get_or counts b 0) 0 ≡ true) = and_both _ _ (sym (a.marked b) ∙ e) in
+    (inside b (length counts) both.0, both.1)
+  where
+    inside : (m n : ℕ) → nat_lt m n ≡ true → m < n
+    inside m n e = grind arith
+
+-- a block that isn't in it is held
+pub held_block : (counts words : List ℕ) (b : ℕ) → AreFree counts words → b < length counts → in_words words b ≡ false → nat_eq (get_or counts b 0) 0 ≡ false
+held_block counts words b a h e = ap (λ c. c && nat_eq (get_or counts b 0) 0) (sym (lt-ltb b (length counts) h)) ∙ (sym (a.marked b) ∙ e)
+
+-- the least block of the set
+pub least_some : (counts words : List ℕ) (b : ℕ) → AreFree counts words → in_words words b ≡ true → ((k : ℕ) → k < b → in_words words k ≡ false) → b ≡ least_of counts
+unfolding least_of
+least_some counts words b a e f =
+    let t : (b < length counts) × (nat_eq (get_or counts b 0) 0 ≡ true) = free_block counts words b a e in
+    let inside : b < length counts = t.0 in
+    sym (first_found (λ k. nat_eq (get_or counts k 0) 0) 0 (length counts) b (omega arith) (omega arith) t.1 (λ k h. held_block counts words k a (omega arith) (f k h)))
+
+-- the empty set
+pub least_none : (counts words : List ℕ) → AreFree counts words → ((k : ℕ) → in_words words k ≡ false) → 0 ≡ least_of counts
+unfolding least_of
+least_none counts words a f = sym (first_none (λ k. nat_eq (get_or counts k 0) 0) 0 (length counts) (λ k h. held_block counts words k a (omega arith) (f k)))
+
+-- the numbers with one changed, and the words with its bit
+pub free_after : (counts words others : List ℕ) (b v : ℕ) → AreFree counts words → b < length counts → length others ≡ length words →
+    ((k : ℕ) → in_words others k ≡ cond (nat_eq k b) (nat_eq v 0) (in_words words k)) → AreFree (set counts b v) others
+free_after counts words others b v a h e f = record {
+  marked = λ k.
+      f k
+      ∙ elim (eqb_tells k b) [
+        | inl y ↦
+            ap (λ c. cond c (nat_eq v 0) (in_words words k)) y.0
+            ∙ sym (ap (λ c. c && nat_eq v 0) (lt-ltb k (length (set counts b v)) (omega (arith, y.1, length-set counts b v))))
+            ∙ ap (λ n. nat_lt k (length (set counts b v)) && nat_eq n 0) (sym (ap (λ q. get_or (set counts b v) q 0) y.1 ∙ get_or-set_same counts b v 0 h))
+        | inr y ↦
+            ap (λ c. cond c (nat_eq v 0) (in_words words k)) y.0
+            ∙ a.marked k
+            ∙ ap (λ n. nat_lt k n && nat_eq (get_or counts k 0) 0) (sym (length-set counts b v))
+            ∙ ap (λ n. nat_lt k (length (set counts b v)) && nat_eq n 0) (sym (get_or-set_other counts b k v 0 y.1))
+      ];
+  size = omega (arith, length-set counts b v, a.size);
+}
+
+-- a block that is held once more isn't in the set
+pub free_held : (counts words others : List ℕ) (b v : ℕ) → AreFree counts words → b < length counts → length others ≡ length words → 0 < v →
+    ((k : ℕ) → in_words others k ≡ cond (nat_eq k b) false (in_words words k)) → AreFree (set counts b v) others
+free_held counts words others b v a h e p f =
+    free_after counts words others b v a h e (λ k. f k ∙ ap (λ c. cond (nat_eq k b) c (in_words words k)) (sym (ne_eqb v 0 (λ z. absurd (omega arith)))))
+
+-- a block that is held no more is in the set
+pub free_released : (counts words others : List ℕ) (b v : ℕ) → AreFree counts words → b < length counts → length others ≡ length words → v ≡ 0 →
+    ((k : ℕ) → in_words others k ≡ cond (nat_eq k b) true (in_words words k)) → AreFree (set counts b v) others
+free_released counts words others b v a h e z f =
+    free_after counts words others b v a h e (λ k. f k ∙ ap (λ c. cond (nat_eq k b) c (in_words words k)) (sym (eq-eqb v 0 z)))
+
+-- a block that is still held isn't in the set, as before
+pub free_still : (counts words : List ℕ) (b v : ℕ) → AreFree counts words → b < length counts → 0 < get_or counts b 0 → 0 < v → AreFree (set counts b v) words
+free_still counts words b v a h p q =
+    free_after counts words words b v a h refl
+    (λ k.
+    elim (eqb_tells k b) [
+      | inl y ↦
+          ap (λ j. in_words words j) y.1
+          ∙ (a.marked b ∙ ap (λ c. nat_lt b (length counts) && c) (ne_eqb (get_or counts b 0) 0 (λ z. absurd (omega arith))) ∙ and-false _)
+          ∙ sym (ne_eqb v 0 (λ z. absurd (omega arith)))
+          ∙ sym (ap (λ c. cond c (nat_eq v 0) (in_words words k)) y.0)
+      | inr y ↦ sym (ap (λ c. cond c (nat_eq v 0) (in_words words k)) y.0)
+    ])
+
+-- a number that isn't 0 stands in the list
+pub counted_inside : (counts : List ℕ) (b : ℕ) → 0 < get_or counts b 0 → b < length counts
+counted_inside counts b h =
+    elim (cases_lt b (length counts)) [
+      | inl l ↦ l
+      | inr g ↦ absurd (let z : get_or counts b 0 ≡ 0 = get_or_past counts b 0 g in omega arith)
+    ]
+
+-- no block is held at first
+pub free_first : (words : List ℕ) (n : ℕ) → ((b : ℕ) → in_words words b ≡ nat_lt b n) → n ≤ 64 * length words → AreFree (replicate n zero) words
+free_first words n f s = record {
+  marked = λ b. f b ∙ sym (ap (λ m. nat_lt b (length (replicate n zero)) && nat_eq m 0) (zeros-get n b) ∙ and-true (nat_lt b (length (replicate n zero))) ∙ ap (λ m. nat_lt b m) (zeros-length n));
+  size = omega (arith, zeros-length n);
+}

@@ -1,0 +1,20 @@
+use Rattle.std.proofs.Common.{ℕ, ◌∙◌, sym, ap, arith, List}
+use Rattle.std.proofs.lemmas.Bool.{le-ltb}
+use Rattle.thp_model.specs.Words.{in_words}
+use Rattle.thp_live_pages.proofs.FreeWords.{in-zeros, one_more}
+use Rattle.thp_live_pages.proofs.free_blocks.FreeBlocks.new.Goals as goal
+
+pub loop-block-init : goal.loop-block-init
+loop-block-init c = record {
+  marked = λ b.
+      ap (λ (xs : List ℕ). in_words xs b) (c.in_ok-words.ensures.items_if_clones_equal (λ y e. e))
+      ∙ in-zeros c.div_ceil.result b
+      ∙ sym (le-ltb b 0 (omega arith));
+  size = omega (arith, c.in_ok-words.ensures.len, c.div_ceil.ensures);
+}
+
+pub loop-block-preserved : goal.loop-block-preserved
+loop-block-preserved c = record {
+  marked = λ b. c.insert.ensures.with_it b ∙ one_more c.loop-block.block b _ (c.loop-block.invariant.marked b);
+  size = omega (arith, c.insert.ensures.size, c.loop-block.invariant.size);
+}

@@ -1,0 +1,107 @@
+-- The counts that the fields stand for, and the set of the mapped subpages beside them.
+use Rattle.std.proofs.Common.{◌≡◌, ne_eqb, ℕ, suc, zero, ◌+◌, ◌<◌, Bool, true, false, not, ◌&&◌, ◌||◌, cond, List, get_or, nat_eq, nat_lt, refl, ap, sym, ◌∙◌, arith}
+use Rattle.std.specs.Prelude.{replicate}
+use Rattle.std.proofs.lemmas.Bool.Decides.{nat_tests}
+use Rattle.std.proofs.lemmas.List.{get_or-replicate}
+use Rattle.std.proofs.lemmas.Grind.{same_number_lists}
+use Rattle.std.proofs.lemmas.List.FromFn.{get_or-map-range_with_len, length-map-range_with_len}
+use Rattle.thp_model.specs.Sets.{set_of, has, one_alone, some_below}
+use Rattle.thp_model.specs.Words.{get_or-set_of}
+use Rattle.thp_model.proofs.Below.{some_below-ext}
+use Rattle.thp_model.proofs.WordLemmas.{set_of-ext}
+use Rattle.thp_page.specs.Planes.{count_in, counts_in}
+use Rattle.thp_page.proofs.Carries.{no_planes}
+
+-- a count by its place
+pub count_at : (planes : List (List Bool)) (n i : ℕ) → i < 512 → get_or (counts_in planes n) i 0 ≡ count_in planes n i
+unfolding counts_in
+count_at planes n i below = get_or-map-range_with_len (count_in planes n) 0 512 i i 0 below (omega arith)
+
+-- the same of what contracts see
+pub seen_at : (planes : List (List Bool)) (n i : ℕ) (now : List ℕ) → counts_in planes n ≡ now → i < 512 → get_or now i 0 ≡ count_in planes n i
+seen_at planes n i now e below = ap (λ xs. get_or xs i 0) (sym e) ∙ count_at planes n i below
+
+-- no plane stands for counts of 0
+pub none_counted : (planes : List (List Bool)) → counts_in planes 0 ≡ replicate 512 0
+unfolding counts_in
+none_counted planes =
+    same_number_lists (counts_in planes 0) (replicate 512 0) (length-map-range_with_len (count_in planes 0) 0 512)
+    (λ i below. count_at planes 0 i (omega (arith, length-map-range_with_len (count_in planes 0) 0 512)) ∙ no_planes planes i ∙ sym (get_or-replicate 512 i 0 0 (omega (arith, length-map-range_with_len (count_in planes 0) 0 512))))
+
+-- and no subpage is mapped
+pub none_mapped : (planes : List (List Bool)) → set_of (λ i. false) ≡ set_of (λ i. nat_lt 0 (count_in planes 0 i))
+none_mapped planes = set_of-ext _ _ (λ i below. sym (ap (λ m. nat_lt 0 m) (no_planes planes i)))
+
+pub none_mapped_in : (planes : List (List Bool)) (n : ℕ) → n ≡ 0 → set_of (λ i. false) ≡ set_of (λ i. nat_lt 0 (count_in planes n i))
+none_mapped_in planes n e = none_mapped planes ∙ set_of-ext _ _ (λ i below. ap (λ m. nat_lt 0 (count_in planes m i)) (sym e))
+
+-- whether a subpage is in the set beside the planes
+pub mapped_at : (planes : List (List Bool)) (n i : ℕ) (mapped : List Bool) → mapped ≡ set_of (λ j. nat_lt 0 (count_in planes n j)) → i < 512 → has mapped i ≡ nat_lt 0 (count_in planes n i)
+mapped_at planes n i mapped e below = ap (λ s. has s i) e ∙ get_or-set_of (λ j. nat_lt 0 (count_in planes n j)) i below
+
+-- a set is empty where a test that agrees with it finds none
+pub some_found : (r : Bool) (chosen test : ℕ → Bool) → r ≡ not (some_below 512 chosen) → ((i : ℕ) → i < 512 → chosen i ≡ test i) → not r ≡ some_below 512 test
+some_found r chosen test e same = ap not e ∙ twice (some_below 512 chosen) ∙ some_below-ext 512 chosen test same where
+  twice : (b : Bool) → not (not b) ≡ b
+  twice true = refl
+  twice false = refl
+
+-- a count is 0 where the subpage isn't mapped
+pub not_mapped : (n : ℕ) → not (nat_lt 0 n) ≡ nat_eq n 0
+not_mapped n = grind (arith, nat_tests)
+
+-- one of two truths, where the other is known
+alone_false : (b : Bool) → one_alone b false ≡ b
+alone_false true = refl
+alone_false false = refl
+
+alone_not : (b : Bool) → one_alone b (not b) ≡ true
+alone_not true = refl
+alone_not false = refl
+
+positive : (n : ℕ) → 0 < n → true ≡ nat_lt 0 n
+positive n h = grind (arith, nat_tests)
+
+-- the mapped subpages after those chosen were mapped once more
+pub mapped_more : (mapped chosen out : Bool) (old new : ℕ) → mapped ≡ nat_lt 0 old → out ≡ (chosen && not mapped) → new ≡ old + cond chosen 1 0 → one_alone mapped out ≡ nat_lt 0 new
+mapped_more mapped true out old new e f g = ap (λ b. one_alone mapped b) f ∙ alone_not mapped ∙ positive new (omega (arith, g))
+mapped_more mapped false out old new e f g = ap (λ b. one_alone mapped b) f ∙ alone_false mapped ∙ e ∙ ap (λ m. nat_lt 0 m) (same old new g) where
+  same : (old new : ℕ) → new ≡ old + 0 → old ≡ new
+  same old new h = omega arith
+
+-- after those chosen lost a mapping: some of them, whose count is 0, aren't mapped any more
+pub mapped_less : (mapped chosen out : Bool) (old new : ℕ) → mapped ≡ nat_lt 0 old → out ≡ (chosen && nat_eq new 0) → new + cond chosen 1 0 ≡ old → one_alone mapped out ≡ nat_lt 0 new
+mapped_less mapped true out old new e f g = ap (λ b. one_alone mapped b) f ∙ ap (λ b. one_alone b (nat_eq new 0)) (e ∙ sym (positive old (omega (arith, g)))) ∙ rest new where
+  rest : (n : ℕ) → one_alone true (nat_eq n 0) ≡ nat_lt 0 n
+  rest zero = refl
+  rest (suc n) = ap (λ b. one_alone true b) (ne_eqb (suc n) 0 (λ e. let z : suc n ≡ 0 = e in absurd (omega arith))) ∙ positive (suc n) (omega arith)
+mapped_less mapped false out old new e f g = ap (λ b. one_alone mapped b) f ∙ alone_false mapped ∙ e ∙ ap (λ m. nat_lt 0 m) (same old new g) where
+  same : (old new : ℕ) → new + 0 ≡ old → old ≡ new
+  same old new h = omega arith
+
+-- they were mapped once
+pub was_one : (chosen out : Bool) (old new : ℕ) → out ≡ (chosen && nat_eq new 0) → new + cond chosen 1 0 ≡ old → out ≡ (chosen && nat_eq old 1)
+was_one true out old new e g = e ∙ go old new g where
+  go : (old new : ℕ) → new + 1 ≡ old → nat_eq new 0 ≡ nat_eq old 1
+  go old new h = grind (arith, nat_tests)
+was_one false out old new e g = e
+
+-- after a number was added to those chosen
+pub mapped_any : (mapped chosen : Bool) (n old new : ℕ) → 0 < n → mapped ≡ nat_lt 0 old → new ≡ old + cond chosen n 0 → (mapped || chosen) ≡ nat_lt 0 new
+mapped_any true true n old new some e g = positive new (omega (arith, g))
+mapped_any false true n old new some e g = positive new (omega (arith, g))
+mapped_any mapped false n old new some e g = or_false mapped ∙ e ∙ ap (λ m. nat_lt 0 m) (same old new g) where
+  or_false : (b : Bool) → (b || false) ≡ b
+  or_false true = refl
+  or_false false = refl
+
+  same : (old new : ℕ) → new ≡ old + 0 → old ≡ new
+  same old new h = omega arith
+
+pub mapped_same : (mapped chosen : Bool) (n old new : ℕ) → n ≡ 0 → mapped ≡ nat_lt 0 old → new ≡ old + cond chosen n 0 → mapped ≡ nat_lt 0 new
+mapped_same mapped true n old new none e g = e ∙ ap (λ m. nat_lt 0 m) (same old new n g none) where
+  same : (old new n : ℕ) → new ≡ old + n → n ≡ 0 → old ≡ new
+  same old new n h k = omega arith
+mapped_same mapped false n old new none e g = e ∙ ap (λ m. nat_lt 0 m) (same old new g) where
+  same : (old new : ℕ) → new ≡ old + 0 → old ≡ new
+  same old new h = omega arith

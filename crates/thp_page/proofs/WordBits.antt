@@ -1,0 +1,182 @@
+-- Subpages of one word, bit by bit.
+use Rattle.std.proofs.Common.{◌≡◌, ◌≢◌, ℕ, suc, zero, ◌+◌, ◌-◌, ◌*◌, ◌/◌, ◌%◌, ◌^◌, ◌<◌, ◌≤◌, min, Bool, true, false, not, ◌&&◌, List, nat_eq, refl, ap, sym, ◌∙◌, arith, inl, inr, pow-add}
+use Rattle.std.specs.Int.{bit_at, w64}
+use Rattle.std.specs.Prelude.{bit_and, bit_xor, if◌then◌else◌}
+use Rattle.std.proofs.lemmas.Bool.{cases_lt}
+use Rattle.std.proofs.lemmas.Bool.Decides.{eqb_tells, nat_tests}
+use Rattle.std.proofs.lemmas.Nat.Bits.{bit_at_and, bit_at_xor, bit_at_not, bit_at-lt, bit_at-zero, bit_at-trailing_zeros, ones_shr, bit_at_mask_inside, bit_at_mask_below, bit_at_mask_above}
+use Rattle.std.specs.Int.{trailing_zeros}
+use Rattle.std.proofs.Math.Pow.{pow_mono}
+use Rattle.std.proofs.Math.Nat.{mul_comm, suc-mul, one-le-pow}
+use Rattle.thp_model.specs.Sets.{set_of, has, covers, one_alone, some_below}
+use Rattle.thp_model.specs.Words.{get_or-set_of}
+use Rattle.thp_model.proofs.Below.{some_yes, some_no}
+use Rattle.thp_model.proofs.WordLemmas.{set_of-ext}
+use Rattle.thp_page.specs.OneWords.{in_word}
+
+-- a bit of both, a bit of the first alone, and a bit of one of the two alone
+both : (x y : ℕ) → x < 2 → y < 2 → nat_eq (min x y) 1 ≡ (nat_eq x 1 && nat_eq y 1)
+both x y f g = grind (arith, nat_tests)
+
+first_alone : (x y : ℕ) → x < 2 → y < 2 → nat_eq (min x (1 - y)) 1 ≡ (nat_eq x 1 && not (nat_eq y 1))
+first_alone x y f g = grind (arith, nat_tests)
+
+one_of : (x y : ℕ) → x < 2 → y < 2 → nat_eq ((x + y) % 2) 1 ≡ one_alone (nat_eq x 1) (nat_eq y 1)
+one_of zero zero f g = refl
+one_of zero (suc zero) f g = refl
+one_of (suc zero) zero f g = refl
+one_of (suc zero) (suc zero) f g = refl
+one_of (suc (suc x)) y f g = absurd (omega arith)
+one_of x (suc (suc y)) f g = absurd (omega arith)
+
+-- those that a set has too
+pub word_within : (set : List Bool) (at bits word i : ℕ) → ((j : ℕ) → j / 64 ≡ at → nat_eq (bit_at word (j % 64)) 1 ≡ has set j) →
+    in_word at (bit_and bits word) i ≡ (in_word at bits i && has set i)
+word_within set at bits word i tells =
+    elim (eqb_tells (i / 64) at) [
+      | inl y ↦
+          ap (λ b. b && nat_eq (bit_at (bit_and bits word) (i % 64)) 1) y.0
+          ∙ ap (λ n. nat_eq n 1) (bit_at_and bits word (i % 64)) ∙ both _ _ (bit_at-lt bits (i % 64)) (bit_at-lt word (i % 64))
+          ∙ ap (λ b. nat_eq (bit_at bits (i % 64)) 1 && b) (tells i y.1)
+          ∙ sym (ap (λ b. (b && nat_eq (bit_at bits (i % 64)) 1) && has set i) y.0)
+      | inr y ↦
+          ap (λ b. b && nat_eq (bit_at (bit_and bits word) (i % 64)) 1) y.0
+          ∙ sym (ap (λ b. (b && nat_eq (bit_at bits (i % 64)) 1) && has set i) y.0)
+    ]
+
+-- those that it hasn't
+pub word_outside : (set : List Bool) (at bits word i : ℕ) → word < 2 ^ 64 → ((j : ℕ) → j / 64 ≡ at → nat_eq (bit_at word (j % 64)) 1 ≡ has set j) →
+    in_word at (bit_and bits (18446744073709551615 - word)) i ≡ (in_word at bits i && not (has set i))
+word_outside set at bits word i fits tells =
+    elim (eqb_tells (i / 64) at) [
+      | inl y ↦
+          ap (λ b. b && nat_eq (bit_at (bit_and bits (18446744073709551615 - word)) (i % 64)) 1) y.0
+          ∙ ap (λ n. nat_eq n 1) (bit_at_and bits (18446744073709551615 - word) (i % 64) ∙ ap (λ m. min (bit_at bits (i % 64)) m) (bit_at_not w64 word (i % 64) fits (omega arith)))
+          ∙ first_alone _ _ (bit_at-lt bits (i % 64)) (bit_at-lt word (i % 64))
+          ∙ ap (λ b. nat_eq (bit_at bits (i % 64)) 1 && not b) (tells i y.1)
+          ∙ sym (ap (λ b. (b && nat_eq (bit_at bits (i % 64)) 1) && not (has set i)) y.0)
+      | inr y ↦
+          ap (λ b. b && nat_eq (bit_at (bit_and bits (18446744073709551615 - word)) (i % 64)) 1) y.0
+          ∙ sym (ap (λ b. (b && nat_eq (bit_at bits (i % 64)) 1) && not (has set i)) y.0)
+    ]
+
+-- a set with that word written
+pub word_turned : (old new : List Bool) (at bits word : ℕ) → ((j : ℕ) → j / 64 ≡ at → nat_eq (bit_at word (j % 64)) 1 ≡ has old j) →
+    new ≡ set_of (λ j. if nat_eq (j / 64) at then nat_eq (bit_at (bit_xor word bits) (j % 64)) 1 else has old j) → new ≡ set_of (λ i. one_alone (has old i) (in_word at bits i))
+word_turned old new at bits word tells written =
+    written ∙ set_of-ext _ _
+    (λ i below. elim (eqb_tells (i / 64) at) as (λ _. (if nat_eq (i / 64) at then nat_eq (bit_at (bit_xor word bits) (i % 64)) 1 else has old i) ≡ one_alone (has old i) (in_word at bits i)) [
+      | inl y ↦
+          ap (λ b. if b then nat_eq (bit_at (bit_xor word bits) (i % 64)) 1 else has old i) y.0
+          ∙ ap (λ n. nat_eq n 1) (bit_at_xor word bits (i % 64)) ∙ one_of _ _ (bit_at-lt word (i % 64)) (bit_at-lt bits (i % 64))
+          ∙ ap (λ b. one_alone b (nat_eq (bit_at bits (i % 64)) 1)) (tells i y.1)
+          ∙ sym (ap (λ b. one_alone (has old i) (b && nat_eq (bit_at bits (i % 64)) 1)) y.0)
+      | inr y ↦
+          ap (λ b. if b then nat_eq (bit_at (bit_xor word bits) (i % 64)) 1 else has old i) y.0
+          ∙ alone (has old i)
+          ∙ sym (ap (λ b. one_alone (has old i) (b && nat_eq (bit_at bits (i % 64)) 1)) y.0)
+    ]) where
+      alone : (b : Bool) → b ≡ one_alone b false
+      alone true = refl
+      alone false = refl
+
+-- the set of them
+pub word_set : (empty new : List Bool) (at bits i : ℕ) → i < 512 → empty ≡ set_of (λ j. false) →
+    new ≡ set_of (λ j. if nat_eq (j / 64) at then nat_eq (bit_at bits (j % 64)) 1 else has empty j) → has new i ≡ in_word at bits i
+word_set empty new at bits i below none written =
+    ap (λ s. has s i) written ∙ get_or-set_of (λ j. if nat_eq (j / 64) at then nat_eq (bit_at bits (j % 64)) 1 else has empty j) i below
+    ∙ ap (λ b. if nat_eq (i / 64) at then nat_eq (bit_at bits (i % 64)) 1 else b) (ap (λ s. has s i) none ∙ get_or-set_of (λ j. false) i below)
+    ∙ go (nat_eq (i / 64) at) (nat_eq (bit_at bits (i % 64)) 1) where
+      go : (a b : Bool) → (if a then b else false) ≡ (a && b)
+      go true b = refl
+      go false b = refl
+
+-- there is none where no bit is set
+pub word_none : (at bits : ℕ) → at < 8 → bits < 2 ^ 64 → nat_eq bits 0 ≡ not (some_below 512 (in_word at bits))
+word_none at bits inside fits =
+    elim (eqb_tells bits 0) [
+      | inl y ↦ y.0 ∙ sym (ap not (some_no 512 (in_word at bits) (λ i below. ap (λ n. nat_eq (i / 64) at && nat_eq (bit_at n (i % 64)) 1) y.1 ∙ no_bit at i)))
+      | inr y ↦ y.0 ∙ sym (ap not (found (bit_at-trailing_zeros w64 bits (some bits y.1) fits)))
+    ] where
+      no_bit : (at i : ℕ) → (nat_eq (i / 64) at && nat_eq (bit_at 0 (i % 64)) 1) ≡ false
+      no_bit at i = ap (λ n. nat_eq (i / 64) at && nat_eq n 1) (bit_at-zero (i % 64)) ∙ and_false (nat_eq (i / 64) at) where
+        and_false : (b : Bool) → (b && false) ≡ false
+        and_false true = refl
+        and_false false = refl
+
+      some : (n : ℕ) → (n ≢ 0) → 0 < n
+      some n f = omega arith
+
+      found : (trailing_zeros w64 bits < 64) × (bit_at bits (trailing_zeros w64 bits) ≡ 1) × ((i : ℕ) → i < trailing_zeros w64 bits → bit_at bits i ≡ 0) → some_below 512 (in_word at bits) ≡ true
+      found tells =
+          let r : ℕ = trailing_zeros w64 bits in
+          some_yes 512 (in_word at bits) (64 * at + r) (omega (arith, tells.0)) (there at r bits tells.0 tells.1) where
+            there : (at r bits : ℕ) → r < 64 → bit_at bits r ≡ 1 → in_word at bits (64 * at + r) ≡ true
+            there at r bits h e =
+                ap (λ q. nat_eq q at && nat_eq (bit_at bits ((64 * at + r) % 64)) 1) (quotient at r h)
+                ∙ ap (λ m. nat_eq at at && nat_eq (bit_at bits m) 1) (rest at r h)
+                ∙ ap (λ n. nat_eq at at && nat_eq n 1) e ∙ self at where
+                  quotient : (at r : ℕ) → r < 64 → (64 * at + r) / 64 ≡ at
+                  quotient at r h = omega arith
+
+                  rest : (at r : ℕ) → r < 64 → (64 * at + r) % 64 ≡ r
+                  rest at r h = omega arith
+
+                  self : (at : ℕ) → (nat_eq at at && true) ≡ true
+                  self at = grind (arith, nat_tests)
+
+-- ones moved up within a word
+moved : (count shift : ℕ) → 0 < count → shift + count ≤ 64 → 18446744073709551615 / 2 ^ (64 - count) * 2 ^ shift % 2 ^ 64 ≡ 2 ^ (shift + count) - 2 ^ shift
+moved count shift some one =
+    ap (λ m. m * 2 ^ shift % 2 ^ 64) (ones_shr 64 (64 - count) (omega arith) ∙ ap (λ m. 2 ^ m - 1) (back count (omega arith)))
+    ∙ ap (λ m. m % 2 ^ 64) (spread (2 ^ count) (2 ^ shift) (2 ^ (shift + count)) (joined shift count))
+    ∙ fits (2 ^ (shift + count)) (2 ^ shift) (pow_mono {i = shift + count} {j = 64} one) (one-le-pow shift 2 (omega arith)) where
+      back : (count : ℕ) → count ≤ 64 → 64 - (64 - count) ≡ count
+      back count h = omega arith
+
+      joined : (a b : ℕ) → 2 ^ (a + b) ≡ 2 ^ b * 2 ^ a
+      joined a b = pow-add 2 a b ∙ mul_comm (2 ^ a) (2 ^ b)
+
+      before : (a : ℕ) → suc a - 1 ≡ a
+      before a = omega arith
+
+      left : (m b c : ℕ) → c ≡ m + b → m ≡ c - b
+      left m b c e = omega arith
+
+      spread : (a b c : ℕ) → c ≡ a * b → (a - 1) * b ≡ c - b
+      spread zero b c e = omega (arith, e)
+      spread (suc a) b c e = ap (λ m. m * b) (before a) ∙ left (a * b) b c (e ∙ suc-mul a b)
+
+      fits : (a b : ℕ) → a ≤ 2 ^ 64 → 1 ≤ b → (a - b) % 2 ^ 64 ≡ a - b
+      fits a b h g = omega arith
+
+-- the subpages of a range that stands in one word
+pub word_range : (first count i : ℕ) → 0 < count → first % 64 + count ≤ 64 →
+    in_word (first / 64) (18446744073709551615 / 2 ^ (64 - count) * 2 ^ (first % 64) % 2 ^ 64) i ≡ covers first count i
+word_range first count i some one =
+    ap (λ m. in_word (first / 64) m i) (moved count (first % 64) some one)
+    ∙ elim (eqb_tells (i / 64) (first / 64)) as (λ _. in_word (first / 64) (2 ^ (first % 64 + count) - 2 ^ (first % 64)) i ≡ covers first count i) [
+      | inl y ↦ ap (λ b. b && nat_eq (bit_at (2 ^ (first % 64 + count) - 2 ^ (first % 64)) (i % 64)) 1) y.0 ∙ here (first % 64) (i % 64) y.1
+      | inr y ↦ ap (λ b. b && nat_eq (bit_at (2 ^ (first % 64 + count) - 2 ^ (first % 64)) (i % 64)) 1) y.0 ∙ sym (elsewhere y.1)
+    ] where
+      elsewhere : i / 64 ≢ first / 64 → covers first count i ≡ false
+      elsewhere f = grind (arith, nat_tests)
+
+      here : (low r : ℕ) → i / 64 ≡ first / 64 → nat_eq (bit_at (2 ^ (first % 64 + count) - 2 ^ (first % 64)) (i % 64)) 1 ≡ covers first count i
+      here low r same =
+          elim (cases_lt i first) [
+            | inl h ↦ ap (λ n. nat_eq n 1) (bit_at_mask_below (first % 64) (first % 64 + count) (i % 64) (omega (arith, same))) ∙ sym (before h)
+            | inr h ↦
+                elim (cases_lt i (first + count)) [
+                  | inl l ↦ ap (λ n. nat_eq n 1) (bit_at_mask_inside (first % 64) (first % 64 + count) (i % 64) (omega (arith, same)) (omega (arith, same))) ∙ sym (inside h l)
+                  | inr l ↦ ap (λ n. nat_eq n 1) (bit_at_mask_above (first % 64) (first % 64 + count) (i % 64) (omega (arith, same))) ∙ sym (after l)
+                ]
+          ] where
+            before : i < first → covers first count i ≡ false
+            before h = grind (arith, nat_tests)
+
+            inside : first ≤ i → i < first + count → covers first count i ≡ true
+            inside h l = grind (arith, nat_tests)
+
+            after : first + count ≤ i → covers first count i ≡ false
+            after l = grind (arith, nat_tests)

@@ -1,0 +1,81 @@
+//! Subpages that stand in one word of a set.
+ghost use Rattle.std.specs.Prelude.{◌≡◌, ℕ, ◌+◌, ◌-◌, ◌*◌, ◌/◌, ◌%◌, ◌^◌, ◌<◌, ◌≤◌, true};
+ghost use Rattle.thp_model.specs.Limits.{max_subpages};
+ghost use Rattle.thp_model.specs.Sets.{covers};
+ghost use Rattle.thp_page.specs.OneWords.{in_word};
+
+use crate::subpages::Subpages;
+use thp_model::SubSet;
+
+// Some of the 64 subpages of a word: only that word of a set is read or written.
+#[derive(Clone, Copy)]
+pub(crate) struct OneWord {
+    // The word's place in a set.
+    at: usize,
+    // Bit k is set where subpage `64 * at + k` is one of them.
+    bits: u64,
+    ghost inside: { at < 8 },
+}
+
+impl OneWord {
+    // Whether a range has a subpage and stands in one word.
+    #[inline(always)]
+    pub(crate) fn holds(first: usize, count: usize) -> bool
+        requires { first + count ≤ max_subpages }
+        ensures some { result ≡ true → 0 < count }
+        ensures one { result ≡ true → first % 64 + count ≤ 64 }
+    {
+        count != 0 && first % 64 + count <= 64
+    }
+
+    // The subpages of such a range.
+    #[inline(always)]
+    pub(crate) fn range(first: usize, count: usize) -> OneWord
+        requires inside { first + count ≤ max_subpages }
+        requires some { 0 < count }
+        requires one { first % 64 + count ≤ 64 }
+        ensures { (i : ℕ) → in_word result.at result.bits i ≡ covers first count i }
+    {
+        OneWord {
+            at: first / 64,
+            bits: (u64::MAX >> (64 - count)) << (first % 64),
+        }
+    }
+}
+
+impl Subpages for OneWord {
+    ghost chosen = { λ w. in_word w.at w.bits };
+
+    #[inline(always)]
+    fn within(&self, set: &SubSet) -> OneWord {
+        OneWord {
+            at: self.at,
+            bits: self.bits & set.word(self.at),
+        }
+    }
+
+    #[inline(always)]
+    fn outside(&self, set: &SubSet) -> OneWord {
+        OneWord {
+            at: self.at,
+            bits: self.bits & !set.word(self.at),
+        }
+    }
+
+    #[inline(always)]
+    fn turn(&self, set: &mut SubSet) {
+        set.set_word(self.at, set.word(self.at) ^ self.bits);
+    }
+
+    #[inline(always)]
+    fn is_empty(&self) -> bool {
+        self.bits == 0
+    }
+
+    #[inline(always)]
+    fn to_set(&self) -> SubSet {
+        let mut set = SubSet::empty();
+        set.set_word(self.at, self.bits);
+        set
+    }
+}

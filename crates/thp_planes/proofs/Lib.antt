@@ -1,4 +1,0 @@
-mod Carries
-mod Chosen
-mod WordBits
-mod Seen

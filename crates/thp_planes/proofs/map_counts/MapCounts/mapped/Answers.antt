@@ -1,9 +1,0 @@
-use Rattle.std.proofs.Common.{◌∙◌, ap, sym, nat_lt}
-use Rattle.thp_model.proofs.WordLemmas.{set_of-ext}
-use Rattle.thp_planes.proofs.Seen.{seen_at}
-use Rattle.thp_planes.proofs.map_counts.MapCounts.mapped.Goals as goal
-
-pub returns : goal.returns
-returns c =
-    c.self.invariant.mapped
-    ∙ set_of-ext _ _ (λ i below. ap (λ n. nat_lt 0 n) (sym (seen_at c.self.inside.planes.sets c.self.inside.planes.used i c.args.self.now c.self.view_is below)))

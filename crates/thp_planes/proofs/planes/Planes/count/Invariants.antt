@@ -1,6 +1,0 @@
-use Rattle.std.proofs.Common.{◌≡◌}
-use Rattle.thp_planes.specs.Planes.{count_in}
-use Rattle.thp_planes.proofs.planes.Planes.count.Given as goal
-
-abbrev pub invariant-loop-k : goal.invariant-loop-k
-invariant-loop-k l = l.count ≡ count_in l.self.sets l.k l.i

@@ -1,5 +1,0 @@
-pub mod Planes
-pub mod OneWords
-pub mod Tallies
-pub mod Ranges
-pub mod MapCounts
