@@ -1,6 +1,6 @@
 -- What contracts see of what a check's handle leads to: what was read of a text, or the verdict on it.
 use Rattle.std.specs.Prelude.{◌≡◌, ◌++◌, ℕ, List, [], Option, Some, None, Result, Ok, Err, ⊤}
-use Rattle.thp_explanations.specs.Explanations.{explanation}
+use Rattle.thp_check.specs.Explanations.{explanation}
 use Rattle.thp_journal_reader.specs.declared.illegal.Illegal.{Illegal}
 use Rattle.thp_journal_reader.specs.declared.illegal.TextFault.{TextFault}
 use Rattle.thp_journal_reader.specs.declared.journals.Journals.{Journals}

@@ -1,6 +1,6 @@
 //! The check of journals of any length, for C: its text comes in parts.
 ghost use Rattle.std.specs.Prelude.{◌≡◌, [], IfErr, IfOk, Some};
-ghost use Rattle.thp_explanations.specs.Explanations.{explanation};
+ghost use Rattle.thp_check.specs.Explanations.{explanation};
 ghost use Rattle.thp_c_calls.specs.CheckCodes.{check_answer_of, IsCheckCode};
 ghost use Rattle.thp_c_calls.specs.CheckHandle.{check_of};
 ghost use Rattle.thp_c_calls.specs.LongChecks.{CheckMade, CheckEmptied, CheckReads, CheckEnds, CheckTells, HasRead, Judges, ReadsOn, WhyNoReason, reason_of, verdict_numbers};
@@ -12,7 +12,7 @@ use crate::checks::code_of_kind;
 use crate::codes::Fault;
 use crate::node_calls::put;
 use std::alloc::{AllocError, Global};
-use thp_explanations::put_explanation;
+use thp_check::put_explanation;
 use thp_journal_reader::{Illegal, LongCheck, TextFault};
 use thp_model::Refusal;
 

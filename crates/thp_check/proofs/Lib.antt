@@ -10,3 +10,5 @@ pub mod Deciding
 pub mod FreeMarks
 pub mod Showing
 pub mod Totals
+pub mod Joined
+pub mod Fitting

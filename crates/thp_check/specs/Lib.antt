@@ -5,3 +5,5 @@ pub mod Replays
 pub mod Freeing
 pub mod Totals
 pub mod Showing
+pub mod Explanations
+pub mod Fitting

@@ -15,16 +15,16 @@ use Rattle.thp_journal_reader.specs.Answers.{TellsFirst, TellsIllegal}
 use Rattle.thp_journal_reader.specs.Journals.{journals_within}
 use Rattle.thp_journal_reader.specs.Summaries.{TellsSummaryFault}
 use Rattle.thp_journal_reader.proofs.AnswerLaws.{free_choice}
-use Rattle.thp_streams.specs.declared.calls.Call.{Call}
-use Rattle.thp_streams.specs.declared.fault.RunFault.{RunFault}
-use Rattle.thp_streams.specs.declared.fault.RunFault.TheVariants.{Text, OutOfMemory, Read, Write}
-use Rattle.thp_streams.specs.declared.long_fault.LongRunFault.{LongRunFault}
-use Rattle.thp_streams.specs.declared.long_fault.LongRunFault.TheVariants as long
-use Rattle.thp_streams.specs.Devices.{IsFrontOf, WritesFront}
-use Rattle.thp_streams.specs.Passages.{WritesAnswer}
-use Rattle.thp_streams.specs.RunFaults.{fault_of_summary, seen_fault, IsReadingFault}
-use Rattle.thp_streams.specs.Verdicts.{verdict_text}
-use Rattle.thp_streams.proofs.PassageLaws.{ends_cut, ends_early, ends_written, fault_of_journal, keeps_same, same_journals}
+use Rattle.thp_programs.specs.declared.calls.Call.{Call}
+use Rattle.thp_programs.specs.declared.fault.RunFault.{RunFault}
+use Rattle.thp_programs.specs.declared.fault.RunFault.TheVariants.{Text, OutOfMemory, Read, Write}
+use Rattle.thp_programs.specs.declared.long_fault.LongRunFault.{LongRunFault}
+use Rattle.thp_programs.specs.declared.long_fault.LongRunFault.TheVariants as long
+use Rattle.thp_programs.specs.Devices.{IsFrontOf, WritesFront}
+use Rattle.thp_programs.specs.Passages.{WritesAnswer}
+use Rattle.thp_programs.specs.RunFaults.{fault_of_summary, seen_fault, IsReadingFault}
+use Rattle.thp_programs.specs.Verdicts.{verdict_text}
+use Rattle.thp_programs.proofs.PassageLaws.{ends_cut, ends_early, ends_written, fault_of_journal, keeps_same, same_journals}
 use Rattle.thp_check_run.specs.Checks.{line_of, IsCheckOf, IsFindFault, IsFound, LongEnds}
 use Rattle.thp_check_run.specs.declared.finding.Found.{Found}
 use Rattle.thp_check_run.specs.declared.options.CheckOptions.{CheckOptions}

@@ -12,7 +12,7 @@ use Rattle.clap.specs.declared.parser.matches.ArgMatches.{ArgMatches}
 use Rattle.clap.specs.declared.parser.matches.Found.{Found}
 use Rattle.clap.proofs.OnLiterals.{clap_on_literals}
 use Rattle.clap.proofs.WalkLemmas.{one_text-rows}
-use Rattle.thp_options.specs.Flags.{flag_rule, IsOption, TellsFlag}
+use Rattle.thp_programs.specs.Flags.{flag_rule, IsOption, TellsFlag}
 use Rattle.thp_check_run.specs.CommandLine.{bare, thpcheck, AnswersWords}
 use Rattle.thp_check_run.specs.declared.options.CheckOptions.{CheckOptions}
 

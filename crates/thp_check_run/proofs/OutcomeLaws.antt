@@ -2,14 +2,14 @@
 use Rattle.std.proofs.Common.{ℕ, List, Option, Ok, Err, inl, inr}
 use Rattle.std.specs.Prelude.{Result}
 use Rattle.thp_text.specs.declared.fault.TextKind.{TextKind}
-use Rattle.thp_streams.specs.declared.ending.ProgramFault.{ProgramFault}
-use Rattle.thp_streams.specs.declared.ending.ProgramFault.TheVariants.{Run, Usage, NoText, Orders, Underused}
-use Rattle.thp_streams.specs.declared.ending.WordsFault.{WordsFault}
-use Rattle.thp_streams.specs.declared.ending.WordsFault.TheVariants as words
-use Rattle.thp_streams.specs.declared.fault.RunFault.{RunFault}
-use Rattle.thp_streams.specs.declared.fault.RunFault.TheVariants.{Text, OutOfMemory, Read, Write}
-use Rattle.thp_streams.specs.Outcomes.{Device, IsEndedAs, IsToldAs, Source}
-use Rattle.thp_streams.proofs.OutcomeLaws.{no_text_fault}
+use Rattle.thp_programs.specs.declared.ending.ProgramFault.{ProgramFault}
+use Rattle.thp_programs.specs.declared.ending.ProgramFault.TheVariants.{Run, Usage, NoText, Orders, Underused}
+use Rattle.thp_programs.specs.declared.ending.WordsFault.{WordsFault}
+use Rattle.thp_programs.specs.declared.ending.WordsFault.TheVariants as words
+use Rattle.thp_programs.specs.declared.fault.RunFault.{RunFault}
+use Rattle.thp_programs.specs.declared.fault.RunFault.TheVariants.{Text, OutOfMemory, Read, Write}
+use Rattle.thp_programs.specs.Outcomes.{Device, IsEndedAs, IsToldAs, Source}
+use Rattle.thp_programs.proofs.OutcomeLaws.{no_text_fault}
 use Rattle.thp_check_run.specs.declared.options.CheckOptions.{CheckOptions}
 use Rattle.thp_check_run.specs.Checks.{Checks}
 use Rattle.thp_check_run.specs.CommandLine.{AnswersWords}

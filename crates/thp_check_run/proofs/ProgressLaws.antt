@@ -6,13 +6,13 @@ use Rattle.std.specs.List.{concat}
 use Rattle.std.proofs.lemmas.List.{append-nil, length-append, map-append}
 use Rattle.std.proofs.lemmas.List.Elements.{All-append, All-nil, All-replicate}
 use Rattle.std.proofs.lemmas.List.Folds.{concat-append}
-use Rattle.thp_streams.specs.Calls.{Follow, WritesOn}
-use Rattle.thp_streams.specs.Devices.{WritesFront}
-use Rattle.thp_streams.specs.Outcomes.{device_of, Device, Takes}
-use Rattle.thp_streams.specs.Watch.{Watch}
-use Rattle.thp_streams.specs.declared.calls.Call.{Call}
-use Rattle.thp_streams.specs.declared.ending.Program.{Program}
-use Rattle.thp_streams.specs.declared.calls.Call.TheVariants as call
+use Rattle.thp_programs.specs.Calls.{Follow, WritesOn}
+use Rattle.thp_programs.specs.Devices.{WritesFront}
+use Rattle.thp_programs.specs.Outcomes.{device_of, Device, Takes}
+use Rattle.thp_programs.specs.Watch.{Watch}
+use Rattle.thp_programs.specs.declared.calls.Call.{Call}
+use Rattle.thp_programs.specs.declared.ending.Program.{Program}
+use Rattle.thp_programs.specs.declared.calls.Call.TheVariants as call
 use Rattle.thp_check_run.specs.Counting.{begins_behind, events_from}
 use Rattle.thp_check_run.specs.Progress.{last_removed, progress_line, progress_text, removal, AreAnswered, IsAnswered, IsReached, Reached, ShowsLines, Took}
 use Rattle.thp_check_run.specs.Reaching.{is_some_line, HasCounted, HasShown, IsReadOf, Looks, Removes}

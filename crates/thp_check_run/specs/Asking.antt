@@ -1,8 +1,8 @@
 -- Where the words of `thpcheck` have it show how far it is.
 use Rattle.std.specs.Prelude.{◌≡◌, ℕ, Bool, true, List, Result, Ok, Err}
-use Rattle.thp_streams.specs.declared.ending.Program.TheVariants.{Thpcheck}
-use Rattle.thp_streams.specs.declared.ending.WordsFault.{WordsFault}
-use Rattle.thp_streams.specs.Outcomes.{Device, Source}
+use Rattle.thp_programs.specs.declared.ending.Program.TheVariants.{Thpcheck}
+use Rattle.thp_programs.specs.declared.ending.WordsFault.{WordsFault}
+use Rattle.thp_programs.specs.Outcomes.{Device, Source}
 use Rattle.thp_check_run.specs.declared.options.CheckOptions.{CheckOptions}
 use Rattle.thp_check_run.specs.CommandLine.{AnswersWords}
 use Rattle.thp_check_run.specs.Progress.{may_show, ShowsProgress}

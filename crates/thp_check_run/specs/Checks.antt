@@ -1,7 +1,7 @@
 -- What the check of a journal of any length reads, writes and finds.
 use Rattle.std.specs.Prelude.{◌≡◌, ◌++◌, ℕ, Bool, true, false, List, [], Option, Some, None, Result, Ok, Err, IfSome, if◌then◌else◌, option_map}
 use Rattle.thp_text.specs.Limits.{max_counted}
-use Rattle.thp_explanations.specs.Explanations.{explanation}
+use Rattle.thp_check.specs.Explanations.{explanation}
 use Rattle.thp_journal_reader.specs.declared.illegal.Illegal.{Illegal}
 use Rattle.thp_journal_reader.specs.declared.journals.Journals.{Journals}
 use Rattle.thp_journal_reader.specs.declared.journals.NodeJournal.{NodeJournal}
@@ -10,15 +10,15 @@ use Rattle.thp_journal_reader.specs.Journals.{journals_within}
 use Rattle.thp_journal_reader.specs.Summaries.{AreSummaries}
 use Rattle.thp_journal_writer.specs.Totals.{lines_from}
 use Rattle.thp_journal_writer.specs.declared.totals.Totals.{Totals}
-use Rattle.thp_streams.specs.declared.fault.RunFault.{RunFault}
-use Rattle.thp_streams.specs.declared.fault.RunFault.TheVariants.{Text, OutOfMemory, Read, Write}
-use Rattle.thp_streams.specs.declared.long_fault.LongRunFault.{LongRunFault}
-use Rattle.thp_streams.specs.Calls.{ReadsOn}
-use Rattle.thp_streams.specs.Devices.{IsFrontOf}
-use Rattle.thp_streams.specs.Outcomes.{Device, Source}
-use Rattle.thp_streams.specs.Passages.{Ends, WritesAnswer}
-use Rattle.thp_streams.specs.RunFaults.{seen_fault}
-use Rattle.thp_streams.specs.Verdicts.{is_legal, IsVerdictWithin}
+use Rattle.thp_programs.specs.declared.fault.RunFault.{RunFault}
+use Rattle.thp_programs.specs.declared.fault.RunFault.TheVariants.{Text, OutOfMemory, Read, Write}
+use Rattle.thp_programs.specs.declared.long_fault.LongRunFault.{LongRunFault}
+use Rattle.thp_programs.specs.Calls.{ReadsOn}
+use Rattle.thp_programs.specs.Devices.{IsFrontOf}
+use Rattle.thp_programs.specs.Outcomes.{Device, Source}
+use Rattle.thp_programs.specs.Passages.{Ends, WritesAnswer}
+use Rattle.thp_programs.specs.RunFaults.{seen_fault}
+use Rattle.thp_programs.specs.Verdicts.{is_legal, IsVerdictWithin}
 use Rattle.thp_check_run.specs.declared.checking.Checked.{Checked}
 use Rattle.thp_check_run.specs.declared.finding.Found.{Found}
 use Rattle.thp_check_run.specs.declared.options.CheckOptions.{CheckOptions}

@@ -1,15 +1,15 @@
 -- What the program does with its words, its input and its outputs, and its exit status (this project's profile).
 use Rattle.std.specs.Prelude.{◌≡◌, ◌⊎◌, ℕ, List, Option, Some, None, Result, Ok, Err, option_map}
 use Rattle.thp_journal_reader.specs.declared.illegal.Illegal.{Illegal}
-use Rattle.thp_streams.specs.declared.ending.Ending.{Ending}
-use Rattle.thp_streams.specs.declared.ending.Ending.TheVariants.{Written, Illegal as IsIllegal}
-use Rattle.thp_streams.specs.declared.ending.Program.TheVariants.{Thpcheck}
-use Rattle.thp_streams.specs.declared.ending.ProgramFault.{ProgramFault}
-use Rattle.thp_streams.specs.declared.ending.ProgramFault.TheVariants.{Run, Usage, NoText, Orders, Underused}
-use Rattle.thp_streams.specs.declared.ending.WordsFault.{WordsFault}
-use Rattle.thp_streams.specs.declared.ending.WordsFault.TheVariants as words
-use Rattle.thp_streams.specs.Outcomes.{Device, IsShort, IsUnread, IsUntouched, Source, Takes, Tells, WasAnsweredBy, end_status}
-use Rattle.thp_streams.specs.RunFaults.{seen_fault}
+use Rattle.thp_programs.specs.declared.ending.Ending.{Ending}
+use Rattle.thp_programs.specs.declared.ending.Ending.TheVariants.{Written, Illegal as IsIllegal}
+use Rattle.thp_programs.specs.declared.ending.Program.TheVariants.{Thpcheck}
+use Rattle.thp_programs.specs.declared.ending.ProgramFault.{ProgramFault}
+use Rattle.thp_programs.specs.declared.ending.ProgramFault.TheVariants.{Run, Usage, NoText, Orders, Underused}
+use Rattle.thp_programs.specs.declared.ending.WordsFault.{WordsFault}
+use Rattle.thp_programs.specs.declared.ending.WordsFault.TheVariants as words
+use Rattle.thp_programs.specs.Outcomes.{Device, IsShort, IsUnread, IsUntouched, Source, Takes, Tells, WasAnsweredBy, end_status}
+use Rattle.thp_programs.specs.RunFaults.{seen_fault}
 use Rattle.thp_check_run.specs.declared.end_fault.EndFault.{EndFault}
 use Rattle.thp_check_run.specs.declared.end_fault.EndFault.TheVariants as ended
 use Rattle.thp_check_run.specs.declared.options.CheckOptions.{CheckOptions}

@@ -3,11 +3,11 @@ use Rattle.std.specs.Prelude.{◌≡◌, ◌*◌, ◌/◌, ◌%◌, ◌++◌, �
 use Rattle.std.specs.Fmt.{decimal}
 use Rattle.std.specs.Io.KnownBytes.{Appends}
 use Rattle.std.specs.List.{concat}
-use Rattle.thp_streams.specs.declared.calls.Call.{Call}
-use Rattle.thp_streams.specs.declared.calls.Call.TheVariants as call
-use Rattle.thp_streams.specs.declared.ending.Program.{Program}
-use Rattle.thp_streams.specs.Devices.{WritesFront}
-use Rattle.thp_streams.specs.Outcomes.{name_front, Device, IsUntouched}
+use Rattle.thp_programs.specs.declared.calls.Call.{Call}
+use Rattle.thp_programs.specs.declared.calls.Call.TheVariants as call
+use Rattle.thp_programs.specs.declared.ending.Program.{Program}
+use Rattle.thp_programs.specs.Devices.{WritesFront}
+use Rattle.thp_programs.specs.Outcomes.{name_front, Device, IsUntouched}
 use Rattle.thp_check_run.specs.Counting.{events_in}
 
 -- ---- how far it is

@@ -1,8 +1,8 @@
 -- What is kept of a reading that shows how far it is.
 use Rattle.std.specs.Prelude.{◌≡◌, ◌⊎◌, ◌++◌, ℕ, Bool, true, false, All, List, [], ◌∷◌, Option, IfSome, length}
-use Rattle.thp_streams.specs.declared.ending.Program.{Program}
-use Rattle.thp_streams.specs.Outcomes.{device_of, Device, Takes}
-use Rattle.thp_streams.specs.Watch.{Watch}
+use Rattle.thp_programs.specs.declared.ending.Program.{Program}
+use Rattle.thp_programs.specs.Outcomes.{device_of, Device, Takes}
+use Rattle.thp_programs.specs.Watch.{Watch}
 use Rattle.thp_check_run.specs.declared.progress.Progress.{Progress}
 use Rattle.thp_check_run.specs.Counting.{begins_behind, events_in}
 use Rattle.thp_check_run.specs.Progress.{progress_line, progress_text, removal, IsReached, Reached, Took}

@@ -1,10 +1,10 @@
 //! From the bytes of a journal of any length to whether it is legal.
 ghost use Rattle.std.specs.Prelude.{◌≡◌, ◌++◌, IfOk, false, option_map};
-ghost use Rattle.thp_streams.specs.Calls.{ReadsOn};
-ghost use Rattle.thp_streams.specs.declared.ending.Program.TheVariants.{Thpcheck};
-ghost use Rattle.thp_streams.specs.Outcomes.{device_of};
-ghost use Rattle.thp_streams.specs.Passages.{WritesAnswer};
-ghost use Rattle.thp_streams.specs.Verdicts.{verdict_text};
+ghost use Rattle.thp_programs.specs.Calls.{ReadsOn};
+ghost use Rattle.thp_programs.specs.declared.ending.Program.TheVariants.{Thpcheck};
+ghost use Rattle.thp_programs.specs.Outcomes.{device_of};
+ghost use Rattle.thp_programs.specs.Passages.{WritesAnswer};
+ghost use Rattle.thp_programs.specs.Verdicts.{verdict_text};
 ghost use Rattle.thp_journal_writer.specs.Totals.{lines_from};
 ghost use Rattle.thp_check_run.specs.Checks.{explanation_of, found_in, line_of, CheckEnds};
 ghost use Rattle.thp_check_run.specs.Progress.{may_show, ShowsProgress};
@@ -15,10 +15,10 @@ use crate::screen::Screen;
 use std::alloc::{AllocError, Global};
 use std::io::{Read, Write};
 use std::time::Clock;
-use thp_explanations::put_explanation;
+use thp_check::put_explanation;
 use thp_journal_reader::Illegal;
 use thp_journal_writer::{put, put_totals_of_each};
-use thp_streams::{LongRunFault, Watched, verdict, write_text};
+use thp_programs::{LongRunFault, Watched, verdict, write_text};
 
 /// What the check of a journal found.
 #[derive(Drop)]

@@ -1,10 +1,10 @@
 //! What ends the program without what it was asked for.
 ghost use Rattle.std.specs.Prelude.{◌≡◌};
-ghost use Rattle.thp_streams.specs.declared.long_fault.LongRunFault.TheVariants.{OutOfMemory};
+ghost use Rattle.thp_programs.specs.declared.long_fault.LongRunFault.TheVariants.{OutOfMemory};
 ghost use Rattle.thp_check_run.specs.declared.end_fault.EndFault.TheVariants.{Journal, Words};
 
 use std::alloc::AllocError;
-use thp_streams::{LongRunFault, ProgramFault};
+use thp_programs::{LongRunFault, ProgramFault};
 
 /// Why the program didn't do what it was asked for.
 #[derive(Debug, Drop)]

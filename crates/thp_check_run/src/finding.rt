@@ -1,11 +1,11 @@
 //! What the journal that a reader gives tells: its first illegal event, and the totals of its nodes.
 ghost use Rattle.std.specs.Prelude.{◌≡◌, ℕ, List, IfOk, IfErr, IfSome, true, false};
 ghost use Rattle.thp_text.specs.Limits.{max_counted};
-ghost use Rattle.thp_streams.specs.Calls.{ReadsOn};
-ghost use Rattle.thp_streams.specs.declared.ending.Program.TheVariants.{Thpcheck};
-ghost use Rattle.thp_streams.specs.Devices.{IsFrontOf};
-ghost use Rattle.thp_streams.specs.Outcomes.{device_of};
-ghost use Rattle.thp_streams.specs.RunFaults.{seen_fault};
+ghost use Rattle.thp_programs.specs.Calls.{ReadsOn};
+ghost use Rattle.thp_programs.specs.declared.ending.Program.TheVariants.{Thpcheck};
+ghost use Rattle.thp_programs.specs.Devices.{IsFrontOf};
+ghost use Rattle.thp_programs.specs.Outcomes.{device_of};
+ghost use Rattle.thp_programs.specs.RunFaults.{seen_fault};
 ghost use Rattle.thp_check_run.specs.Checks.{IsFindFault, IsFound};
 ghost use Rattle.thp_check_run.specs.Progress.{may_show, ShowsProgress};
 
@@ -19,7 +19,7 @@ use thp_check::Misfit;
 use thp_journal_reader::{Illegal, LongCheck, SummedCheck};
 use thp_journal_writer::Totals;
 use thp_model::{Outcome, Refusal, What};
-use thp_streams::{LongRunFault, Program, Watched};
+use thp_programs::{LongRunFault, Program, Watched};
 
 /// What a journal tells.
 #[derive(Drop)]

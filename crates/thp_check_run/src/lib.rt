@@ -1,5 +1,5 @@
 //! The program `thpcheck`: what it does with the words of its command line, its input and its outputs. What it shares with the
-//! program `thpsplit` is `thp_streams`'s: devices, verdicts, faults, exit statuses, and answers to words.
+//! program `thpsplit` is `thp_programs`'s: devices, verdicts, faults, exit statuses, and answers to words.
 #![tactic(auto)]
 
 mod checking;
@@ -19,4 +19,4 @@ pub use options::{CheckOptions, read_words};
 pub use program::run_check_program;
 pub use reading::read_journal;
 pub use screen::Screen;
-pub use thp_streams::{LongRunFault, Watched, WordsFault, words_of};
+pub use thp_programs::{LongRunFault, Watched, WordsFault, words_of};

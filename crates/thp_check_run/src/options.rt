@@ -6,7 +6,7 @@ ghost use Rattle.thp_check_run.specs.CommandLine.{thpcheck, AnswersWords};
 use crate::help::AFTER_HELP;
 use clap::{Command, Error};
 use std::alloc::{AllocError, Global};
-use thp_options::{VERSION, flag};
+use thp_programs::{VERSION, flag};
 
 /// What a command line asks for beside the verdict.
 #[derive(Clone, Copy, Debug, PartialEq, Eq)]

@@ -1,7 +1,7 @@
 //! The program: from the words of its command line to its exit status.
 ghost use Rattle.std.specs.Prelude.{◌≡◌, false, option_map};
-ghost use Rattle.thp_streams.specs.declared.ending.Program.TheVariants.{Thpcheck};
-ghost use Rattle.thp_streams.specs.Outcomes.{device_of, given_words, source_of};
+ghost use Rattle.thp_programs.specs.declared.ending.Program.TheVariants.{Thpcheck};
+ghost use Rattle.thp_programs.specs.Outcomes.{device_of, given_words, source_of};
 ghost use Rattle.thp_check_run.specs.Outcomes.{end_of, ending_of, explained_by, Does, Finishes, Served, TakesExplanation};
 ghost use Rattle.thp_check_run.specs.Asking.{ShowsAsAsked};
 ghost use Rattle.thp_check_run.specs.Progress.{may_show, ShowsProgress};
@@ -14,7 +14,7 @@ use std::alloc::Global;
 use std::io::{Read, Write};
 use std::time::Clock;
 use thp_journal_reader::Illegal;
-use thp_streams::{
+use thp_programs::{
     Ending, LongRunFault, Program, ProgramFault, Watched, WordsFault, answer, status_of_ending,
     tell, tell_run, tell_text, texts_of,
 };

@@ -10,7 +10,7 @@ use std::alloc::{AllocError, Global};
 use std::io::Write;
 use std::time::{Clock, Duration};
 use thp_journal_writer::{put, put_number};
-use thp_streams::{Program, name_front, tell_text};
+use thp_programs::{Program, name_front, tell_text};
 
 /// How many bytes a mebibyte has.
 const MEBIBYTE: u64 = 1_048_576;

@@ -1,9 +1,9 @@
 //! All of a journal, part by part, and how far that is.
 ghost use Rattle.std.specs.Prelude.{◌≡◌, [], ℕ, List, IfErr, IfOk, IfSome, false};
-ghost use Rattle.thp_streams.specs.Calls.{ReadsOn};
-ghost use Rattle.thp_streams.specs.Devices.{IsFrontOf};
-ghost use Rattle.thp_streams.specs.Outcomes.{device_of};
-ghost use Rattle.thp_streams.specs.RunFaults.{IsReadingFault};
+ghost use Rattle.thp_programs.specs.Calls.{ReadsOn};
+ghost use Rattle.thp_programs.specs.Devices.{IsFrontOf};
+ghost use Rattle.thp_programs.specs.Outcomes.{device_of};
+ghost use Rattle.thp_programs.specs.RunFaults.{IsReadingFault};
 ghost use Rattle.thp_text.specs.Limits.{max_counted};
 ghost use Rattle.thp_check_run.specs.Progress.{may_show, ShowsLines, ShowsProgress};
 ghost use Rattle.thp_check_run.specs.Reaching.{HasCounted, HasShown, IsReadOf};
@@ -13,7 +13,7 @@ use crate::screen::Screen;
 use std::alloc::Global;
 use std::io::{Read, Write};
 use std::time::Clock;
-use thp_streams::{Program, ReadsParts, RunFault, Watched, read_parts};
+use thp_programs::{Program, ReadsParts, RunFault, Watched, read_parts};
 use thp_text::MAX_COUNTED;
 
 /// How many bytes one read may give.

@@ -1,6 +1,6 @@
 //! Where it is shown how far a check is, and when.
 use std::time::{Clock, Duration, Instant};
-use thp_streams::Watched;
+use thp_programs::Watched;
 
 /// At least so many seconds lie between two lines of progress.
 const SECONDS: u64 = 1;

@@ -1,9 +1,9 @@
 -- How the drawing of a journal ends, from what its parts did.
 use Rattle.std.proofs.Common.{◌≡◌, ◌∙◌, ℕ, List, sym}
 use Rattle.thp_drawing.specs.declared.node.DrawnNode.{DrawnNode}
-use Rattle.thp_streams.proofs.PassageLaws.{same_journals}
-use Rattle.thp_streams.specs.declared.ending.Ending.{Ending}
-use Rattle.thp_streams.specs.Devices.{IsFrontOf}
+use Rattle.thp_programs.proofs.PassageLaws.{same_journals}
+use Rattle.thp_programs.specs.declared.ending.Ending.{Ending}
+use Rattle.thp_programs.specs.Devices.{IsFrontOf}
 use Rattle.thp_text.specs.Limits.{max_counted}
 use Rattle.thp_draw_run.specs.declared.options.Drawing.{Drawing}
 use Rattle.thp_draw_run.specs.Drawings.{drawing_text, ending_of, IsDrawingOf, IsFound}

@@ -1,9 +1,9 @@
 -- Where the words of `thpdraw` have it show how far it is.
 use Rattle.std.specs.Prelude.{◌≡◌, ℕ, Bool, true, List, Result, Ok, Err}
 use Rattle.thp_check_run.specs.Progress.{may_show, ShowsProgress}
-use Rattle.thp_streams.specs.declared.ending.Program.TheVariants.{Thpdraw}
-use Rattle.thp_streams.specs.declared.ending.WordsFault.{WordsFault}
-use Rattle.thp_streams.specs.Outcomes.{Device, Source}
+use Rattle.thp_programs.specs.declared.ending.Program.TheVariants.{Thpdraw}
+use Rattle.thp_programs.specs.declared.ending.WordsFault.{WordsFault}
+use Rattle.thp_programs.specs.Outcomes.{Device, Source}
 use Rattle.thp_draw_run.specs.declared.options.DrawOptions.{DrawOptions}
 use Rattle.thp_draw_run.specs.CommandLine.{AnswersWords}
 

@@ -2,7 +2,7 @@
 use Rattle.std.specs.Prelude.{ℕ, Bool, true, false, List, Result, IfOk, codes}
 use Rattle.clap.specs.Words.{App, FailsBy, Row, fault_of, matches_of, new_app, one_of, with_rule}
 use Rattle.clap.specs.declared.error.Error.{Error}
-use Rattle.thp_options.specs.Flags.{flag_rule, TellsFlag}
+use Rattle.thp_programs.specs.Flags.{flag_rule, TellsFlag}
 use Rattle.thp_draw_run.specs.declared.options.Drawing.{Drawing}
 use Rattle.thp_draw_run.specs.declared.options.Drawing.TheVariants.{Picture, Table}
 use Rattle.thp_draw_run.specs.declared.options.DrawOptions.{DrawOptions}

@@ -6,12 +6,12 @@ use Rattle.thp_drawing.specs.Tables.{table_text}
 use Rattle.thp_drawing.specs.declared.node.DrawnNode.{DrawnNode}
 use Rattle.thp_journal_reader.specs.declared.journals.Journals.{Journals}
 use Rattle.thp_journal_reader.specs.Journals.{journals_within}
-use Rattle.thp_streams.specs.declared.ending.Ending.{Ending}
-use Rattle.thp_streams.specs.declared.ending.Ending.TheVariants.{Illegal, Written}
-use Rattle.thp_streams.specs.declared.fault.RunFault.{RunFault}
-use Rattle.thp_streams.specs.Calls.{ReadsOn}
-use Rattle.thp_streams.specs.Outcomes.{Device, Source}
-use Rattle.thp_streams.specs.Passages.{WritesAnswer}
+use Rattle.thp_programs.specs.declared.ending.Ending.{Ending}
+use Rattle.thp_programs.specs.declared.ending.Ending.TheVariants.{Illegal, Written}
+use Rattle.thp_programs.specs.declared.fault.RunFault.{RunFault}
+use Rattle.thp_programs.specs.Calls.{ReadsOn}
+use Rattle.thp_programs.specs.Outcomes.{Device, Source}
+use Rattle.thp_programs.specs.Passages.{WritesAnswer}
 use Rattle.thp_text.specs.Limits.{max_counted}
 use Rattle.thp_draw_run.specs.declared.options.Drawing.{Drawing}
 use Rattle.thp_draw_run.specs.declared.options.Drawing.TheVariants.{Picture, Table}

@@ -2,16 +2,16 @@
 use Rattle.std.specs.Prelude.{◌≡◌, ◌⊎◌, ℕ, List, Result, Ok, Err}
 use Rattle.thp_check_run.specs.Outcomes.{fault_at_end}
 use Rattle.thp_check_run.specs.declared.end_fault.EndFault.{EndFault}
-use Rattle.thp_streams.specs.declared.ending.Ending.{Ending}
-use Rattle.thp_streams.specs.declared.ending.Program.TheVariants.{Thpdraw}
-use Rattle.thp_streams.specs.declared.ending.ProgramFault.{ProgramFault}
-use Rattle.thp_streams.specs.declared.ending.ProgramFault.TheVariants.{Run, Usage, NoText, Orders, Underused}
-use Rattle.thp_streams.specs.declared.ending.WordsFault.{WordsFault}
-use Rattle.thp_streams.specs.declared.ending.WordsFault.TheVariants as words
-use Rattle.thp_streams.specs.declared.fault.RunFault.{RunFault}
-use Rattle.thp_streams.specs.declared.long_fault.LongRunFault.{LongRunFault}
-use Rattle.thp_streams.specs.Outcomes.{Device, IsShort, IsUnread, IsUntouched, Source, Tells, WasAnsweredBy}
-use Rattle.thp_streams.specs.RunFaults.{seen_fault}
+use Rattle.thp_programs.specs.declared.ending.Ending.{Ending}
+use Rattle.thp_programs.specs.declared.ending.Program.TheVariants.{Thpdraw}
+use Rattle.thp_programs.specs.declared.ending.ProgramFault.{ProgramFault}
+use Rattle.thp_programs.specs.declared.ending.ProgramFault.TheVariants.{Run, Usage, NoText, Orders, Underused}
+use Rattle.thp_programs.specs.declared.ending.WordsFault.{WordsFault}
+use Rattle.thp_programs.specs.declared.ending.WordsFault.TheVariants as words
+use Rattle.thp_programs.specs.declared.fault.RunFault.{RunFault}
+use Rattle.thp_programs.specs.declared.long_fault.LongRunFault.{LongRunFault}
+use Rattle.thp_programs.specs.Outcomes.{Device, IsShort, IsUnread, IsUntouched, Source, Tells, WasAnsweredBy}
+use Rattle.thp_programs.specs.RunFaults.{seen_fault}
 use Rattle.thp_draw_run.specs.declared.options.DrawOptions.{DrawOptions}
 use Rattle.thp_draw_run.specs.CommandLine.{AnswersWords}
 use Rattle.thp_draw_run.specs.Drawings.{Draws}

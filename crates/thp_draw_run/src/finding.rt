@@ -2,11 +2,11 @@
 ghost use Rattle.std.specs.Prelude.{◌≡◌, ℕ, List, IfOk, IfErr, IfSome, false};
 ghost use Rattle.thp_check_run.specs.Checks.{IsFindFault};
 ghost use Rattle.thp_check_run.specs.Progress.{may_show, ShowsProgress};
-ghost use Rattle.thp_streams.specs.declared.ending.Program.TheVariants.{Thpdraw};
-ghost use Rattle.thp_streams.specs.Calls.{ReadsOn};
-ghost use Rattle.thp_streams.specs.Devices.{IsFrontOf};
-ghost use Rattle.thp_streams.specs.Outcomes.{device_of};
-ghost use Rattle.thp_streams.specs.RunFaults.{seen_fault};
+ghost use Rattle.thp_programs.specs.declared.ending.Program.TheVariants.{Thpdraw};
+ghost use Rattle.thp_programs.specs.Calls.{ReadsOn};
+ghost use Rattle.thp_programs.specs.Devices.{IsFrontOf};
+ghost use Rattle.thp_programs.specs.Outcomes.{device_of};
+ghost use Rattle.thp_programs.specs.RunFaults.{seen_fault};
 ghost use Rattle.thp_text.specs.Limits.{max_counted};
 ghost use Rattle.thp_draw_run.specs.Drawings.{IsFound};
 
@@ -19,7 +19,7 @@ use thp_check_run::{Screen, read_journal};
 use thp_drawing::DrawnNode;
 use thp_journal_reader::SeriesCheck;
 use thp_model::{Outcome, Refusal, What};
-use thp_streams::{LongRunFault, Program, Watched};
+use thp_programs::{LongRunFault, Program, Watched};
 
 /// What is drawn of the nodes of the journal whose text a reader gives, part by part.
 pub(crate) fn find_nodes<R: Read, S: Write, C: Clock>(

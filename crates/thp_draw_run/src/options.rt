@@ -6,7 +6,7 @@ ghost use Rattle.thp_draw_run.specs.CommandLine.{is_table, thpdraw, AnswersWords
 use crate::help::AFTER_HELP;
 use clap::{Command, Error};
 use std::alloc::{AllocError, Global};
-use thp_options::{VERSION, flag};
+use thp_programs::{VERSION, flag};
 
 /// What is written of a journal's nodes.
 #[derive(Clone, Copy, Debug, PartialEq, Eq)]

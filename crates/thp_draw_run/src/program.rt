@@ -1,8 +1,8 @@
 //! The program: from the words of its command line to its exit status.
 ghost use Rattle.std.specs.Prelude.{◌≡◌, false};
 ghost use Rattle.thp_check_run.specs.Progress.{may_show, ShowsProgress};
-ghost use Rattle.thp_streams.specs.declared.ending.Program.TheVariants.{Thpdraw};
-ghost use Rattle.thp_streams.specs.Outcomes.{device_of, given_words, source_of};
+ghost use Rattle.thp_programs.specs.declared.ending.Program.TheVariants.{Thpdraw};
+ghost use Rattle.thp_programs.specs.Outcomes.{device_of, given_words, source_of};
 ghost use Rattle.thp_draw_run.specs.Asking.{ShowsAsAsked};
 ghost use Rattle.thp_draw_run.specs.Outcomes.{end_of, Does, Finishes, Served};
 
@@ -12,7 +12,7 @@ use std::alloc::Global;
 use std::io::{Read, Write};
 use std::time::Clock;
 use thp_check_run::{EndFault, Screen};
-use thp_streams::{
+use thp_programs::{
     Ending, LongRunFault, Program, ProgramFault, Watched, WordsFault, answer, status_of_ending,
     tell, tell_run, texts_of,
 };

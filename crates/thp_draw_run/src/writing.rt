@@ -1,10 +1,10 @@
 //! From the bytes of a journal of any length to what is drawn of its nodes.
 ghost use Rattle.std.specs.Prelude.{◌≡◌, IfOk, false};
 ghost use Rattle.thp_check_run.specs.Progress.{may_show, ShowsProgress};
-ghost use Rattle.thp_streams.specs.declared.ending.Program.TheVariants.{Thpdraw};
-ghost use Rattle.thp_streams.specs.Calls.{ReadsOn};
-ghost use Rattle.thp_streams.specs.Outcomes.{device_of};
-ghost use Rattle.thp_streams.specs.Passages.{WritesAnswer};
+ghost use Rattle.thp_programs.specs.declared.ending.Program.TheVariants.{Thpdraw};
+ghost use Rattle.thp_programs.specs.Calls.{ReadsOn};
+ghost use Rattle.thp_programs.specs.Outcomes.{device_of};
+ghost use Rattle.thp_programs.specs.Passages.{WritesAnswer};
 ghost use Rattle.thp_draw_run.specs.Drawings.{drawing_text, ending_of, some_illegal, DrawEnds};
 ghost use Rattle.thp_draw_run.specs.Outcomes.{seen_end};
 
@@ -15,7 +15,7 @@ use std::io::{Read, Write};
 use std::time::Clock;
 use thp_check_run::Screen;
 use thp_drawing::{DrawnNode, put_picture, put_table};
-use thp_streams::{Ending, LongRunFault, Watched, write_text};
+use thp_programs::{Ending, LongRunFault, Watched, write_text};
 
 /// Whether some node has an illegal event.
 fn some_illegal(nodes: &[DrawnNode]) -> bool

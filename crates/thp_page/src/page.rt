@@ -8,9 +8,9 @@ ghost use Rattle.thp_page.specs.Fresh.{fresh_page};
 
 mod calls;
 
+use crate::map_counts::MapCounts;
 use std::marker::Model;
 use thp_model::SubSet;
-use crate::map_counts::MapCounts;
 
 /// What an unmap did to the use of its page.
 #[derive(Clone, Copy, PartialEq, Eq, Debug)]

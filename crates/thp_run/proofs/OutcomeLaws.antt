@@ -2,18 +2,18 @@
 use Rattle.std.proofs.Common.{◌≡◌, ℕ, List, Ok, Err, inl, inr}
 use Rattle.std.specs.Prelude.{Result}
 use Rattle.clap.specs.declared.error.Error.{Error}
-use Rattle.thp_options.specs.CommandLine.{FailsAsWords}
-use Rattle.thp_options.specs.declared.line.Line.{Line}
+use Rattle.thp_programs.specs.CommandLine.{FailsAsWords}
+use Rattle.thp_programs.specs.declared.line.Line.{Line}
 use Rattle.thp_text.specs.declared.fault.TextKind.{TextKind}
-use Rattle.thp_streams.specs.Outcomes.{Device, IsEndedAs, IsToldAs, Source}
-use Rattle.thp_streams.proofs.OutcomeLaws.{no_text_fault}
+use Rattle.thp_programs.specs.Outcomes.{Device, IsEndedAs, IsToldAs, Source}
+use Rattle.thp_programs.proofs.OutcomeLaws.{no_text_fault}
 use Rattle.thp_run.specs.Outcomes.{Does, Served}
-use Rattle.thp_streams.specs.declared.ending.ProgramFault.{ProgramFault}
-use Rattle.thp_streams.specs.declared.ending.ProgramFault.TheVariants.{Run, Usage, NoText, Orders, Underused}
-use Rattle.thp_streams.specs.declared.ending.WordsFault.{WordsFault}
-use Rattle.thp_streams.specs.declared.ending.WordsFault.TheVariants as words
-use Rattle.thp_streams.specs.declared.fault.RunFault.{RunFault}
-use Rattle.thp_streams.specs.declared.fault.RunFault.TheVariants.{Text, OutOfMemory, Read, Write}
+use Rattle.thp_programs.specs.declared.ending.ProgramFault.{ProgramFault}
+use Rattle.thp_programs.specs.declared.ending.ProgramFault.TheVariants.{Run, Usage, NoText, Orders, Underused}
+use Rattle.thp_programs.specs.declared.ending.WordsFault.{WordsFault}
+use Rattle.thp_programs.specs.declared.ending.WordsFault.TheVariants as words
+use Rattle.thp_programs.specs.declared.fault.RunFault.{RunFault}
+use Rattle.thp_programs.specs.declared.fault.RunFault.TheVariants.{Text, OutOfMemory, Read, Write}
 
 module _ (input : Source) (output : Device) where
   -- what ended at a text's fault ended, too, as it does without memory

@@ -9,11 +9,11 @@ use Rattle.thp_text.specs.declared.settings.Settings.{Settings}
 use Rattle.thp_text.specs.Limits.{max_input}
 use Rattle.thp_text.specs.Scripts.{Fault, TellsFault, script_of}
 use Rattle.thp_text.proofs.ScriptLaws.{too_long}
-use Rattle.thp_streams.specs.declared.fault.RunFault.{RunFault}
-use Rattle.thp_streams.specs.declared.fault.RunFault.TheVariants.{Write}
-use Rattle.thp_streams.specs.Devices.{IsInputOf, WritesFront}
-use Rattle.thp_streams.specs.RunFaults.{run_fault}
-use Rattle.thp_streams.proofs.PassageLaws.{ends_cut, ends_early, ends_written, tells_of}
+use Rattle.thp_programs.specs.declared.fault.RunFault.{RunFault}
+use Rattle.thp_programs.specs.declared.fault.RunFault.TheVariants.{Write}
+use Rattle.thp_programs.specs.Devices.{IsInputOf, WritesFront}
+use Rattle.thp_programs.specs.RunFaults.{run_fault}
+use Rattle.thp_programs.proofs.PassageLaws.{ends_cut, ends_early, ends_written, tells_of}
 use Rattle.thp_run.specs.Programs.{IsReport, RunEnds}
 
 pub same_script : (s : Settings) (input bytes : List ℕ) → IsInputOf bytes input → script_of s bytes ≡ script_of s input

@@ -2,13 +2,13 @@
 use Rattle.std.specs.Prelude.{◌≡◌, ◌++◌, ℕ, List, drop, replicate, Option, Some, None, Result, Ok, Err}
 use Rattle.std.specs.Borrow.{Bor}
 use Rattle.thp_model.specs.Limits.{max_order}
-use Rattle.thp_options.specs.declared.line.Line.{Line}
+use Rattle.thp_programs.specs.declared.line.Line.{Line}
 use Rattle.thp_text.specs.declared.settings.Settings.{Settings}
 use Rattle.thp_text.specs.Limits.{max_nodes}
 use Rattle.thp_text.specs.NumberLists.{orders_in, thresholds_in}
 use Rattle.thp_text.specs.Settings.{AreOrdersFor, AreThresholdsFor}
-use Rattle.thp_streams.specs.declared.ending.ProgramFault.{ProgramFault}
-use Rattle.thp_streams.specs.declared.ending.ProgramFault.TheVariants.{Run, Usage, NoText, Orders, Underused}
+use Rattle.thp_programs.specs.declared.ending.ProgramFault.{ProgramFault}
+use Rattle.thp_programs.specs.declared.ending.ProgramFault.TheVariants.{Run, Usage, NoText, Orders, Underused}
 
 -- the orders of all nodes by the option `--orders`: those that its text lists for the nodes, and the greatest where it isn't given
 abbrev pub HasOrders : Option (Bor (List ℕ)) → ℕ → List ℕ → Type 0

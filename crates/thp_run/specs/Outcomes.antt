@@ -1,19 +1,19 @@
 -- What the program does with its words, its input and its outputs, and its exit status (this project's profile).
 use Rattle.std.specs.Prelude.{◌≡◌, ◌⊎◌, ℕ, Bool, true, false, List, Result, Ok, Err}
-use Rattle.thp_options.specs.declared.line.Line.{Line}
-use Rattle.thp_options.specs.CommandLine.{FailsAsWords, HoldsWords}
-use Rattle.thp_streams.specs.declared.ending.Ending.{Ending}
-use Rattle.thp_streams.specs.declared.ending.Ending.TheVariants.{Written, Illegal}
-use Rattle.thp_streams.specs.declared.ending.Program.TheVariants.{Thpsplit}
-use Rattle.thp_streams.specs.declared.ending.ProgramFault.{ProgramFault}
-use Rattle.thp_streams.specs.declared.ending.ProgramFault.TheVariants.{Run, Usage, NoText, Orders, Underused}
-use Rattle.thp_streams.specs.declared.ending.WordsFault.{WordsFault}
-use Rattle.thp_streams.specs.declared.ending.WordsFault.TheVariants as words
-use Rattle.thp_streams.specs.declared.fault.RunFault.{RunFault}
-use Rattle.thp_streams.specs.Calls.{ReadsOn}
-use Rattle.thp_streams.specs.Outcomes.{Device, IsShort, IsUnread, IsUntouched, Source, Tells, WasAnsweredBy}
-use Rattle.thp_streams.specs.Passages.{WritesAnswer}
-use Rattle.thp_streams.specs.Verdicts.{CheckEnds}
+use Rattle.thp_programs.specs.declared.line.Line.{Line}
+use Rattle.thp_programs.specs.CommandLine.{FailsAsWords, HoldsWords}
+use Rattle.thp_programs.specs.declared.ending.Ending.{Ending}
+use Rattle.thp_programs.specs.declared.ending.Ending.TheVariants.{Written, Illegal}
+use Rattle.thp_programs.specs.declared.ending.Program.TheVariants.{Thpsplit}
+use Rattle.thp_programs.specs.declared.ending.ProgramFault.{ProgramFault}
+use Rattle.thp_programs.specs.declared.ending.ProgramFault.TheVariants.{Run, Usage, NoText, Orders, Underused}
+use Rattle.thp_programs.specs.declared.ending.WordsFault.{WordsFault}
+use Rattle.thp_programs.specs.declared.ending.WordsFault.TheVariants as words
+use Rattle.thp_programs.specs.declared.fault.RunFault.{RunFault}
+use Rattle.thp_programs.specs.Calls.{ReadsOn}
+use Rattle.thp_programs.specs.Outcomes.{Device, IsShort, IsUnread, IsUntouched, Source, Tells, WasAnsweredBy}
+use Rattle.thp_programs.specs.Passages.{WritesAnswer}
+use Rattle.thp_programs.specs.Verdicts.{CheckEnds}
 use Rattle.thp_text.specs.declared.settings.Settings.{Settings}
 use Rattle.thp_run.specs.Choices.{HasBadOrders, HasOnlyBadThresholds, IsSettingsOf}
 use Rattle.thp_run.specs.Programs.{RunEnds}

@@ -8,8 +8,8 @@ use Rattle.thp_sections.specs.declared.reply.Section.{Section}
 use Rattle.thp_text.specs.declared.script.Script.{Script}
 use Rattle.thp_text.specs.declared.settings.Settings.{Settings}
 use Rattle.thp_text.specs.Scripts.{script_of}
-use Rattle.thp_streams.specs.declared.fault.RunFault.{RunFault}
-use Rattle.thp_streams.specs.Passages.{Ends}
+use Rattle.thp_programs.specs.declared.fault.RunFault.{RunFault}
+use Rattle.thp_programs.specs.Passages.{Ends}
 
 -- the text is the report that the settings ask for, of a run of the script that the input spells
 pub record IsReport (s : Settings) (input text : List ℕ) : Type 0 where

@@ -2,11 +2,10 @@
 ghost use Rattle.std.specs.Prelude.{◌≡◌, ◌++◌, IfSome, IfNone, None, drop, replicate};
 ghost use Rattle.thp_model.specs.Limits.{max_order};
 ghost use Rattle.thp_text.specs.Limits.{max_nodes};
-ghost use Rattle.thp_options.specs.CommandLine.{IsLineWithinLimits};
+ghost use Rattle.thp_programs.specs.CommandLine.{IsLineWithinLimits};
 ghost use Rattle.thp_run.specs.Choices.{Chooses, HasBadOrders, HasBadThresholds, HasOrders, HasThresholds};
 
-use thp_options::Line;
-use thp_streams::ProgramFault;
+use thp_programs::{Line, ProgramFault};
 use thp_text::{Settings, read_orders, read_underused};
 
 /// The line's numbers and report as settings.

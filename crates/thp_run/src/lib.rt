@@ -12,13 +12,14 @@ pub use running::run;
 pub use thp_journal_reader::{Journals, NodeJournal, check_text, read_journal};
 pub use thp_model::{Gain, Loss, PageCall, PageId, Refusal, Shape};
 pub use thp_node::{BackReply, Done, Node, ScanReply, Tried};
-pub use thp_options::{Line, read_line};
+pub use thp_programs::{
+    Ending, Line, ProgramFault, RunFault, Watched, WordsFault, check_run, read_line, words_of,
+};
 pub use thp_script_runs::{Ran, run_script};
 pub use thp_sections::{
     Answer, Gate, NoGate, NodeCall, NodePass, NodePasses, Passes, Reply, Rest, Step, Steps,
     run_range, run_workers,
 };
-pub use thp_streams::{Ending, ProgramFault, RunFault, Watched, WordsFault, check_run, words_of};
 pub use thp_text::{
     Command, MAX_INPUT, Op, ReadFault, Report, Script, Sequence, Settings, TextKind, read_orders,
     read_script, read_underused,

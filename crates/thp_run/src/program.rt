@@ -1,20 +1,19 @@
 //! The program: from the words of its command line to its exit status.
 ghost use Rattle.std.specs.Prelude.{◌≡◌, false};
-ghost use Rattle.thp_options.specs.CommandLine.{IsLineWithinLimits};
+ghost use Rattle.thp_programs.specs.CommandLine.{IsLineWithinLimits};
 ghost use Rattle.thp_run.specs.Outcomes.{Does, Finishes, Served};
-ghost use Rattle.thp_streams.specs.Outcomes.{device_of, given_words, source_of};
+ghost use Rattle.thp_programs.specs.Outcomes.{device_of, given_words, source_of};
 
 use crate::choice::settings_of;
 use crate::running::run;
 use std::alloc::Global;
 use std::io::{Read, Write};
 use std::thread::Threads;
-use thp_options::{Line, read_line};
-use thp_sections::NoGate;
-use thp_streams::{
-    Ending, Program, ProgramFault, RunFault, Watched, WordsFault, answer, check_run,
-    status_of_ending, tell, texts_of,
+use thp_programs::{
+    Ending, Line, Program, ProgramFault, RunFault, Watched, WordsFault, answer, check_run,
+    read_line, status_of_ending, tell, texts_of,
 };
+use thp_sections::NoGate;
 
 /// Runs a script or checks a journal, as a command line asks for.
 fn do_line<T: Threads + Sync, R: Read, W: Write>(

@@ -1,7 +1,7 @@
 //! From the bytes of a script to the bytes of its report.
 ghost use Rattle.std.specs.Prelude.{◌≡◌, ℕ, List, IfOk, Ok, false};
-ghost use Rattle.thp_streams.specs.Calls.{ReadsOn};
-ghost use Rattle.thp_streams.specs.Passages.{WritesAnswer};
+ghost use Rattle.thp_programs.specs.Calls.{ReadsOn};
+ghost use Rattle.thp_programs.specs.Passages.{WritesAnswer};
 ghost use Rattle.thp_run.specs.Programs.{IsReport, RunEnds};
 ghost use Rattle.thp_text.specs.Scripts.{script_of, IsScriptFor};
 
@@ -9,10 +9,10 @@ use std::alloc::{AllocError, Global};
 use std::io::{Read, Write};
 use std::thread::Threads;
 use thp_node::Unkept;
+use thp_programs::{RunFault, Watched, read_script_parts, write_text};
 use thp_report::{answers_text, journals_text, totals_text};
 use thp_script_runs::{Ran, run_recorded, run_script};
 use thp_sections::{Gate, kept_sections};
-use thp_streams::{RunFault, Watched, read_script_parts, write_text};
 use thp_text::{Report, Script, Settings};
 
 /// The report of a run of the script. Only a report of journals has the nodes keep their events.

@@ -8,8 +8,7 @@ use crate::checks::histories::{
 use crate::checks::underused::small;
 use std::alloc::Global;
 use std::process::Abort;
-use thp_check::Misfit;
-use thp_explanations::put_explanation;
+use thp_check::{Misfit, put_explanation};
 use thp_model::{Event, Outcome, PageId, Refusal, Shape, SubSet, What};
 
 // An event on line 7 that doesn't fit for this reason is explained so.

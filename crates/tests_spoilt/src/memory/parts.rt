@@ -6,11 +6,10 @@ use std::process::Abort;
 use thp_check::{CheckFault, check};
 use thp_journal_reader::{check_text, read_journal};
 use thp_journal_writer::{NodeHistory, journal_text};
-use thp_live_pages::LeastBlocks;
-use thp_live_pages::Places;
+use thp_live_pages::{LeastBlocks, Places};
 use thp_model::{Event, PageId, Shape, What};
-use thp_options::read_line;
 use thp_page::PageTable;
+use thp_programs::read_line;
 use thp_text::{ReadFault, Report, Settings, read_script};
 
 const SHAPE: Shape = Shape {

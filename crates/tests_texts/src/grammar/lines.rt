@@ -1,6 +1,6 @@
 //! Settings, words of a command line, and lists.
 use std::alloc::Global;
-use thp_options::{Line, read_line};
+use thp_programs::{Line, read_line};
 use thp_text::{Command, Op, Report, Sequence, Settings, read_orders, read_underused};
 
 // Whether there are settings of so many nodes, blocks and workers.

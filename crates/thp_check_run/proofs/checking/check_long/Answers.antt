@@ -1,8 +1,8 @@
 use Rattle.std.proofs.Common.{◌∙◌, ap, sym, Err}
 use Rattle.std.specs.Prelude.{Result}
 use Rattle.std.proofs.lemmas.Result.{err_from_is_err_and}
-use Rattle.thp_streams.specs.RunFaults.{seen_fault}
-use Rattle.thp_streams.specs.declared.long_fault.LongRunFault.{LongRunFault}
+use Rattle.thp_programs.specs.RunFaults.{seen_fault}
+use Rattle.thp_programs.specs.declared.long_fault.LongRunFault.{LongRunFault}
 use Rattle.thp_check_run.specs.Checks.{found_in, IsCheckOf}
 use Rattle.thp_check_run.specs.declared.checking.Checked.{Checked}
 use Rattle.thp_check_run.proofs.CheckLaws.{check_of, check_of_input, cut_from, ends_at_find, ends_at_write, ends_told, none_at_find}

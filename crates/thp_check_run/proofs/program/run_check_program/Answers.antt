@@ -1,7 +1,7 @@
 use Rattle.std.proofs.Common.{Err, None, Ok}
-use Rattle.thp_streams.specs.Outcomes.{device_of, given_words, source_of}
-use Rattle.thp_streams.specs.RunFaults.{seen_fault}
-use Rattle.thp_streams.specs.declared.ending.ProgramFault.TheVariants.{Run}
+use Rattle.thp_programs.specs.Outcomes.{device_of, given_words, source_of}
+use Rattle.thp_programs.specs.RunFaults.{seen_fault}
+use Rattle.thp_programs.specs.declared.ending.ProgramFault.TheVariants.{Run}
 use Rattle.thp_check_run.specs.Outcomes.{explained_by}
 use Rattle.thp_check_run.proofs.OutcomeLaws.{ended_served, told_served}
 use Rattle.thp_check_run.proofs.program.run_check_program.Goals as goal

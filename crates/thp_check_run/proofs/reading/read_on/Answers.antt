@@ -1,8 +1,8 @@
 use Rattle.std.proofs.Common.{◌∙◌, ◌++◌, [], arith, refl, take, true}
 use Rattle.std.proofs.lemmas.List.{length-append, length-take-le}
-use Rattle.thp_streams.specs.declared.calls.Call.TheVariants as call
-use Rattle.thp_streams.proofs.CallLaws.{follow_more, follow_none, reads_by}
-use Rattle.thp_streams.proofs.DeviceLaws.{read_beyond, read_more, read_nothing}
+use Rattle.thp_programs.specs.declared.calls.Call.TheVariants as call
+use Rattle.thp_programs.proofs.CallLaws.{follow_more, follow_none, reads_by}
+use Rattle.thp_programs.proofs.DeviceLaws.{read_beyond, read_more, read_nothing}
 use Rattle.thp_text.specs.Limits.{max_counted}
 use Rattle.thp_check_run.proofs.CountLaws.{events_at_most}
 use Rattle.thp_check_run.proofs.ProgressLaws.{shown_more, shown_none}

@@ -1,8 +1,8 @@
 use Rattle.std.proofs.Common.{◌≡◌, ◌+◌, ℕ, List, [], length, false, true}
 use Rattle.std.specs.Io.KnownBytes.{Consumes}
-use Rattle.thp_streams.specs.Calls.{Follow}
-use Rattle.thp_streams.specs.Outcomes.{device_of}
-use Rattle.thp_streams.specs.declared.calls.Call.TheVariants as call
+use Rattle.thp_programs.specs.Calls.{Follow}
+use Rattle.thp_programs.specs.Outcomes.{device_of}
+use Rattle.thp_programs.specs.declared.calls.Call.TheVariants as call
 use Rattle.thp_text.specs.Limits.{max_counted}
 use Rattle.thp_check_run.specs.Reaching.{HasCounted, HasShown}
 use Rattle.thp_check_run.proofs.reading.read_on.Given as goal

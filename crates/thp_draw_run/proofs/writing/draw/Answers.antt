@@ -2,9 +2,9 @@ use Rattle.std.proofs.Common.{◌∙◌, ap, sym, Err}
 use Rattle.std.specs.Prelude.{Result}
 use Rattle.std.proofs.lemmas.Result.{err_from_is_err_and}
 use Rattle.thp_check_run.proofs.CheckLaws.{cut_from, ends_at_find, ends_at_write, ends_told, none_at_find}
-use Rattle.thp_streams.specs.RunFaults.{seen_fault}
-use Rattle.thp_streams.specs.declared.ending.Ending.{Ending}
-use Rattle.thp_streams.specs.declared.long_fault.LongRunFault.{LongRunFault}
+use Rattle.thp_programs.specs.RunFaults.{seen_fault}
+use Rattle.thp_programs.specs.declared.ending.Ending.{Ending}
+use Rattle.thp_programs.specs.declared.long_fault.LongRunFault.{LongRunFault}
 use Rattle.thp_draw_run.specs.Drawings.{IsDrawingOf}
 use Rattle.thp_draw_run.specs.Outcomes.{seen_end}
 use Rattle.thp_draw_run.proofs.DrawLaws.{drawing_of, drawing_of_input}

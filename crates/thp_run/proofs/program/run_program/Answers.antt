@@ -1,5 +1,5 @@
 use Rattle.std.proofs.Common.{Err}
-use Rattle.thp_streams.specs.Outcomes.{device_of, given_words, source_of}
+use Rattle.thp_programs.specs.Outcomes.{device_of, given_words, source_of}
 use Rattle.thp_run.proofs.OutcomeLaws.{ended_served}
 use Rattle.thp_run.proofs.program.run_program.Goals as goal
 

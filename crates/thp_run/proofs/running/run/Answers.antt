@@ -1,6 +1,6 @@
 use Rattle.std.proofs.Common.{◌∙◌, ap, sym, Err}
 use Rattle.std.proofs.lemmas.Result.{err_from_is_err_and}
-use Rattle.thp_streams.proofs.PassageLaws.{none_at_fault, none_at_reading, of_answer}
+use Rattle.thp_programs.proofs.PassageLaws.{none_at_fault, none_at_reading, of_answer}
 use Rattle.thp_run.proofs.PassageLaws.{run_ends, run_ends_early}
 use Rattle.thp_run.proofs.running.run.Goals as goal
 

@@ -1,2 +1,0 @@
-pub mod Explanations
-pub mod Fitting

@@ -1,4 +1,0 @@
-pub mod OptionLaws
-pub mod ChainLaws
-pub mod CommandLineLaws
-pub mod LineLaws

@@ -1,4 +1,0 @@
-pub mod CommandLine
-pub mod Flags
-pub mod Options
-pub mod OwnCommand

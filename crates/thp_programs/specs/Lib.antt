@@ -1,0 +1,11 @@
+pub mod Calls
+pub mod Watch
+pub mod Devices
+pub mod RunFaults
+pub mod Passages
+pub mod Verdicts
+pub mod Outcomes
+pub mod CommandLine
+pub mod Flags
+pub mod Options
+pub mod OwnCommand

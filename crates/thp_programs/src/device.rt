@@ -1,0 +1,181 @@
+//! All of a reader's bytes, part by part, and a text to a writer.
+ghost use Rattle.std.specs.Prelude.{◌≡◌, ◌++◌, [], ℕ, List, true, false, refl, IfSome, IfNone, IfErr, IfOk};
+ghost use Rattle.std.proofs.Common.{◌∙◌, ap, append_assoc, sym};
+ghost use Rattle.std.specs.Io.KnownBytes.{Appends};
+ghost use Rattle.thp_programs.specs.Calls.{ReadsOn, WritesOn};
+ghost use Rattle.thp_programs.specs.Devices.{IsFrontOf, IsInputOf, WritesFront};
+ghost use Rattle.thp_programs.specs.RunFaults.{IsReadingFault};
+ghost use Rattle.thp_journal_reader.specs.Journals.{journals_of};
+ghost use Rattle.thp_journal_reader.specs.Parts.{told_with};
+ghost use Rattle.thp_text.specs.Parts.{spelled_with};
+ghost use Rattle.thp_text.specs.Scripts.{script_of};
+ghost use Rattle.thp_text.specs.declared.fault.ReadFault.TheVariants.{OutOfMemory};
+
+use crate::fault::RunFault;
+use crate::watched::Watched;
+use std::alloc::Global;
+use std::io::{Read, Write};
+use thp_journal_reader::{JournalCheck, LongCheck, SeriesCheck, SummedCheck};
+use thp_text::{MAX_INPUT, ReadFault, ScriptReader, Settings};
+
+/// How many bytes one read may give.
+const PART: usize = 65_536;
+
+/// What reads a text that comes in parts.
+pub trait ReadsParts: Sized {
+    /// The first reader becomes the second as these bytes come.
+    ghost has_read: { Self → List ℕ → Self → Type 0 };
+
+    /// Reads the next part of the text.
+    fn read_part(self, part: &[u8]) -> Result<Self, ReadFault>
+        ensures read { IfOk result (has_read self part.now) }
+        ensures memory { IfErr result (λ fault. fault ≡ OutOfMemory) };
+
+    /// A reader stays as it is while nothing comes.
+    ghost nothing_read: { (r : Self) → has_read r [] r };
+
+    /// Bytes come one behind the other.
+    ghost more_read: { (a b c : Self) (first more : List ℕ) → has_read a first b → has_read b more c → has_read a (first ++ more) c };
+}
+
+impl<'a> ReadsParts for ScriptReader<'a> {
+    ghost has_read = { λ old bytes new. ((more : List ℕ) → spelled_with new more ≡ spelled_with old (bytes ++ more)) × (new.settings ≡ old.settings) };
+
+    fn read_part(self, part: &[u8]) -> Result<Self, ReadFault> {
+        ScriptReader::read_part(self, part)
+    }
+
+    ghost nothing_read = { λ r. (λ more. refl, refl) };
+
+    ghost more_read = { λ a b c first more old new. (λ rest. new.0 rest ∙ old.0 (more ++ rest) ∙ ap (spelled_with a) (sym (append_assoc first more rest)), new.1 ∙ old.1) };
+}
+
+impl ReadsParts for JournalCheck {
+    ghost has_read = { λ old bytes new. (more : List ℕ) → told_with new more ≡ told_with old (bytes ++ more) };
+
+    fn read_part(self, part: &[u8]) -> Result<Self, ReadFault> {
+        JournalCheck::read_part(self, part)
+    }
+
+    ghost nothing_read = { λ r more. refl };
+
+    ghost more_read = { λ a b c first more old new rest. new rest ∙ old (more ++ rest) ∙ ap (told_with a) (sym (append_assoc first more rest)) };
+}
+
+impl ReadsParts for LongCheck {
+    ghost has_read = { λ old bytes new. (more : List ℕ) → told_with new more ≡ told_with old (bytes ++ more) };
+
+    fn read_part(self, part: &[u8]) -> Result<Self, ReadFault> {
+        Ok(LongCheck::read_part(self, part)?)
+    }
+
+    ghost nothing_read = { λ r more. refl };
+
+    ghost more_read = { λ a b c first more old new rest. new rest ∙ old (more ++ rest) ∙ ap (told_with a) (sym (append_assoc first more rest)) };
+}
+
+impl ReadsParts for SummedCheck {
+    ghost has_read = { λ old bytes new. (more : List ℕ) → told_with new more ≡ told_with old (bytes ++ more) };
+
+    fn read_part(self, part: &[u8]) -> Result<Self, ReadFault> {
+        Ok(SummedCheck::read_part(self, part)?)
+    }
+
+    ghost nothing_read = { λ r more. refl };
+
+    ghost more_read = { λ a b c first more old new rest. new rest ∙ old (more ++ rest) ∙ ap (told_with a) (sym (append_assoc first more rest)) };
+}
+
+impl ReadsParts for SeriesCheck {
+    ghost has_read = { λ old bytes new. (more : List ℕ) → told_with new more ≡ told_with old (bytes ++ more) };
+
+    fn read_part(self, part: &[u8]) -> Result<Self, ReadFault> {
+        Ok(SeriesCheck::read_part(self, part)?)
+    }
+
+    ghost nothing_read = { λ r more. refl };
+
+    ghost more_read = { λ a b c first more old new rest. new rest ∙ old (more ++ rest) ∙ ap (told_with a) (sym (append_assoc first more rest)) };
+}
+
+/// Reads all of a reader's bytes, part by part, or more than `most` of them.
+///
+/// Each read but the last gives at least one byte, so there are at most `most + 1` of them.
+pub fn read_parts<R: Read, P: ReadsParts + Drop>(
+    first: P,
+    most: usize,
+    reader: &mut Watched<R>,
+) -> Result<P, RunFault>
+    requires { reader.old.failed ≡ false }
+    ensures parts { IfOk result (λ last. (bytes : List ℕ) × IfSome (R.remaining reader.old.device) (IsFrontOf most bytes) × P.has_read first bytes last) }
+    ensures flag { IfOk result (λ _. reader.new.failed ≡ false) }
+    ensures fault { IfErr result (IsReadingFault reader.new.failed) }
+    ensures calls { ReadsOn reader.new.failed reader.old.calls reader.new.calls }
+{
+    let mut text = first;
+    let mut part = [0u8; PART];
+    let mut left = most;
+    loop {
+        let Some(count) = reader.read(&mut part) else {
+            return Err(RunFault::Read);
+        };
+        if count == 0 {
+            return Ok(text);
+        }
+        text = text.read_part(&part[..count])?;
+        if count > left {
+            return Ok(text);
+        }
+        left -= count;
+    }
+}
+
+/// The script whose text a reader gives, part by part: all of its bytes, or more of them than an input may have.
+pub fn read_script_parts<'a, R: Read>(
+    alloc: Global,
+    settings: &'a Settings,
+    reader: &mut Watched<R>,
+) -> Result<ScriptReader<'a>, RunFault>
+    requires { reader.old.failed ≡ false }
+    ensures parts { IfOk result (λ script. (bytes : List ℕ) × IfSome (R.remaining reader.old.device) (IsInputOf bytes) × (spelled_with script [] ≡ script_of settings.now bytes)) }
+    ensures settings { IfOk result (λ script. script.settings ≡ settings.now) }
+    ensures flag { IfOk result (λ _. reader.new.failed ≡ false) }
+    ensures fault { IfErr result (IsReadingFault reader.new.failed) }
+    ensures calls { ReadsOn reader.new.failed reader.old.calls reader.new.calls }
+{
+    let script = ScriptReader::new(alloc, settings)?;
+    read_parts(script, MAX_INPUT, reader)
+}
+
+/// The check of the journals whose text a reader gives, part by part: all of its bytes, or more of them than an input may have.
+pub(crate) fn read_check_parts<R: Read>(
+    alloc: Global,
+    reader: &mut Watched<R>,
+) -> Result<JournalCheck, RunFault>
+    requires { reader.old.failed ≡ false }
+    ensures parts { IfOk result (λ check. (bytes : List ℕ) × IfSome (R.remaining reader.old.device) (IsInputOf bytes) × (told_with check [] ≡ journals_of bytes)) }
+    ensures flag { IfOk result (λ _. reader.new.failed ≡ false) }
+    ensures fault { IfErr result (IsReadingFault reader.new.failed) }
+    ensures calls { ReadsOn reader.new.failed reader.old.calls reader.new.calls }
+{
+    read_parts(JournalCheck::new(alloc), MAX_INPUT, reader)
+}
+
+/// Writes a text and flushes, once. At `None` the writer failed, and took some front of the text; no call comes behind the
+/// one that failed.
+pub fn write_text<W: Write>(writer: &mut Watched<W>, text: &[u8]) -> Option<()>
+    requires { writer.old.failed ≡ false }
+    ensures written { IfSome result (λ _. Appends (W.contents writer.old.device) (W.contents writer.new.device) text.now) }
+    ensures cut { IfNone result (WritesFront (W.contents writer.old.device) (W.contents writer.new.device) text.now) }
+    ensures flag { IfSome result (λ _. writer.new.failed ≡ false) }
+    ensures failed { IfNone result (writer.new.failed ≡ true) }
+    ensures calls { WritesOn writer.new.failed writer.old.calls writer.new.calls }
+{
+    let mut rest = text;
+    while !rest.is_empty() {
+        let count = writer.write(rest)?;
+        let (_, after) = rest.split_at(count);
+        rest = after;
+    }
+    writer.flush()
+}

@@ -1,4 +1,0 @@
-pub mod CallLaws
-pub mod DeviceLaws
-pub mod PassageLaws
-pub mod OutcomeLaws
