@@ -3,12 +3,12 @@
 //! Its exit status is 0 where the journal is legal, or the help or version that was asked for was written; 1 where the journal
 //! is illegal; 2 where the journal or the command line is at fault; 3 where memory was refused, or a read or a write failed.
 //! Faults are told on standard error, and there it is shown how far the check is. What it does is
-//! `thp_check_run::run_check_program`; here it gets its words, the streams and the clock.
+//! `thp_journal_programs::run_check_program`; here it gets its words, the streams and the clock.
 #![tactic(auto)]
 
 use std::io::IsTerminal;
 use std::process::ExitCode;
-use thp_check_run::{Screen, Watched, run_check_program, words_of};
+use thp_journal_programs::{Screen, Watched, run_check_program, words_of};
 
 fn main(rt: HostRuntime) -> ExitCode {
     let words = words_of(&rt);

@@ -3,12 +3,12 @@
 //! Its exit status is 0 where the nodes were drawn, or the help or version that was asked for was written; 1 where some node has an
 //! illegal event, up to which it was drawn; 2 where the journal or the command line is at fault; 3 where memory was refused, or a read
 //! or a write failed. Faults are told on standard error, and there it is shown how far the reading is. What it does is
-//! `thp_draw_run::run_draw_program`; here it gets its words, the streams and the clock.
+//! `thp_journal_programs::run_draw_program`; here it gets its words, the streams and the clock.
 #![tactic(auto)]
 
 use std::io::IsTerminal;
 use std::process::ExitCode;
-use thp_draw_run::{Screen, Watched, run_draw_program, words_of};
+use thp_journal_programs::{Screen, Watched, run_draw_program, words_of};
 
 fn main(rt: HostRuntime) -> ExitCode {
     let words = words_of(&rt);

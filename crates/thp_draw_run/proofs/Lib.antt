@@ -1,4 +1,0 @@
-mod CommandLineLaws
-mod NodeLaws
-mod DrawLaws
-mod OutcomeLaws

@@ -1,0 +1,13 @@
+pub mod Asking
+pub mod CommandLine
+pub mod Checks
+pub mod Counting
+pub mod Outcomes
+pub mod Progress
+pub mod Reaching
+pub mod DrawCommandLine
+pub mod Making
+pub mod Nodes
+pub mod Drawings
+pub mod DrawAsking
+pub mod DrawOutcomes

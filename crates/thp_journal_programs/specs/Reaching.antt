@@ -1,0 +1,46 @@
+-- What is kept of a reading that shows how far it is.
+use Rattle.std.specs.Prelude.{◌≡◌, ◌⊎◌, ◌++◌, ℕ, Bool, true, false, All, List, [], ◌∷◌, Option, IfSome, length}
+use Rattle.thp_programs.specs.declared.ending.Program.{Program}
+use Rattle.thp_programs.specs.Outcomes.{device_of, Device, Takes}
+use Rattle.thp_programs.specs.Watch.{Watch}
+use Rattle.thp_journal_programs.specs.declared.progress.Progress.{Progress}
+use Rattle.thp_journal_programs.specs.Counting.{begins_behind, events_in}
+use Rattle.thp_journal_programs.specs.Progress.{progress_line, progress_text, removal, IsReached, Reached, Took}
+
+-- the bytes and the events of this text have been counted
+pub record HasCounted (progress : Progress) (text : List ℕ) : Type 0 where
+  pub bytes_are : progress.bytes ≡ length text
+  pub events_are : progress.counted.events ≡ events_in text
+  pub begins_is : progress.counted.begins ≡ begins_behind true text
+
+-- there is one
+abbrev pub is_some_line : List Reached → Bool
+is_some_line [] = false
+is_some_line (line ∷ lines) = true
+
+-- the screen took a program's lines of progress, each of which tells of a front of the text; the last of them stands there, where there is one
+pub record HasShown (program : Program) (text : List ℕ) (stands : Bool) (screen : Device) : Type 0 where
+  pub lines : List Reached
+  pub reached : All (IsReached text) lines
+  pub took : Took screen (progress_text program lines)
+  pub stands_is : stands ≡ is_some_line lines
+
+-- the line that tells how far it is
+abbrev pub line_at : Progress → ℕ → List ℕ
+line_at progress rate = progress_line progress.program (record { bytes = progress.bytes; events = progress.counted.events; rate = rate })
+
+-- the screen is as it was, or took the line that tells how far it is, which now stands there
+abbrev pub Looks : {S : Type 0} → (S → Option (List ℕ)) → Bool → Progress → Watch S → Watch S → Type 0
+Looks contents stood progress old new =
+    ((new ≡ old) × (progress.stands ≡ stood))
+    ⊎ ((old.failed ≡ false) × (progress.stands ≡ true) × ((rate : ℕ) × Takes (device_of contents old new) (line_at progress rate)))
+
+-- what stood on the screen was taken away; where nothing stood there, or the screen had failed, it is as it was
+abbrev pub Removes : {S : Type 0} → (S → Option (List ℕ)) → Bool → Watch S → Watch S → Type 0
+Removes contents stood old new =
+    ((old.failed ≡ false) × (stood ≡ true) × Takes (device_of contents old new) removal)
+    ⊎ ((new ≡ old) × ((stood ≡ false) ⊎ (old.failed ≡ true)))
+
+-- these bytes were read of what there was to read
+abbrev pub IsReadOf : Option (List ℕ) → List ℕ → Type 0
+IsReadOf known bytes = IfSome known (λ text. (rest : List ℕ) × (text ≡ bytes ++ rest))
