@@ -36,7 +36,7 @@ LACKS = 77
 
 def version() -> str:
     """The version that the program tells, from the one place where it stands."""
-    found = re.search(r'VERSION: &str = "([^"]+)"', (ROOT / "crates/thp_options/src/version.rt").read_text())
+    found = re.search(r'VERSION: &str = "([^"]+)"', (ROOT / "crates/thp_programs/src/version.rt").read_text())
     assert found is not None
     return found[1]
 

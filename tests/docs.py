@@ -135,13 +135,13 @@ def limits_are_told() -> str | None:
     """What `--help` and the manual pages tell of limits is what the code has."""
     of = limits()
     told = {
-        "crates/thp_options/src/options.rt": [
+        "crates/thp_programs/src/options.rt": [
             f"Memory nodes, 1 to {of['MAX_NODES']}\"",
             f"Blocks of each node, 1 to {of['MAX_BLOCKS']}\"",
             f"Workers that a script may name, 1 to {of['MAX_WORKERS']}\"",
             f"pages, {of['MIN_ORDER']} to {of['MAX_ORDER']} each",
         ],
-        "crates/thp_options/src/help.rt": [
+        "crates/thp_programs/src/help.rt": [
             f"0 to {of['MAX_BATCH']}, and split them",
             f"0 to {of['MAX_BATCH']}, into a batch",
             f"more than {of['MAX_INPUT'] // 2**20} MiB",

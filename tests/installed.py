@@ -71,7 +71,7 @@ def page_is_sound(page: str) -> str | None:
     return done.stderr.strip() or None
 
 
-def options_are_told(path: str, options: str = "crates/thp_options/src/options.rt") -> str | None:
+def options_are_told(path: str, options: str = "crates/thp_programs/src/options.rt") -> str | None:
     """Each option of a command line stands in the file, and no other; of a page in its section of options. In fish's form an
     option is `-l NAME`."""
     source = (ROOT / options).read_text()
@@ -99,9 +99,9 @@ def main() -> None:
         tally.run(f"no warning in {page}", lambda page=page: page_is_sound(page))
     for path in [PAGES[0], *COMPLETIONS.values()]:
         tally.run(f"options in {path}", lambda path=path: options_are_told(path))
-    for page, files, crate in (PAGES[2], CHECKER_COMPLETIONS, "thp_check_run"), (PAGES[3], DRAWER_COMPLETIONS, "thp_draw_run"):
+    for page, files, name in (PAGES[2], CHECKER_COMPLETIONS, "options"), (PAGES[3], DRAWER_COMPLETIONS, "draw_options"):
         for path in [page, *files.values()]:
-            own = f"crates/{crate}/src/options.rt"
+            own = f"crates/thp_journal_programs/src/{name}.rt"
             tally.run(f"options in {path}", lambda path=path, own=own: options_are_told(path, own))
     completions = (COMPLETIONS, CHECKER_COMPLETIONS, DRAWER_COMPLETIONS, KERNEL_COMPLETIONS)
     for shell, path in (pair for files in completions for pair in files.items()):
