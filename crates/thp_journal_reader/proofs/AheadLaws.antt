@@ -16,22 +16,18 @@ use Rattle.thp_text.specs.WordsAhead.{NumberAhead}
 use Rattle.thp_text.proofs.AheadLaws.{number_whole, of_some, whole_front}
 use Rattle.thp_text.proofs.TextLaws.{pieces-append}
 use Rattle.thp_journal_reader.specs.declared.event_word.EventWord.{EventWord}
-use Rattle.thp_journal_reader.specs.declared.event_word.EventWord.TheVariants.{OfPage, OfRange, OfLoss, UnmapSub, Split}
 use Rattle.thp_journal_reader.specs.declared.event_word.LossWord.{LossWord}
-use Rattle.thp_journal_reader.specs.declared.event_word.LossWord.TheVariants as loss
 use Rattle.thp_journal_reader.specs.declared.event_word.PageWord.{PageWord}
-use Rattle.thp_journal_reader.specs.declared.event_word.PageWord.TheVariants as page
 use Rattle.thp_journal_reader.specs.declared.event_word.RangeWord.{RangeWord}
-use Rattle.thp_journal_reader.specs.declared.event_word.RangeWord.TheVariants as range
 use Rattle.thp_journal_reader.specs.declared.line.Line.TheVariants.{Happened}
 use Rattle.thp_journal_reader.specs.declared.version.Version.{Version}
-use Rattle.thp_journal_reader.specs.declared.version.Version.TheVariants.{Plain, Orders, Underused}
-use Rattle.thp_journal_reader.specs.Ahead.{EventAhead, LineAhead, OperandsAhead, OutcomeAhead}
+use Rattle.thp_journal_reader.specs.Ahead.{EventAhead, LineAhead, OperandsAhead, OutcomeAhead, WordAhead}
 use Rattle.thp_journal_reader.specs.EventLines.{event_by, event_of, loss_event, page_event, range_event, split_event, unmap_event, outcome_and_word}
-use Rattle.thp_journal_reader.specs.EventWords.{event_word, common_word, later_word, loss_what, outcome_of, page_what, range_what}
+use Rattle.thp_journal_reader.specs.EventWords.{event_word, loss_what, outcome_of, page_what, range_what}
 use Rattle.thp_journal_reader.specs.JournalLines.{by_words, line_by}
 use Rattle.thp_journal_reader.specs.SetTexts.{set_of_text}
 use Rattle.thp_journal_reader.proofs.PlainLines.{line_of-read}
+use Rattle.thp_journal_reader.proofs.PlainWords.{event_word_letters, letters_whole}
 
 -- ---- lines of words
 
@@ -132,98 +128,27 @@ split_ahead caller p set text t1 word rest a l f = record {
   reads = λ w c. rw (c, a.reads, f) refl;
 }
 
--- ---- names
+-- ---- words of events
 
--- a name of an event in a version: no byte of it ends a word or a line
-pub record IsName (v : Version) (name : Text) (word : EventWord) : Type 0 where
-  pub one_word : pieces_at 32 name ≡ name ∷ []
-  pub one_line : pieces_at 10 name ≡ name ∷ []
-  pub says : event_word v name ≡ Ok word
+-- a word that names an event, and a space behind it
+pub word_stands : (v : Version) (name text rest : Text) (word : EventWord) → event_word v name ≡ Ok word → text ≡ name ++ 32 ∷ rest → WordAhead v text word rest
+word_stands v name text rest word reads e =
+    let letters = event_word_letters v name word reads in
+    record {
+      name = name;
+      one_word = letters_whole 32 name (omega arith) letters.letters;
+      one_line = letters_whole 10 name (omega arith) letters.letters;
+      reads = reads;
+      stands = e;
+    }
 
--- an event's name and its operands
-of_name : (v : Version) (name : Text) (word : EventWord) (caller : ℕ) (text operands rest : Text) (event : Event) → IsName v name word → text ≡ name ++ 32 ∷ operands → OperandsAhead (event_by word) caller operands event rest
-    → OperandsAhead (event_of v) caller text event rest
-of_name v name word caller text operands rest event n e o = record {
-  words = name ∷ o.words;
-  line = word_more name o.words text operands rest n.one_word n.one_line e o.line;
-  reads = λ w c. rw n.says (o.reads w c);
+-- an event's word and its operands
+of_word : (v : Version) (word : EventWord) (caller : ℕ) (text operands rest : Text) (event : Event) (a : WordAhead v text word operands) → OperandsAhead (event_by word) caller operands event rest → OperandsAhead (event_of v) caller text event rest
+of_word v word caller text operands rest event a o = record {
+  words = a.name ∷ o.words;
+  line = word_more a.name o.words text operands rest a.one_word a.one_line a.stands o.line;
+  reads = λ w c. rw a.reads (o.reads w c);
 }
-
--- and so they are where operands were read
-pub named : {A : Type 0} (v : Version) (name : Text) (word : EventWord) (caller : ℕ) (text operands : Text) (read : Option A) (event : A → Event) (rest : A → Text) → IsName v name word → text ≡ name ++ 32 ∷ operands
-    → IfSome read (λ r. OperandsAhead (event_by word) caller operands (event r) (rest r)) → IfSome read (λ r. OperandsAhead (event_of v) caller text (event r) (rest r))
-named v name word caller text operands read event rest n e h =
-    of_some read (λ r. OperandsAhead (event_by word) caller operands (event r) (rest r)) (λ r. OperandsAhead (event_of v) caller text (event r) (rest r)) (λ r o. of_name v name word caller text operands (rest r) (event r) n e o) h
-
--- a word that each version has
-each_version : (name : Text) (word : EventWord) → pieces_at 32 name ≡ name ∷ [] → pieces_at 10 name ≡ name ∷ [] → common_word name ≡ Ok word → later_word name ≡ Ok word → (v : Version) → IsName v name word
-each_version name word words lines common later Plain = record { one_word = words; one_line = lines; says = common }
-each_version name word words lines common later Orders = record { one_word = words; one_line = lines; says = common }
-each_version name word words lines common later Underused = record { one_word = words; one_line = lines; says = later }
-
-pub alloc_is : (v : Version) → IsName v (codes "alloc") (OfPage page.Alloc)
-unfolding common_word later_word
-alloc_is = each_version (codes "alloc") (OfPage page.Alloc) refl refl refl refl
-
-pub mapwhole_is : (v : Version) → IsName v (codes "mapwhole") (OfPage page.MapWhole)
-unfolding common_word later_word
-mapwhole_is = each_version (codes "mapwhole") (OfPage page.MapWhole) refl refl refl refl
-
-pub unmapwhole_is : (v : Version) → IsName v (codes "unmapwhole") (OfLoss loss.UnmapWhole)
-unfolding common_word later_word
-unmapwhole_is = each_version (codes "unmapwhole") (OfLoss loss.UnmapWhole) refl refl refl refl
-
-pub mapsub_is : (v : Version) → IsName v (codes "mapsub") (OfRange range.MapSub)
-unfolding common_word later_word
-mapsub_is = each_version (codes "mapsub") (OfRange range.MapSub) refl refl refl refl
-
-pub unmapsub_is : (v : Version) → IsName v (codes "unmapsub") UnmapSub
-unfolding common_word later_word
-unmapsub_is = each_version (codes "unmapsub") UnmapSub refl refl refl refl
-
-pub splitpmd_is : (v : Version) → IsName v (codes "splitpmd") (OfPage page.SplitPmd)
-unfolding common_word later_word
-splitpmd_is = each_version (codes "splitpmd") (OfPage page.SplitPmd) refl refl refl refl
-
-pub pin_is : (v : Version) → IsName v (codes "pin") (OfPage page.Pin)
-unfolding common_word later_word
-pin_is = each_version (codes "pin") (OfPage page.Pin) refl refl refl refl
-
-pub unpin_is : (v : Version) → IsName v (codes "unpin") (OfLoss loss.Unpin)
-unfolding common_word later_word
-unpin_is = each_version (codes "unpin") (OfLoss loss.Unpin) refl refl refl refl
-
-pub taken_is : (v : Version) → IsName v (codes "taken") (OfPage page.Taken)
-unfolding common_word later_word
-taken_is = each_version (codes "taken") (OfPage page.Taken) refl refl refl refl
-
-pub split_is : (v : Version) → IsName v (codes "split") Split
-unfolding common_word later_word
-split_is = each_version (codes "split") Split refl refl refl refl
-
-pub pinned_is : (v : Version) → IsName v (codes "pinned") (OfPage page.Pinned)
-unfolding common_word later_word
-pinned_is = each_version (codes "pinned") (OfPage page.Pinned) refl refl refl refl
-
-pub back_is : (v : Version) → IsName v (codes "back") (OfPage page.Back)
-unfolding common_word later_word
-back_is = each_version (codes "back") (OfPage page.Back) refl refl refl refl
-
-pub dropped_is : (v : Version) → IsName v (codes "dropped") (OfPage page.Dropped)
-unfolding common_word later_word
-dropped_is = each_version (codes "dropped") (OfPage page.Dropped) refl refl refl refl
-
-pub write_is : IsName Underused (codes "write") (OfRange range.Write)
-unfolding later_word
-write_is = record { one_word = refl; one_line = refl; says = refl }
-
-pub zero_is : IsName Underused (codes "zero") (OfRange range.Zero)
-unfolding later_word
-zero_is = record { one_word = refl; one_line = refl; says = refl }
-
-pub used_is : IsName Underused (codes "used") (OfPage page.Used)
-unfolding later_word
-used_is = record { one_word = refl; one_line = refl; says = refl }
 
 -- ---- events
 
@@ -243,7 +168,7 @@ behind_caller v word words caller event is says =
     rw (other_word word (codes "thp-journal") 63 caller is refl, other_word word (codes "node") 63 caller is refl, other_word word (codes "end") 63 caller is refl, says) refl
 
 -- a caller and an event's words behind it
-pub event_is : (v : Version) (text behind rest : Text) (caller : ℕ) (event : Event) → NumberAhead 32 63 text caller behind → OperandsAhead (event_of v) caller behind event rest → EventAhead v text event rest
+event_is : (v : Version) (text behind rest : Text) (caller : ℕ) (event : Event) → NumberAhead 32 63 text caller behind → OperandsAhead (event_of v) caller behind event rest → EventAhead v text event rest
 event_is v text behind rest caller event a o =
     let l = number_more 63 caller o.words text behind rest a o.line in
     let says = behind_caller v a.word o.words caller event a.reads (o.reads a.word (rw a.reads refl)) in
@@ -254,7 +179,8 @@ event_is v text behind rest caller event a o =
       says = line_of-read v l.line (Happened event) (rw l.words_are says);
     }
 
-pub event_read : {A : Type 0} (v : Version) (text behind : Text) (caller : ℕ) (read : Option A) (event : A → Event) (rest : A → Text) → NumberAhead 32 63 text caller behind
-    → IfSome read (λ r. OperandsAhead (event_of v) caller behind (event r) (rest r)) → IfSome read (λ r. EventAhead v text (event r) (rest r))
-event_read v text behind caller read event rest a h =
-    of_some read (λ r. OperandsAhead (event_of v) caller behind (event r) (rest r)) (λ r. EventAhead v text (event r) (rest r)) (λ r o. event_is v text behind (rest r) caller (event r) a o) h
+pub event_read : {A : Type 0} (v : Version) (text behind operands : Text) (caller : ℕ) (word : EventWord) (read : Option A) (event : A → Event) (rest : A → Text) → NumberAhead 32 63 text caller behind → WordAhead v behind word operands
+    → IfSome read (λ r. OperandsAhead (event_by word) caller operands (event r) (rest r)) → IfSome read (λ r. EventAhead v text (event r) (rest r))
+event_read v text behind operands caller word read event rest a b h =
+    of_some read (λ r. OperandsAhead (event_by word) caller operands (event r) (rest r)) (λ r. EventAhead v text (event r) (rest r))
+    (λ r o. event_is v text behind (rest r) caller (event r) a (of_word v word caller behind operands (rest r) (event r) b o)) h

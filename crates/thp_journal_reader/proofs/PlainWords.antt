@@ -1,9 +1,10 @@
 -- Words that read as something are plain: each has a character, and all are printable.
-use Rattle.std.proofs.Common.{◌≡◌, ◌==◌, ◌+◌, ℕ, Bool, true, false, cond, List, [], ◌∷◌, length, Option, Some, None, Result, Ok, arith, ap, subst, refl, sym, inl, inr, codes}
-use Rattle.std.specs.Prelude.{All, ok_or}
+use Rattle.std.proofs.Common.{◌≡◌, ◌==◌, ◌+◌, ◌<◌, ◌≤◌, ℕ, Bool, true, false, cond, List, [], ◌∷◌, length, Option, Some, None, Result, Ok, arith, ap, subst, refl, sym, inl, inr, codes}
+use Rattle.std.specs.Prelude.{All, nat_le, ok_or}
+use Rattle.std.specs.Char.{is_ascii_lowercase}
 use Rattle.std.specs.List.{list_all, onto_first}
 use Rattle.std.specs.Str.{bytes_eq}
-use Rattle.std.proofs.lemmas.Bool.{and_from, and_parts, eqb-true, ne_eqb}
+use Rattle.std.proofs.lemmas.Bool.{and_from, and_parts, eqb-true, le-leb, leb-true, ne_eqb}
 use Rattle.std.proofs.lemmas.List.Elements.{All-cons, All-head, All-nil, All-tail}
 use Rattle.thp_model.specs.declared.events.Outcome.{Outcome}
 use Rattle.thp_text.specs.declared.fault.TextKind.{TextKind}
@@ -11,7 +12,7 @@ use Rattle.thp_text.specs.declared.fault.TextKind.TheVariants.{BadNumber, BadSet
 use Rattle.thp_text.specs.Commands.{number_up_to}
 use Rattle.thp_text.specs.Lines.{is_empty, is_printable}
 use Rattle.thp_text.specs.Words.{Text, number_of, pieces_at}
-use Rattle.thp_text.proofs.LineLaws.{IsPlain, bind_ok, number_read, ok_value, plain_word, read, word_cases}
+use Rattle.thp_text.proofs.LineLaws.{IsPlain, bind_ok, number_read, ok_value, read, word_cases}
 use Rattle.thp_text.proofs.PieceLaws.{has_first, HasFirst}
 use Rattle.thp_journal_reader.specs.declared.event_word.EventWord.{EventWord}
 use Rattle.thp_journal_reader.specs.declared.version.Version.{Version}
@@ -21,14 +22,18 @@ use Rattle.thp_journal_reader.specs.SetTexts.{Run, run_from, run_of, run_of_numb
 
 -- ---- words that are looked up
 
--- the word is this one, which is plain, or the others say that it is plain
-pub one_or : {A : Type 0} (name word : Text) (reading others : Result A TextKind) (x : A) → cond (bytes_eq name word) reading others ≡ Ok x → list_all is_printable word ≡ true → is_empty word ≡ false
-    → (others ≡ Ok x → IsPlain name) → IsPlain name
-one_or name word reading others x e printable some rest =
+-- the word is this one, of which P holds, or the others say that P holds of it
+this_or : {A : Type 0} (P : Text → Type 0) (name word : Text) (reading others : Result A TextKind) (x : A) → cond (bytes_eq name word) reading others ≡ Ok x → P word → (others ≡ Ok x → P name) → P name
+this_or P name word reading others x e p rest =
     elim (word_cases name word reading others x e) [
-      | inl h ↦ plain_word name word h.0 (record { printable = printable; some = some })
+      | inl h ↦ subst P (sym h.0) p
       | inr f ↦ rest f
     ]
+
+-- the same of plain words
+pub one_or : {A : Type 0} (name word : Text) (reading others : Result A TextKind) (x : A) → cond (bytes_eq name word) reading others ≡ Ok x → list_all is_printable word ≡ true → is_empty word ≡ false
+    → (others ≡ Ok x → IsPlain name) → IsPlain name
+one_or name word reading others x e printable some rest = this_or IsPlain name word reading others x e (record { printable = printable; some = some }) rest
 
 pub outcome_plain : (word : Text) (outcome : Outcome) → outcome_of word ≡ Ok outcome → IsPlain word
 unfolding outcome_of
@@ -38,37 +43,75 @@ outcome_plain word outcome e =
     (λ e2. one_or word (codes "freed") _ _ outcome e2 refl refl
     (λ e3. absurd cc)))
 
-common_plain : (name : Text) (word : EventWord) → common_word name ≡ Ok word → IsPlain name
+-- ---- words of events
+
+-- a word of small letters, one at least
+pub record IsOfLetters (word : Text) : Type 0 where
+  pub letters : list_all is_ascii_lowercase word ≡ true
+  pub some : is_empty word ≡ false
+
+letters_or : {A : Type 0} (name word : Text) (reading others : Result A TextKind) (x : A) → cond (bytes_eq name word) reading others ≡ Ok x → list_all is_ascii_lowercase word ≡ true → is_empty word ≡ false
+    → (others ≡ Ok x → IsOfLetters name) → IsOfLetters name
+letters_or name word reading others x e letters some rest = this_or IsOfLetters name word reading others x e (record { letters = letters; some = some }) rest
+
+common_letters : (name : Text) (word : EventWord) → common_word name ≡ Ok word → IsOfLetters name
 unfolding common_word
-common_plain name word e =
-    one_or name (codes "alloc") _ _ word e refl refl
-    (λ e1. one_or name (codes "mapwhole") _ _ word e1 refl refl
-    (λ e2. one_or name (codes "unmapwhole") _ _ word e2 refl refl
-    (λ e3. one_or name (codes "mapsub") _ _ word e3 refl refl
-    (λ e4. one_or name (codes "unmapsub") _ _ word e4 refl refl
-    (λ e5. one_or name (codes "splitpmd") _ _ word e5 refl refl
-    (λ e6. one_or name (codes "pin") _ _ word e6 refl refl
-    (λ e7. one_or name (codes "unpin") _ _ word e7 refl refl
-    (λ e8. one_or name (codes "taken") _ _ word e8 refl refl
-    (λ e9. one_or name (codes "split") _ _ word e9 refl refl
-    (λ e10. one_or name (codes "pinned") _ _ word e10 refl refl
-    (λ e11. one_or name (codes "back") _ _ word e11 refl refl
-    (λ e12. one_or name (codes "dropped") _ _ word e12 refl refl
-    (λ e13. one_or name (codes "close") _ _ word e13 refl refl
+common_letters name word e =
+    letters_or name (codes "alloc") _ _ word e refl refl
+    (λ e1. letters_or name (codes "mapwhole") _ _ word e1 refl refl
+    (λ e2. letters_or name (codes "unmapwhole") _ _ word e2 refl refl
+    (λ e3. letters_or name (codes "mapsub") _ _ word e3 refl refl
+    (λ e4. letters_or name (codes "unmapsub") _ _ word e4 refl refl
+    (λ e5. letters_or name (codes "splitpmd") _ _ word e5 refl refl
+    (λ e6. letters_or name (codes "pin") _ _ word e6 refl refl
+    (λ e7. letters_or name (codes "unpin") _ _ word e7 refl refl
+    (λ e8. letters_or name (codes "taken") _ _ word e8 refl refl
+    (λ e9. letters_or name (codes "split") _ _ word e9 refl refl
+    (λ e10. letters_or name (codes "pinned") _ _ word e10 refl refl
+    (λ e11. letters_or name (codes "back") _ _ word e11 refl refl
+    (λ e12. letters_or name (codes "dropped") _ _ word e12 refl refl
+    (λ e13. letters_or name (codes "close") _ _ word e13 refl refl
     (λ e14. absurd cc))))))))))))))
 
-later_plain : (name : Text) (word : EventWord) → later_word name ≡ Ok word → IsPlain name
+later_letters : (name : Text) (word : EventWord) → later_word name ≡ Ok word → IsOfLetters name
 unfolding later_word
-later_plain name word e =
-    one_or name (codes "write") _ _ word e refl refl
-    (λ e1. one_or name (codes "zero") _ _ word e1 refl refl
-    (λ e2. one_or name (codes "used") _ _ word e2 refl refl
-    (λ e3. common_plain name word e3)))
+later_letters name word e =
+    letters_or name (codes "write") _ _ word e refl refl
+    (λ e1. letters_or name (codes "zero") _ _ word e1 refl refl
+    (λ e2. letters_or name (codes "used") _ _ word e2 refl refl
+    (λ e3. common_letters name word e3)))
+
+pub event_word_letters : (v : Version) (name : Text) (word : EventWord) → event_word v name ≡ Ok word → IsOfLetters name
+event_word_letters Plain name word e = common_letters name word e
+event_word_letters Orders name word e = common_letters name word e
+event_word_letters Underused name word e = later_letters name word e
+
+letter_printable : (b : ℕ) → is_ascii_lowercase b ≡ true → is_printable b ≡ true
+letter_printable b letter =
+    let p = and_parts (nat_le 97 b) (nat_le b 122) letter in
+    let low : 97 ≤ b = leb-true 97 b p.0 in
+    let high : b ≤ 122 = leb-true b 122 p.1 in
+    and_from (nat_le 32 b) (nat_le b 126) (le-leb 32 b (omega arith)) (le-leb b 126 (omega arith))
+
+letters_printable : (word : Text) → list_all is_ascii_lowercase word ≡ true → list_all is_printable word ≡ true
+letters_printable [] letters = refl
+letters_printable (b ∷ word) letters =
+    let p = and_parts (is_ascii_lowercase b) (list_all is_ascii_lowercase word) letters in
+    and_from (is_printable b) (list_all is_printable word) (letter_printable b p.0) (letters_printable word p.1)
+
+-- letters aren't cut at a byte below them
+pub letters_whole : (c : ℕ) (word : Text) → c < 97 → list_all is_ascii_lowercase word ≡ true → pieces_at c word ≡ word ∷ []
+letters_whole c [] below letters = refl
+letters_whole c (b ∷ word) below letters =
+    let p = and_parts (is_ascii_lowercase b) (list_all is_ascii_lowercase word) letters in
+    let q = and_parts (nat_le 97 b) (nat_le b 122) p.0 in
+    let low : 97 ≤ b = leb-true 97 b q.0 in
+    rw (letters_whole c word below p.1, ne_eqb b c (λ e. absurd (omega arith))) refl
 
 pub event_word_plain : (v : Version) (name : Text) (word : EventWord) → event_word v name ≡ Ok word → IsPlain name
-event_word_plain Plain name word e = common_plain name word e
-event_word_plain Orders name word e = common_plain name word e
-event_word_plain Underused name word e = later_plain name word e
+event_word_plain v name word e =
+    let h = event_word_letters v name word e in
+    record { printable = letters_printable name h.letters; some = h.some }
 
 -- ---- numbers
 

@@ -4,10 +4,11 @@ use Rattle.thp_model.specs.declared.events.Event.{Event}
 use Rattle.thp_model.specs.declared.events.Outcome.{Outcome}
 use Rattle.thp_text.specs.declared.fault.TextKind.{TextKind}
 use Rattle.thp_text.specs.Words.{Text, lines_of, words_of}
+use Rattle.thp_journal_reader.specs.declared.event_word.EventWord.{EventWord}
 use Rattle.thp_journal_reader.specs.declared.line.Line.TheVariants.{Happened}
 use Rattle.thp_journal_reader.specs.declared.version.Version.{Version}
 use Rattle.thp_journal_reader.specs.EventLines.{caller_number}
-use Rattle.thp_journal_reader.specs.EventWords.{outcome_of}
+use Rattle.thp_journal_reader.specs.EventWords.{event_word, outcome_of}
 use Rattle.thp_journal_reader.specs.JournalLines.{line_of}
 
 -- the text's first line has these words, and `rest` follows it
@@ -16,6 +17,14 @@ pub record LineAhead (words : List Text) (text rest : Text) : Type 0 where
   pub words_are : words_of line ≡ words
   pub lines : lines_of text ≡ line ∷ lines_of rest
   pub shorter : length rest < length text
+
+-- the text begins with the word of this event in a version and a space, and goes on with `rest`
+pub record WordAhead (v : Version) (text : Text) (word : EventWord) (rest : Text) : Type 0 where
+  pub name : Text
+  pub one_word : words_of name ≡ name ∷ []
+  pub one_line : lines_of name ≡ name ∷ []
+  pub reads : event_word v name ≡ Ok word
+  pub stands : text ≡ name ++ 32 ∷ rest
 
 -- the text begins with the word of this outcome and a space, and goes on with `rest`
 pub record OutcomeAhead (text : Text) (outcome : Outcome) (rest : Text) : Type 0 where

@@ -2,9 +2,9 @@
 //! each fault, is for `line` to tell.
 ghost use Rattle.std.specs.Prelude.{◌≡◌, [], ◌∷◌, IfSome};
 ghost use Rattle.thp_journal_reader.specs.Ahead.{EventAhead, LineAhead, OperandsAhead, OutcomeAhead};
-ghost use Rattle.thp_journal_reader.specs.EventLines.{event_of, loss_event, page_event, range_event, split_event, unmap_event};
+ghost use Rattle.thp_journal_reader.specs.EventLines.{event_by, loss_event, page_event, range_event, split_event, unmap_event};
 
-use crate::event_word::{LossWord, PageWord, RangeWord};
+use crate::event_word::{EventWord, LossWord, PageWord, RangeWord, word_ahead};
 use crate::set_text::set_of_text;
 use crate::version::Version;
 use thp_model::{Event, MAX_CALLERS, Outcome, PageId, What};
@@ -109,102 +109,18 @@ fn split_event_ahead(caller: u32, text: &[u8]) -> Option<(Event, &[u8])>
     Some((Event { caller, what }, rest))
 }
 
-/// `mapsub` or `mapwhole`, and operands
+/// The operands of an event, by its word. A close has none: its line is for `line` to tell.
 #[inline(always)]
-fn map_ahead(version: Version, caller: u32, text: &[u8]) -> Option<(Event, &[u8])>
-    ensures { IfSome result (λ read. OperandsAhead (event_of version) caller text.now read.0 read.1.now) }
+fn operands_ahead(word: EventWord, caller: u32, text: &[u8]) -> Option<(Event, &[u8])>
+    ensures { IfSome result (λ read. OperandsAhead (event_by word) caller text.now read.0 read.1.now) }
 {
-    if let Some(operands) = behind_name(b"mapsub", text) {
-        return range_event_ahead(RangeWord::MapSub, caller, operands);
-    }
-    let operands = behind_name(b"mapwhole", text)?;
-    page_event_ahead(PageWord::MapWhole, caller, operands)
-}
-
-/// `pin` or `pinned`, and a page
-#[inline(always)]
-fn pin_ahead(version: Version, caller: u32, text: &[u8]) -> Option<(Event, &[u8])>
-    ensures { IfSome result (λ read. OperandsAhead (event_of version) caller text.now read.0 read.1.now) }
-{
-    if let Some(operands) = behind_name(b"pin", text) {
-        return page_event_ahead(PageWord::Pin, caller, operands);
-    }
-    let operands = behind_name(b"pinned", text)?;
-    page_event_ahead(PageWord::Pinned, caller, operands)
-}
-
-/// `split` or `splitpmd`, and operands
-#[inline(always)]
-fn split_ahead(version: Version, caller: u32, text: &[u8]) -> Option<(Event, &[u8])>
-    ensures { IfSome result (λ read. OperandsAhead (event_of version) caller text.now read.0 read.1.now) }
-{
-    if let Some(operands) = behind_name(b"splitpmd", text) {
-        return page_event_ahead(PageWord::SplitPmd, caller, operands);
-    }
-    let operands = behind_name(b"split", text)?;
-    split_event_ahead(caller, operands)
-}
-
-/// `used` and a page, where the version has that word
-#[inline(always)]
-fn used_ahead(version: Version, caller: u32, text: &[u8]) -> Option<(Event, &[u8])>
-    ensures { IfSome result (λ read. OperandsAhead (event_of version) caller text.now read.0 read.1.now) }
-{
-    let Version::Underused = version else {
-        return None;
-    };
-    let operands = behind_name(b"used", text)?;
-    page_event_ahead(PageWord::Used, caller, operands)
-}
-
-/// `unmapsub`, `unpin`, `unmapwhole` or `used`, and operands
-#[inline(always)]
-fn unmap_ahead(version: Version, caller: u32, text: &[u8]) -> Option<(Event, &[u8])>
-    ensures { IfSome result (λ read. OperandsAhead (event_of version) caller text.now read.0 read.1.now) }
-{
-    if let Some(operands) = behind_name(b"unmapsub", text) {
-        return unmap_event_ahead(caller, operands);
-    }
-    if let Some(operands) = behind_name(b"unpin", text) {
-        return loss_event_ahead(LossWord::Unpin, caller, operands);
-    }
-    if let Some(operands) = behind_name(b"unmapwhole", text) {
-        return loss_event_ahead(LossWord::UnmapWhole, caller, operands);
-    }
-    used_ahead(version, caller, text)
-}
-
-/// `write` or `zero`, and a range, where the version has these words
-#[inline(always)]
-fn content_ahead(version: Version, caller: u32, text: &[u8]) -> Option<(Event, &[u8])>
-    ensures { IfSome result (λ read. OperandsAhead (event_of version) caller text.now read.0 read.1.now) }
-{
-    let Version::Underused = version else {
-        return None;
-    };
-    if let Some(operands) = behind_name(b"write", text) {
-        return range_event_ahead(RangeWord::Write, caller, operands);
-    }
-    let operands = behind_name(b"zero", text)?;
-    range_event_ahead(RangeWord::Zero, caller, operands)
-}
-
-/// An event's word and its operands.
-#[inline(always)]
-fn what_ahead(version: Version, caller: u32, text: &[u8]) -> Option<(Event, &[u8])>
-    ensures { IfSome result (λ read. OperandsAhead (event_of version) caller text.now read.0 read.1.now) }
-{
-    match *text.first()? {
-        b'a' => page_event_ahead(PageWord::Alloc, caller, behind_name(b"alloc", text)?),
-        b'm' => map_ahead(version, caller, text),
-        b'u' => unmap_ahead(version, caller, text),
-        b's' => split_ahead(version, caller, text),
-        b'p' => pin_ahead(version, caller, text),
-        b't' => page_event_ahead(PageWord::Taken, caller, behind_name(b"taken", text)?),
-        b'b' => page_event_ahead(PageWord::Back, caller, behind_name(b"back", text)?),
-        b'd' => page_event_ahead(PageWord::Dropped, caller, behind_name(b"dropped", text)?),
-        b'w' | b'z' => content_ahead(version, caller, text),
-        _ => None,
+    match word {
+        EventWord::OfPage(name) => page_event_ahead(name, caller, text),
+        EventWord::OfRange(name) => range_event_ahead(name, caller, text),
+        EventWord::OfLoss(name) => loss_event_ahead(name, caller, text),
+        EventWord::UnmapSub => unmap_event_ahead(caller, text),
+        EventWord::Split => split_event_ahead(caller, text),
+        EventWord::Close => None,
     }
 }
 
@@ -214,5 +130,6 @@ pub(crate) fn event_ahead(version: Version, text: &[u8]) -> Option<(Event, &[u8]
     ensures { IfSome result (λ read. EventAhead version text.now read.0 read.1.now) }
 {
     let (caller, rest) = number_ahead(b' ', u64::from(MAX_CALLERS - 1), text)?;
-    what_ahead(version, caller as u32, rest)
+    let (word, rest) = word_ahead(version, rest)?;
+    operands_ahead(word, caller as u32, rest)
 }

@@ -1,10 +1,11 @@
 //! The words of events.
-ghost use Rattle.std.specs.Prelude.{◌≡◌};
+ghost use Rattle.std.specs.Prelude.{◌≡◌, IfSome};
+ghost use Rattle.thp_journal_reader.specs.Ahead.{WordAhead};
 ghost use Rattle.thp_journal_reader.specs.EventWords.{common_word, event_word, later_word, loss_what, outcome_of, page_what, range_what};
 
 use crate::version::Version;
 use thp_model::{Outcome, PageId, SubSet, What};
-use thp_text::TextKind;
+use thp_text::{TextKind, behind_name};
 
 /// Events that tell a page alone.
 #[derive(Clone, Copy, Debug, PartialEq, Eq)]
@@ -95,6 +96,7 @@ pub enum EventWord {
     Close,
 }
 
+#[inline(always)]
 #[tactic(auto, unfolding(crate::specs::EventWords::common_word))]
 fn common_word(name: &[u8]) -> Result<EventWord, TextKind>
     ensures { result ≡ common_word name.now }
@@ -118,6 +120,7 @@ fn common_word(name: &[u8]) -> Result<EventWord, TextKind>
     }
 }
 
+#[inline(always)]
 #[tactic(auto, unfolding(crate::specs::EventWords::later_word))]
 fn later_word(name: &[u8]) -> Result<EventWord, TextKind>
     ensures { result ≡ later_word name.now }
@@ -131,12 +134,66 @@ fn later_word(name: &[u8]) -> Result<EventWord, TextKind>
 }
 
 /// The event that a word names in a version of the format.
+#[inline(always)]
 pub(crate) fn event_word(version: Version, name: &[u8]) -> Result<EventWord, TextKind>
     ensures { result ≡ event_word version name.now }
 {
     match version {
         Version::Plain | Version::Orders => common_word(name),
         Version::Underused => later_word(name),
+    }
+}
+
+/// The event that this word names, where a text begins with the word and a space, and what follows them.
+#[inline(always)]
+fn word_at<'t>(version: Version, name: &[u8], text: &'t [u8]) -> Option<(EventWord, &'t [u8])>
+    ensures { IfSome result (λ read. WordAhead version text.now read.0 read.1.now) }
+{
+    let rest = behind_name(name, text)?;
+    let Ok(word) = event_word(version, name) else {
+        return None;
+    };
+    Some((word, rest))
+}
+
+#[inline(always)]
+fn either_at<'t>(
+    version: Version,
+    first: &[u8],
+    second: &[u8],
+    text: &'t [u8],
+) -> Option<(EventWord, &'t [u8])>
+    ensures { IfSome result (λ read. WordAhead version text.now read.0 read.1.now) }
+{
+    if let Some(read) = word_at(version, first, text) {
+        return Some(read);
+    }
+    word_at(version, second, text)
+}
+
+/// The event whose word a text begins with in a version of the format, and what follows the space behind the word. `None` says
+/// nothing of the text.
+#[inline(always)]
+pub(crate) fn word_ahead(version: Version, text: &[u8]) -> Option<(EventWord, &[u8])>
+    ensures { IfSome result (λ read. WordAhead version text.now read.0 read.1.now) }
+{
+    match *text.first()? {
+        b'a' => word_at(version, b"alloc", text),
+        b'm' => either_at(version, b"mapsub", b"mapwhole", text),
+        b'u' => {
+            if let Some(read) = either_at(version, b"unmapsub", b"unpin", text) {
+                return Some(read);
+            }
+            either_at(version, b"unmapwhole", b"used", text)
+        }
+        b's' => either_at(version, b"splitpmd", b"split", text),
+        b'p' => either_at(version, b"pin", b"pinned", text),
+        b't' => word_at(version, b"taken", text),
+        b'b' => word_at(version, b"back", text),
+        b'd' => word_at(version, b"dropped", text),
+        b'w' => word_at(version, b"write", text),
+        b'z' => word_at(version, b"zero", text),
+        _ => None,
     }
 }
 
