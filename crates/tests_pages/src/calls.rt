@@ -4,7 +4,7 @@ use thp_model::{Refusal, SubSet};
 use thp_page::{Change, Page};
 
 // A call on a page.
-#[derive(Clone, Copy, Debug)]
+#[derive(Clone, Copy)]
 pub(crate) enum Call {
     MapWhole,
     UnmapWhole,
@@ -22,7 +22,7 @@ pub(crate) enum Call {
 }
 
 // What a call answers.
-#[derive(Clone, Copy, PartialEq, Eq, Debug)]
+#[derive(Clone, Copy, PartialEq, Eq)]
 pub(crate) enum Answer {
     Done,
     Changed(Change),
@@ -43,7 +43,14 @@ pub(crate) fn change(unused: bool, used_left: bool) -> Answer {
 pub(crate) fn expect(rt: &impl Abort, page: &mut Page, steps: &[(Call, Answer)]) {
     for (place, &(call, want)) in steps.iter().enumerate() {
         let answer = answer_of(rt, page, call);
-        assert!(rt; answer == want, "step {place}: {call:?}");
+        assert!(rt; answer == want, "step {place}");
+    }
+}
+
+// Makes these calls as often as this, each time with these answers.
+pub(crate) fn repeat(rt: &impl Abort, page: &mut Page, steps: &[(Call, Answer)], times: u32) {
+    for _time in 0..times {
+        expect(rt, page, steps);
     }
 }
 

@@ -1,17 +1,10 @@
 //! Own map counts at their limit, and carries and borrows through each bit of them.
 ghost use Rattle.std.specs.Prelude.{◌+◌, ◌≤◌};
 
-use crate::calls::{Answer, Call, change, expect};
+use crate::calls::{Answer, Call, change, expect, repeat};
 use std::process::Abort;
 use thp_model::{Refusal, SubSet};
 use thp_page::{Change, Page};
-
-// Makes these calls as often as this, each time with these answers.
-fn repeat(rt: &impl Abort, page: &mut Page, steps: &[(Call, Answer)], times: u32) {
-    for _time in 0..times {
-        expect(rt, page, steps);
-    }
-}
 
 // Maps a range as often as can be, one mapping after the other, and unmaps it again.
 fn up_and_down(rt: &impl Abort, first: u32, count: u32)

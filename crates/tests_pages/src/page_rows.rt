@@ -1,24 +1,17 @@
 //! Worked rows on the calls of one page, of the greatest order and of the least.
 ghost use Rattle.std.specs.Prelude.{◌≡◌, ◌≤◌};
 
-use crate::calls::{Answer, Call, change, expect};
+use crate::calls::{Answer, Call, change, expect, repeat};
 use std::process::Abort;
 use thp_model::{Refusal, SubSet};
 use thp_page::{Change, Page};
-
-// Makes one call as often as this.
-fn repeat(rt: &impl Abort, page: &mut Page, call: Call, times: u32) {
-    for _time in 0..times {
-        expect(rt, page, &[(call, Answer::Done)]);
-    }
-}
 
 fn counts_at_their_limit_at(rt: &impl Abort, order: u32)
     requires least { 2 ≤ order }
     requires most { order ≤ 9 }
 {
     let mut page = Page::fresh(order);
-    repeat(rt, &mut page, Call::MapWhole, 65_534);
+    repeat(rt, &mut page, &[(Call::MapWhole, Answer::Done)], 65_534);
     assert!(rt; page.whole() == 65_535);
     let steps = [
         (Call::MapWhole, Answer::Refused(Refusal::TooMany)),
@@ -30,7 +23,7 @@ fn counts_at_their_limit_at(rt: &impl Abort, order: u32)
     assert!(rt; page.whole() == 65_534);
 
     let mut pinned = Page::fresh(order);
-    repeat(rt, &mut pinned, Call::Pin, 65_535);
+    repeat(rt, &mut pinned, &[(Call::Pin, Answer::Done)], 65_535);
     expect(
         rt,
         &mut pinned,
@@ -190,10 +183,8 @@ fn split_of_a_mapped_page_at(rt: &impl Abort, order: u32, last: u32)
         (Call::Split(false), Answer::GaveBack(SubSet::empty())),
     ];
     expect(rt, &mut page, &split);
-    assert!(rt; page.whole() == 0);
-    assert!(rt; page.is_split());
     assert!(rt; page.in_use_set() == SubSet::full(order));
-    assert!(rt; page.order() == order);
+    assert!(rt; (page.whole(), page.is_split(), page.order()) == (0, true, order));
 }
 
 #[test]
@@ -218,8 +209,7 @@ fn pinned_page_is_freed_by_unpin_at(rt: &impl Abort, order: u32)
     expect(rt, &mut page, &unmapped);
     assert!(rt; page.pins() == 1);
     expect(rt, &mut page, &[(Call::Unpin, Answer::Done)]);
-    assert!(rt; page.pins() == 0);
-    assert!(rt; !page.has_use());
+    assert!(rt; (page.pins(), page.has_use()) == (0, false));
     assert!(rt; page.in_use_set() == SubSet::empty());
 }
 

@@ -1,5 +1,23 @@
 //! Sets of subpages and shapes, with values counted by hand.
+use std::process::Abort;
 use thp_model::{Shape, SubSet};
+
+// The sets of each row are the same.
+fn expect_same(rt: &impl Abort, rows: &[(SubSet, SubSet)]) {
+    for (row, &(set, want)) in rows.iter().enumerate() {
+        assert!(rt; set == want, "row {row}");
+    }
+}
+
+// Whether these subpages are in a set.
+fn expect_contains(rt: &impl Abort, set: SubSet, subpages: &[(u32, bool)]) {
+    for &(subpage, want) in subpages {
+        assert!(rt;
+            subpage < 512 && set.contains(subpage) == want,
+            "subpage {subpage}"
+        );
+    }
+}
 
 #[test]
 fn ranges_and_full_sets(rt: HostRuntime) {
@@ -14,29 +32,35 @@ fn ranges_and_full_sets(rt: HostRuntime) {
         (70, false),
         (511, false),
     ];
-    for (i, want) in inside {
-        if i < 512 {
-            assert!(rt; set.contains(i) == want, "subpage {i}");
-        }
+    expect_contains(&rt, set, &inside);
+    for (set, want) in [
+        (set, 10),
+        (SubSet::range(0, 512), 512),
+        (SubSet::range(511, 1), 1),
+    ] {
+        assert!(rt; set.count() == want);
     }
-    assert!(rt; set.count() == 10);
-    assert!(rt; SubSet::range(0, 512).count() == 512);
-    assert!(rt; SubSet::range(511, 1).count() == 1);
-    assert!(rt; SubSet::full(2) == SubSet::range(0, 4));
-    assert!(rt; SubSet::full(9) == SubSet::range(0, 512));
+    let full = [
+        (SubSet::full(2), SubSet::range(0, 4)),
+        (SubSet::full(9), SubSet::range(0, 512)),
+    ];
+    expect_same(&rt, &full);
 }
 
 #[test]
 fn sets_of_two(rt: HostRuntime) {
     let (low, high) = (SubSet::range(0, 300), SubSet::range(200, 312));
-    assert!(rt; low.union(high) == SubSet::full(9));
-    assert!(rt; low.difference(high) == SubSet::range(0, 200));
-    assert!(rt; low.difference(SubSet::full(9)).is_empty());
-    assert!(rt; !low.is_empty());
     let mut one = SubSet::empty();
     assert!(rt; one.is_empty());
     one.insert(300);
-    assert!(rt; one == SubSet::range(300, 1));
+    let rows = [
+        (low.union(high), SubSet::full(9)),
+        (low.difference(high), SubSet::range(0, 200)),
+        (one, SubSet::range(300, 1)),
+    ];
+    expect_same(&rt, &rows);
+    assert!(rt; low.difference(SubSet::full(9)).is_empty());
+    assert!(rt; !low.is_empty());
     assert!(rt; one != low);
 }
 
@@ -44,15 +68,20 @@ fn sets_of_two(rt: HostRuntime) {
 #[test]
 fn sets_word_by_word(rt: HostRuntime) {
     let range = SubSet::range(60, 70);
-    assert!(rt; range.word(0) == 0xf000_0000_0000_0000);
-    assert!(rt; range.word(1) == u64::MAX);
-    assert!(rt; range.word(2) == 3);
-    assert!(rt; range.word(3) == 0);
+    let words = [range.word(0), range.word(1), range.word(2), range.word(3)];
+    assert!(rt; words == [0xf000_0000_0000_0000, u64::MAX, 3, 0]);
     let mut written = range;
     written.set_word(1, 0);
-    assert!(rt; written == SubSet::range(60, 4).union(SubSet::range(128, 2)));
-    assert!(rt; range.intersection(SubSet::range(0, 64)) == SubSet::range(60, 4));
-    assert!(rt; range.symmetric_difference(written) == SubSet::range(64, 64));
+    let rows = [
+        (written, SubSet::range(60, 4).union(SubSet::range(128, 2))),
+        (
+            range.intersection(SubSet::range(0, 64)),
+            SubSet::range(60, 4),
+        ),
+        (range.symmetric_difference(written), SubSet::range(64, 64)),
+        (range.symmetric_difference(range), SubSet::empty()),
+    ];
+    expect_same(&rt, &rows);
     assert!(rt; range.symmetric_difference(range).is_empty());
 }
 

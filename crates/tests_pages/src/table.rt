@@ -41,9 +41,11 @@ fn put(rt: &impl Abort, table: &mut PageTable, block: u32, id: PageId)
     requires { block < length table.old.links }
     ensures { table.new ≡ with_slot table.old block (Some (fresh_slot table.old.order id)) }
 {
-    assert!(rt; table.block_of(id) == None, "number {}", id.0);
-    assert!(rt; table.page(block).is_none(), "block {block}");
-    table.place(block, id);
+    assert!(rt; table.page(block).is_none());
+    match table.block_of(id) {
+        None => table.place(block, id),
+        Some(_) => panic!(rt; "a number in use"),
+    }
 }
 
 // The pair of an index after it was set, of any table.
@@ -63,10 +65,44 @@ fn pair_after<T: LinkTable>(table: &mut T, i: u32, link: Link) -> Link
 fn limits_and_constructors(rt: HostRuntime) -> Result<(), Fail> {
     let mut table = PageTable::new(rt.alloc(), 4, 9)?;
     assert!(rt; table.len() == 4);
-    assert!(rt; table.block_of(PageId(0)) == None);
-    table.place(2, PageId(0));
+    put(&rt, &mut table, 2, PageId(0));
     assert!(rt; table.block_of(PageId(0)) == Some(2));
     Ok(())
+}
+
+// A page of this number comes into block 2, where it stands nowhere and has no pin.
+fn page_comes(rt: &impl Abort, table: &mut PageTable, id: PageId)
+    requires { length table.old.links ≡ 4 }
+    ensures size { length table.new.links ≡ 4 }
+    ensures occupied { IsSome (slot_at table.new 2) }
+{
+    put(rt, table, 2, id);
+    assert!(rt; table.standing(2) == Standing::Nowhere);
+    assert!(rt; pins_at(table, 2) == 0);
+}
+
+// The page of block 2 is pinned, and moves into a batch.
+fn page_moves(rt: &impl Abort, table: &mut PageTable)
+    requires size { length table.old.links ≡ 4 }
+    requires occupied { IsSome (slot_at table.old 2) }
+    ensures size { length table.new.links ≡ 4 }
+    ensures occupied { IsSome (slot_at table.new 2) }
+{
+    assert!(rt; pin_at(table, 2) == Ok(()));
+    table.set_standing(2, Standing::Batch(5));
+    assert!(rt; pins_at(table, 2) == 1);
+    assert!(rt; table.standing(2) == Standing::Batch(5));
+}
+
+// The page of block 2, which has this number, goes.
+fn page_goes(rt: &impl Abort, table: &mut PageTable, id: PageId)
+    requires size { length table.old.links ≡ 4 }
+    requires occupied { IsSome (slot_at table.old 2) }
+    ensures size { length table.new.links ≡ 4 }
+{
+    table.clear(2);
+    assert!(rt; table.block_of(id) == None);
+    assert!(rt; table.page(2).is_none());
 }
 
 // A page is placed, pinned, moved between lists and taken away, and its block's pair stays.
@@ -75,28 +111,17 @@ fn page_comes_and_goes(rt: HostRuntime) -> Result<(), Fail> {
     let mut table = PageTable::new(rt.alloc(), 4, 9)?;
     let link = Link { prev: 3, next: 0 };
     assert!(rt; pair_after(&mut table, 2, link) == link);
-    assert!(rt;
-        table.link(1)
-            == Link {
-                prev: NIL,
-                next: NIL
-            }
-    );
-    put(&rt, &mut table, 2, PageId(7));
-    assert!(rt; table.standing(2) == Standing::Nowhere);
-    assert!(rt; pins_at(&table, 2) == 0);
-    assert!(rt; pin_at(&mut table, 2) == Ok(()));
-    table.set_standing(2, Standing::Batch(5));
-    assert!(rt; pins_at(&table, 2) == 1);
-    assert!(rt; table.standing(2) == Standing::Batch(5));
+    let alone = Link {
+        prev: NIL,
+        next: NIL,
+    };
+    assert!(rt; table.link(1) == alone);
+    page_comes(&rt, &mut table, PageId(7));
+    page_moves(&rt, &mut table);
     assert!(rt; table.link(2) == link);
-    table.clear(2);
-    assert!(rt; table.block_of(PageId(7)) == None);
-    assert!(rt; table.page(2).is_none());
+    page_goes(&rt, &mut table, PageId(7));
     assert!(rt; table.link(2) == link);
-    put(&rt, &mut table, 2, PageId(8));
-    assert!(rt; pins_at(&table, 2) == 0);
-    assert!(rt; table.standing(2) == Standing::Nowhere);
+    page_comes(&rt, &mut table, PageId(8));
     Ok(())
 }
 

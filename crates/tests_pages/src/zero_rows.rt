@@ -95,10 +95,13 @@ fn worth_a_split(rt: HostRuntime) {
 
 // Whether a page is worth a split with the switch off, and at the thresholds 0, 1 and 3.
 fn expect_worth(rt: &impl Abort, page: &Page, wants: [bool; 4]) {
-    let thresholds = [None, Some(0), Some(1), Some(3)];
-    for (threshold, want) in thresholds.into_iter().zip(wants) {
-        assert!(rt; page.is_worth(threshold) == want, "{threshold:?}");
-    }
+    let told = [
+        page.is_worth(None),
+        page.is_worth(Some(0)),
+        page.is_worth(Some(1)),
+        page.is_worth(Some(3)),
+    ];
+    assert!(rt; told == wants);
 }
 
 // A split gives back unused and zero-filled subpages; the mappings of those stay, and their unmaps give nothing back.
