@@ -14,12 +14,20 @@ use Rattle.std.proofs.Math.Seq.{drop-cons, take-length}
 use Rattle.thp_model.specs.Limits.{max_batch}
 use Rattle.thp_text.specs.declared.script.Command.{Command}
 use Rattle.thp_text.specs.declared.script.Op.{Op}
-use Rattle.thp_text.specs.declared.script.Op.TheVariants.{Alloc, MapWhole, UnmapWhole, Map, Unmap, Write, Zero, SplitPmd, Pin, Unpin, Close, Scan, Count, Take, SplitNext, PutBack}
+use Rattle.thp_text.specs.declared.script.Op.TheVariants.{Alloc, Close, Count, SplitNext, PutBack}
+use Rattle.thp_text.specs.declared.script.BatchCall.TheVariants as batch
+use Rattle.thp_text.specs.declared.script.CommandWord.{CommandWord}
+use Rattle.thp_text.specs.declared.script.CommandWord.TheVariants.{OfNode, OfPage, OfRange, OfBatch}
+use Rattle.thp_text.specs.declared.script.RangeCall.TheVariants as range
+use Rattle.thp_model.specs.declared.page_call.Gain.TheVariants as gain
+use Rattle.thp_model.specs.declared.page_call.Loss.TheVariants as loss
+use Rattle.thp_model.specs.declared.page_call.PageCall.TheVariants.{Gain, Loss}
 use Rattle.thp_text.specs.declared.settings.Settings.{Settings}
 use Rattle.thp_text.specs.declared.statement.Statement.TheVariants.{Call}
-use Rattle.thp_text.specs.Ahead.{CommandAhead, LineAhead, OperandsAhead}
+use Rattle.thp_text.specs.Ahead.{CommandAhead, IsName, LineAhead, OperandsAhead, WordAhead}
 use Rattle.thp_text.specs.WordsAhead.{NumberAhead}
 use Rattle.thp_text.specs.Commands.{batch_command, command_of, node_command, page_command, range_command, Reading}
+use Rattle.thp_text.specs.Operands.{reading_of}
 use Rattle.thp_text.specs.Readings.{◌>>=◌}
 use Rattle.thp_text.specs.Statements.{by_words, says_nothing, section_or_call}
 use Rattle.thp_text.specs.Words.{Text, is_numeral, lines_of, number_of, pieces_at, words_of}
@@ -179,13 +187,6 @@ pub of_some : {A : Type 0} (o : Option A) (P Q : A → Type 0) → ((x : A) → 
 of_some None P Q f h = tt
 of_some (Some x) P Q f h = f x h
 
--- a name of a command whose operands are read so: no byte of it ends a word or a line, and no comment begins with it
-pub record IsName (s : Settings) (name : Text) (reading : Reading) : Type 0 where
-  pub one_word : pieces_at 32 name ≡ name ∷ []
-  pub one_line : pieces_at 10 name ≡ name ∷ []
-  pub says : (line : Text) → says_nothing (name ++ 32 ∷ line) ≡ false
-  pub reads : (words : List Text) → by_words s (name ∷ words) ≡ (reading s words >>= λ command. Ok (Call command))
-
 begins_with_line : (text line rest : Text) → lines_of line ≡ line ∷ [] → text ≡ line ++ 10 ∷ rest → lines_of text ≡ line ∷ lines_of rest
 begins_with_line text line rest one e = rw e (whole_front 10 line rest one)
 
@@ -206,73 +207,78 @@ command_of_name s name reading text operands rest command n e o =
       says = statement_of-read s line.line (Call command) (n.says o.line.line) read;
     }
 
--- and so they are where operands were read
-pub named : {A : Type 0} (s : Settings) (name : Text) (reading : Reading) (text operands : Text) (read : Option A) (command : A → Command) (rest : A → Text) → IsName s name reading → text ≡ name ++ 32 ∷ operands
-    → IfSome read (λ r. OperandsAhead (reading s) operands (command r) (rest r)) → IfSome read (λ r. CommandAhead s text (command r) (rest r))
-named s name reading text operands read command rest n e h =
-    of_some read (λ r. OperandsAhead (reading s) operands (command r) (rest r)) (λ r. CommandAhead s text (command r) (rest r)) (λ r o. command_of_name s name reading text operands (rest r) (command r) n e o) h
+-- and so are the word of a command and its operands where they were read
+pub word_named : {A : Type 0} (s : Settings) (word : CommandWord) (text operands : Text) (read : Option A) (command : A → Command) (rest : A → Text) → WordAhead word text operands
+    → IfSome read (λ r. OperandsAhead (reading_of word s) operands (command r) (rest r)) → IfSome read (λ r. CommandAhead s text (command r) (rest r))
+word_named s word text operands read command rest a h =
+    of_some read (λ r. OperandsAhead (reading_of word s) operands (command r) (rest r)) (λ r. CommandAhead s text (command r) (rest r))
+    (λ r o. command_of_name s a.name (reading_of word) text operands (rest r) (command r) (a.is_name s) a.stands o) h
+
+-- a text that begins with a name and a space
+pub word_stands : (word : CommandWord) (name text rest : Text) → ((s : Settings) → IsName s name (reading_of word)) → text ≡ name ++ 32 ∷ rest → WordAhead word text rest
+word_stands word name text rest n e = record { name = name; is_name = n; stands = e }
 
 module _ (s : Settings) where
-  pub alloc_is : IsName s (codes "alloc") (node_command Alloc)
+  pub alloc_is : IsName s (codes "alloc") (reading_of (OfNode Alloc))
   unfolding section_or_call command_of
   alloc_is = record { one_word = refl; one_line = refl; says = λ line. refl; reads = λ words. refl }
 
-  pub mapwhole_is : IsName s (codes "mapwhole") (page_command MapWhole)
+  pub mapwhole_is : IsName s (codes "mapwhole") (reading_of (OfPage (Gain gain.MapWhole)))
   unfolding section_or_call command_of
   mapwhole_is = record { one_word = refl; one_line = refl; says = λ line. refl; reads = λ words. refl }
 
-  pub unmapwhole_is : IsName s (codes "unmapwhole") (page_command UnmapWhole)
+  pub unmapwhole_is : IsName s (codes "unmapwhole") (reading_of (OfPage (Loss loss.UnmapWhole)))
   unfolding section_or_call command_of
   unmapwhole_is = record { one_word = refl; one_line = refl; says = λ line. refl; reads = λ words. refl }
 
-  pub map_is : IsName s (codes "map") (range_command (λ page first count. Map first count page))
+  pub map_is : IsName s (codes "map") (reading_of (OfRange range.Map))
   unfolding section_or_call command_of
   map_is = record { one_word = refl; one_line = refl; says = λ line. refl; reads = λ words. refl }
 
-  pub unmap_is : IsName s (codes "unmap") (range_command (λ page first count. Unmap first count page))
+  pub unmap_is : IsName s (codes "unmap") (reading_of (OfRange range.Unmap))
   unfolding section_or_call command_of
   unmap_is = record { one_word = refl; one_line = refl; says = λ line. refl; reads = λ words. refl }
 
-  pub splitpmd_is : IsName s (codes "splitpmd") (page_command SplitPmd)
+  pub splitpmd_is : IsName s (codes "splitpmd") (reading_of (OfPage (Gain gain.SplitPmd)))
   unfolding section_or_call command_of
   splitpmd_is = record { one_word = refl; one_line = refl; says = λ line. refl; reads = λ words. refl }
 
-  pub pin_is : IsName s (codes "pin") (page_command Pin)
+  pub pin_is : IsName s (codes "pin") (reading_of (OfPage (Gain gain.Pin)))
   unfolding section_or_call command_of
   pin_is = record { one_word = refl; one_line = refl; says = λ line. refl; reads = λ words. refl }
 
-  pub unpin_is : IsName s (codes "unpin") (page_command Unpin)
+  pub unpin_is : IsName s (codes "unpin") (reading_of (OfPage (Loss loss.Unpin)))
   unfolding section_or_call command_of
   unpin_is = record { one_word = refl; one_line = refl; says = λ line. refl; reads = λ words. refl }
 
-  pub write_is : IsName s (codes "write") (range_command (λ page first count. Write first count page))
+  pub write_is : IsName s (codes "write") (reading_of (OfRange range.Write))
   unfolding section_or_call command_of
   write_is = record { one_word = refl; one_line = refl; says = λ line. refl; reads = λ words. refl }
 
-  pub zero_is : IsName s (codes "zero") (range_command (λ page first count. Zero first count page))
+  pub zero_is : IsName s (codes "zero") (reading_of (OfRange range.Zero))
   unfolding section_or_call command_of
   zero_is = record { one_word = refl; one_line = refl; says = λ line. refl; reads = λ words. refl }
 
-  pub close_is : IsName s (codes "close") (node_command Close)
+  pub close_is : IsName s (codes "close") (reading_of (OfNode Close))
   unfolding section_or_call command_of
   close_is = record { one_word = refl; one_line = refl; says = λ line. refl; reads = λ words. refl }
 
-  pub scan_is : IsName s (codes "scan") (batch_command (λ count. Scan count))
+  pub scan_is : IsName s (codes "scan") (reading_of (OfBatch batch.Scan))
   unfolding section_or_call command_of
   scan_is = record { one_word = refl; one_line = refl; says = λ line. refl; reads = λ words. refl }
 
-  pub count_is : IsName s (codes "count") (node_command Count)
+  pub count_is : IsName s (codes "count") (reading_of (OfNode Count))
   unfolding section_or_call command_of
   count_is = record { one_word = refl; one_line = refl; says = λ line. refl; reads = λ words. refl }
 
-  pub take_is : IsName s (codes "take") (batch_command (λ count. Take count))
+  pub take_is : IsName s (codes "take") (reading_of (OfBatch batch.Take))
   unfolding section_or_call command_of
   take_is = record { one_word = refl; one_line = refl; says = λ line. refl; reads = λ words. refl }
 
-  pub splitnext_is : IsName s (codes "splitnext") (node_command SplitNext)
+  pub splitnext_is : IsName s (codes "splitnext") (reading_of (OfNode SplitNext))
   unfolding section_or_call command_of
   splitnext_is = record { one_word = refl; one_line = refl; says = λ line. refl; reads = λ words. refl }
 
-  pub putback_is : IsName s (codes "putback") (node_command PutBack)
+  pub putback_is : IsName s (codes "putback") (reading_of (OfNode PutBack))
   unfolding section_or_call command_of
   putback_is = record { one_word = refl; one_line = refl; says = λ line. refl; reads = λ words. refl }

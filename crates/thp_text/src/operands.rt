@@ -5,52 +5,10 @@ ghost use Rattle.thp_text.specs.Operands.{batch_op, call_on};
 ghost use Rattle.thp_text.specs.PageCommands.{op_on};
 
 use crate::fault::TextKind;
-use crate::script::{Command, Op};
+use crate::script::{BatchCall, Command, CommandWord, Op, RangeCall, command_word};
 use crate::settings::Settings;
 use crate::words::{Words, number};
-use thp_model::{Gain, Loss, MAX_BATCH, PageCall};
-
-/// The calls on a range of a page's subpages, behind whose name stand a node, the page and the range.
-#[derive(Clone, Copy)]
-pub(crate) enum RangeCall {
-    Map,
-    Unmap,
-    Write,
-    Zero,
-}
-
-impl RangeCall {
-    #[inline(always)]
-    pub(crate) fn on(self, first: u16, count: u16) -> PageCall
-        ensures { result ≡ call_on self first count }
-    {
-        match self {
-            RangeCall::Map => PageCall::Gain(Gain::MapSub { first, count }),
-            RangeCall::Unmap => PageCall::Loss(Loss::UnmapSub { first, count }),
-            RangeCall::Write => PageCall::Gain(Gain::Write { first, count }),
-            RangeCall::Zero => PageCall::Gain(Gain::Zero { first, count }),
-        }
-    }
-}
-
-/// The calls on as many pages as a batch holds, behind whose name stand a node and a number.
-#[derive(Clone, Copy)]
-pub(crate) enum BatchCall {
-    Scan,
-    Take,
-}
-
-impl BatchCall {
-    #[inline(always)]
-    pub(crate) fn op(self, count: u16) -> Op
-        ensures { result ≡ batch_op self count }
-    {
-        match self {
-            BatchCall::Scan => Op::Scan { count },
-            BatchCall::Take => Op::Take { count },
-        }
-    }
-}
+use thp_model::{MAX_BATCH, PageCall};
 
 #[inline(always)]
 pub(crate) fn number_up_to(most: u64, word: &[u8]) -> Result<u64, TextKind>
@@ -160,7 +118,6 @@ fn batch_command(
 }
 
 /// The command that the first word names, with its operands.
-#[tactic(auto, unfolding(crate::specs::Commands::command_of))]
 pub(crate) fn command_of(
     settings: &Settings,
     name: &[u8],
@@ -168,23 +125,10 @@ pub(crate) fn command_of(
 ) -> Result<Command, TextKind>
     ensures { result ≡ command_of settings.now name.now words.entry }
 {
-    match name {
-        b"alloc" => node_command(settings, Op::Alloc, words),
-        b"mapwhole" => page_command(settings, PageCall::Gain(Gain::MapWhole), words),
-        b"unmapwhole" => page_command(settings, PageCall::Loss(Loss::UnmapWhole), words),
-        b"map" => range_command(settings, RangeCall::Map, words),
-        b"unmap" => range_command(settings, RangeCall::Unmap, words),
-        b"splitpmd" => page_command(settings, PageCall::Gain(Gain::SplitPmd), words),
-        b"pin" => page_command(settings, PageCall::Gain(Gain::Pin), words),
-        b"unpin" => page_command(settings, PageCall::Loss(Loss::Unpin), words),
-        b"write" => range_command(settings, RangeCall::Write, words),
-        b"zero" => range_command(settings, RangeCall::Zero, words),
-        b"close" => node_command(settings, Op::Close, words),
-        b"scan" => batch_command(settings, BatchCall::Scan, words),
-        b"count" => node_command(settings, Op::Count, words),
-        b"take" => batch_command(settings, BatchCall::Take, words),
-        b"splitnext" => node_command(settings, Op::SplitNext, words),
-        b"putback" => node_command(settings, Op::PutBack, words),
-        _ => Err(TextKind::BadWord),
+    match command_word(name)? {
+        CommandWord::OfNode(op) => node_command(settings, op, words),
+        CommandWord::OfPage(call) => page_command(settings, call, words),
+        CommandWord::OfRange(call) => range_command(settings, call, words),
+        CommandWord::OfBatch(call) => batch_command(settings, call, words),
     }
 }

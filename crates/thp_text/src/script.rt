@@ -1,8 +1,12 @@
-//! Scripts as values.
-ghost use Rattle.std.specs.Prelude.{◌≡◌, Some};
+//! Scripts as values, and the words of their commands.
+ghost use Rattle.std.specs.Prelude.{◌≡◌, IfSome, Some};
+ghost use Rattle.thp_text.specs.Ahead.{WordAhead};
+ghost use Rattle.thp_text.specs.Operands.{batch_op, call_on, Names};
 ghost use Rattle.thp_text.specs.PageCommands.{op_on, page_call_of};
 
+use crate::fault::TextKind;
 use crate::sequence::Sequence;
+use crate::words_ahead::behind_name;
 use thp_model::{Gain, Loss, PageCall};
 
 /// A call on a node, with its operands.
@@ -88,6 +92,176 @@ impl Op {
             PageCall::Loss(Loss::UnmapSub { first, count }) => Op::Unmap { first, count, page },
             PageCall::Loss(Loss::Unpin) => Op::Unpin { page },
         }
+    }
+}
+
+/// The calls on a range of a page's subpages.
+#[derive(Clone, Copy)]
+pub(crate) enum RangeCall {
+    Map,
+    Unmap,
+    Write,
+    Zero,
+}
+
+impl RangeCall {
+    #[inline(always)]
+    pub(crate) fn on(self, first: u16, count: u16) -> PageCall
+        ensures { result ≡ call_on self first count }
+    {
+        match self {
+            RangeCall::Map => PageCall::Gain(Gain::MapSub { first, count }),
+            RangeCall::Unmap => PageCall::Loss(Loss::UnmapSub { first, count }),
+            RangeCall::Write => PageCall::Gain(Gain::Write { first, count }),
+            RangeCall::Zero => PageCall::Gain(Gain::Zero { first, count }),
+        }
+    }
+}
+
+/// The calls on as many pages as a batch holds.
+#[derive(Clone, Copy)]
+pub(crate) enum BatchCall {
+    Scan,
+    Take,
+}
+
+impl BatchCall {
+    #[inline(always)]
+    pub(crate) fn op(self, count: u16) -> Op
+        ensures { result ≡ batch_op self count }
+    {
+        match self {
+            BatchCall::Scan => Op::Scan { count },
+            BatchCall::Take => Op::Take { count },
+        }
+    }
+}
+
+/// What a command's word names, by the operands that stand behind it.
+#[derive(Clone, Copy)]
+pub(crate) enum CommandWord {
+    /// `NODE`
+    OfNode(Op),
+    /// `NODE PAGE`
+    OfPage(PageCall),
+    /// `NODE PAGE FIRST COUNT`
+    OfRange(RangeCall),
+    /// `NODE COUNT`
+    OfBatch(BatchCall),
+}
+
+/// What a word names.
+#[tactic(auto, unfolding(crate::specs::Commands::command_of))]
+pub(crate) fn command_word(name: &[u8]) -> Result<CommandWord, TextKind>
+    ensures { Names name.now result }
+{
+    match name {
+        b"alloc" => Ok(CommandWord::OfNode(Op::Alloc)),
+        b"mapwhole" => Ok(CommandWord::OfPage(PageCall::Gain(Gain::MapWhole))),
+        b"unmapwhole" => Ok(CommandWord::OfPage(PageCall::Loss(Loss::UnmapWhole))),
+        b"map" => Ok(CommandWord::OfRange(RangeCall::Map)),
+        b"unmap" => Ok(CommandWord::OfRange(RangeCall::Unmap)),
+        b"splitpmd" => Ok(CommandWord::OfPage(PageCall::Gain(Gain::SplitPmd))),
+        b"pin" => Ok(CommandWord::OfPage(PageCall::Gain(Gain::Pin))),
+        b"unpin" => Ok(CommandWord::OfPage(PageCall::Loss(Loss::Unpin))),
+        b"write" => Ok(CommandWord::OfRange(RangeCall::Write)),
+        b"zero" => Ok(CommandWord::OfRange(RangeCall::Zero)),
+        b"close" => Ok(CommandWord::OfNode(Op::Close)),
+        b"scan" => Ok(CommandWord::OfBatch(BatchCall::Scan)),
+        b"count" => Ok(CommandWord::OfNode(Op::Count)),
+        b"take" => Ok(CommandWord::OfBatch(BatchCall::Take)),
+        b"splitnext" => Ok(CommandWord::OfNode(Op::SplitNext)),
+        b"putback" => Ok(CommandWord::OfNode(Op::PutBack)),
+        _ => Err(TextKind::BadWord),
+    }
+}
+
+#[inline(always)]
+fn map_word(text: &[u8]) -> Option<(CommandWord, &[u8])>
+    ensures { IfSome result (λ read. WordAhead read.0 text.now read.1.now) }
+{
+    if let Some(rest) = behind_name(b"map", text) {
+        return Some((CommandWord::OfRange(RangeCall::Map), rest));
+    }
+    let rest = behind_name(b"mapwhole", text)?;
+    Some((CommandWord::OfPage(PageCall::Gain(Gain::MapWhole)), rest))
+}
+
+#[inline(always)]
+fn unmap_or_unpin_word(text: &[u8]) -> Option<(CommandWord, &[u8])>
+    ensures { IfSome result (λ read. WordAhead read.0 text.now read.1.now) }
+{
+    if let Some(rest) = behind_name(b"unmap", text) {
+        return Some((CommandWord::OfRange(RangeCall::Unmap), rest));
+    }
+    if let Some(rest) = behind_name(b"unpin", text) {
+        return Some((CommandWord::OfPage(PageCall::Loss(Loss::Unpin)), rest));
+    }
+    let rest = behind_name(b"unmapwhole", text)?;
+    Some((CommandWord::OfPage(PageCall::Loss(Loss::UnmapWhole)), rest))
+}
+
+#[inline(always)]
+fn split_or_scan_word(text: &[u8]) -> Option<(CommandWord, &[u8])>
+    ensures { IfSome result (λ read. WordAhead read.0 text.now read.1.now) }
+{
+    if let Some(rest) = behind_name(b"splitpmd", text) {
+        return Some((CommandWord::OfPage(PageCall::Gain(Gain::SplitPmd)), rest));
+    }
+    if let Some(rest) = behind_name(b"scan", text) {
+        return Some((CommandWord::OfBatch(BatchCall::Scan), rest));
+    }
+    let rest = behind_name(b"splitnext", text)?;
+    Some((CommandWord::OfNode(Op::SplitNext), rest))
+}
+
+#[inline(always)]
+fn pin_or_put_back_word(text: &[u8]) -> Option<(CommandWord, &[u8])>
+    ensures { IfSome result (λ read. WordAhead read.0 text.now read.1.now) }
+{
+    if let Some(rest) = behind_name(b"pin", text) {
+        return Some((CommandWord::OfPage(PageCall::Gain(Gain::Pin)), rest));
+    }
+    let rest = behind_name(b"putback", text)?;
+    Some((CommandWord::OfNode(Op::PutBack), rest))
+}
+
+#[inline(always)]
+fn count_or_close_word(text: &[u8]) -> Option<(CommandWord, &[u8])>
+    ensures { IfSome result (λ read. WordAhead read.0 text.now read.1.now) }
+{
+    if let Some(rest) = behind_name(b"count", text) {
+        return Some((CommandWord::OfNode(Op::Count), rest));
+    }
+    let rest = behind_name(b"close", text)?;
+    Some((CommandWord::OfNode(Op::Close), rest))
+}
+
+/// What the word names that a text begins with, and what follows the space behind it. `None` says nothing of the text.
+#[inline(always)]
+pub(crate) fn word_ahead(text: &[u8]) -> Option<(CommandWord, &[u8])>
+    ensures { IfSome result (λ read. WordAhead read.0 text.now read.1.now) }
+{
+    match *text.first()? {
+        b'a' => Some((CommandWord::OfNode(Op::Alloc), behind_name(b"alloc", text)?)),
+        b'm' => map_word(text),
+        b'u' => unmap_or_unpin_word(text),
+        b's' => split_or_scan_word(text),
+        b'p' => pin_or_put_back_word(text),
+        b'c' => count_or_close_word(text),
+        b't' => Some((
+            CommandWord::OfBatch(BatchCall::Take),
+            behind_name(b"take", text)?,
+        )),
+        b'w' => Some((
+            CommandWord::OfRange(RangeCall::Write),
+            behind_name(b"write", text)?,
+        )),
+        b'z' => Some((
+            CommandWord::OfRange(RangeCall::Zero),
+            behind_name(b"zero", text)?,
+        )),
+        _ => None,
     }
 }
 
