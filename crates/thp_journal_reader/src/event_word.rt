@@ -8,7 +8,7 @@ use thp_model::{Outcome, PageId, SubSet, What};
 use thp_text::{TextKind, behind_name};
 
 /// Events that tell a page alone.
-#[derive(Clone, Copy, Debug, PartialEq, Eq)]
+#[derive(Clone, Copy)]
 pub enum PageWord {
     Alloc,
     MapWhole,
@@ -40,7 +40,7 @@ impl PageWord {
 }
 
 /// Events that tell a page and a range of its subpages.
-#[derive(Clone, Copy, Debug, PartialEq, Eq)]
+#[derive(Clone, Copy)]
 pub enum RangeWord {
     MapSub,
     Write,
@@ -60,7 +60,7 @@ impl RangeWord {
 }
 
 /// Events that tell a page, what became of it and what it gave back.
-#[derive(Clone, Copy, Debug, PartialEq, Eq)]
+#[derive(Clone, Copy)]
 pub enum LossWord {
     UnmapWhole,
     Unpin,
@@ -86,7 +86,7 @@ impl LossWord {
 }
 
 /// The words of events, by the operands that stand behind them.
-#[derive(Clone, Copy, Debug, PartialEq, Eq)]
+#[derive(Clone, Copy)]
 pub enum EventWord {
     OfPage(PageWord),
     OfRange(RangeWord),

@@ -10,7 +10,7 @@ use thp_model::{Event, Shape};
 use thp_text::{MAX_NODES, TextKind, Words, fault_of_line};
 
 /// What a line of a journal says.
-#[derive(Clone, Copy, Debug, PartialEq, Eq)]
+#[derive(Clone, Copy)]
 pub enum Line {
     /// The version of the format; it stands first.
     Head(Version),

@@ -8,7 +8,7 @@ use crate::version::Version;
 use thp_text::TextKind;
 
 /// A place between the lines of a journal.
-#[derive(Clone, Copy, Debug, PartialEq, Eq)]
+#[derive(Clone, Copy)]
 pub enum Place {
     /// Before the first line.
     Start,
