@@ -8,11 +8,16 @@ fn are_settings(nodes: u32, blocks: u32, workers: u32) -> bool {
     Settings::new(nodes, blocks, workers, Report::Totals).is_some()
 }
 
+// What these words ask for, if they are read.
+fn line_of<'a>(alloc: Global, words: &'a [&'a str]) -> Option<Line<'a>> {
+    read_line(alloc, words).ok()
+}
+
 // Whether these words leave all as it is by default.
 fn is_default(alloc: Global, words: &[&str]) -> bool {
     matches!(
-        read_line(alloc, words),
-        Ok(Line {
+        line_of(alloc, words),
+        Some(Line {
             nodes: 1,
             blocks: 16,
             workers: 1,
@@ -43,6 +48,16 @@ fn limits_and_constructors(rt: HostRuntime) {
     assert!(rt; is_default(rt.alloc(), ["thpsplit"].as_slice()));
 }
 
+// The settings with these orders, if they fit.
+fn with_orders(settings: Settings, orders: &[u32]) -> Option<Settings> {
+    settings.with_orders(orders)
+}
+
+// The settings with these thresholds, if they fit.
+fn with_underused(settings: Settings, thresholds: &[Option<u32>]) -> Option<Settings> {
+    settings.with_underused(thresholds)
+}
+
 #[test]
 fn orders_and_thresholds_of_two_nodes(rt: HostRuntime) {
     let two = Settings::new(2, 16, 63, Report::Totals).expect(&rt, "within the limits");
@@ -53,7 +68,7 @@ fn orders_and_thresholds_of_two_nodes(rt: HostRuntime) {
         (&[1, 9], false),
     ];
     for (list, fits) in orders {
-        assert!(rt; two.with_orders(list).is_some() == fits);
+        assert!(rt; with_orders(two, list).is_some() == fits);
     }
     let thresholds: [(&[Option<u32>], bool); 3] = [
         (&[Some(511), None], true),
@@ -61,24 +76,22 @@ fn orders_and_thresholds_of_two_nodes(rt: HostRuntime) {
         (&[None], false),
     ];
     for (list, fits) in thresholds {
-        assert!(rt; two.with_underused(list).is_some() == fits);
+        assert!(rt; with_underused(two, list).is_some() == fits);
     }
-    let low = two
-        .with_underused([None, Some(4)].as_slice())
-        .expect(&rt, "low thresholds");
-    assert!(rt; low.with_orders([2, 3].as_slice()).is_some());
-    assert!(rt; low.with_orders([2, 2].as_slice()).is_none());
+    let low = with_underused(two, [None, Some(4)].as_slice()).expect(&rt, "low thresholds");
+    assert!(rt; with_orders(low, [2, 3].as_slice()).is_some());
+    assert!(rt; with_orders(low, [2, 2].as_slice()).is_none());
 }
 
 #[test]
 fn words_of_a_line(rt: HostRuntime) {
     let alloc = rt.alloc();
     let words = ["thpsplit", "--blocks", "4096", "--report=journal"];
-    let line = read_line(alloc, words.as_slice());
+    let line = line_of(alloc, words.as_slice());
     assert!(rt;
         matches!(
             line,
-            Ok(Line {
+            Some(Line {
                 blocks: 4096,
                 report: Report::Journal,
                 ..
@@ -93,7 +106,7 @@ fn words_of_a_line(rt: HostRuntime) {
         &["thpsplit", "--check", "x"],
     ];
     for words in refused {
-        assert!(rt; read_line(alloc, words).is_err());
+        assert!(rt; line_of(alloc, words).is_none());
     }
     let words = [
         "thpsplit",
@@ -106,11 +119,11 @@ fn words_of_a_line(rt: HostRuntime) {
         "--underused=off",
         "--check",
     ];
-    let line = read_line(alloc, words.as_slice());
+    let line = line_of(alloc, words.as_slice());
     assert!(rt;
         matches!(
             line,
-            Ok(Line {
+            Some(Line {
                 nodes: 8,
                 workers: 63,
                 orders: Some("2,9"),
@@ -133,33 +146,44 @@ fn sequence_of_a_vector(rt: HostRuntime) {
     assert!(rt; commands.into_vec().len() == 1);
 }
 
+// Whether this is a list of orders.
+fn are_orders(text: &str) -> bool {
+    read_orders(text).is_some()
+}
+
+// Whether this is a list of thresholds.
+fn are_thresholds(text: &str) -> bool {
+    read_underused(text).is_some()
+}
+
 #[test]
 fn lists_of_orders(rt: HostRuntime) {
     let read = read_orders("2,9");
-    assert!(rt; read.is_some_and(|orders| orders.as_slice() == [2, 9].as_slice()));
-    for text in [
-        "",
-        ",",
-        "2,",
-        ",2",
-        "2,,9",
-        "02",
-        "2 9",
-        "x",
-        "1,1,1,1,1,1,1,1,1",
-        "4294967296",
+    assert!(rt; matches!(&read, Some(orders) if orders.as_slice() == [2, 9].as_slice()));
+    for (text, are) in [
+        ("", false),
+        (",", false),
+        ("2,", false),
+        (",2", false),
+        ("2,,9", false),
+        ("02", false),
+        ("2 9", false),
+        ("x", false),
+        ("1,1,1,1,1,1,1,1,1", false),
+        ("4294967296", false),
+        ("1,1,1,1,1,1,1,1", true),
+        ("4294967295", true),
     ] {
-        assert!(rt; read_orders(text).is_none(), "{text}");
+        assert!(rt; are_orders(text) == are, "{text}");
     }
-    assert!(rt; read_orders("1,1,1,1,1,1,1,1").is_some());
-    assert!(rt; read_orders("4294967295").is_some());
 }
 
 #[test]
 fn lists_of_thresholds(rt: HostRuntime) {
     let read = read_underused("off,0,511");
-    assert!(rt; read.is_some_and(|t| t.as_slice() == [None, Some(0), Some(511)].as_slice()));
+    let wanted = [None, Some(0), Some(511)];
+    assert!(rt; matches!(&read, Some(list) if list.as_slice() == wanted.as_slice()));
     for text in ["", "of", "off,", "offf", "OFF", "-1", "0x1", "off off"] {
-        assert!(rt; read_underused(text).is_none(), "{text}");
+        assert!(rt; !are_thresholds(text), "{text}");
     }
 }

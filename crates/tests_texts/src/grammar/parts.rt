@@ -24,24 +24,27 @@ fn by_parts(
     script.finish()
 }
 
-#[test]
-fn parts_of_each_length(rt: HostRuntime) {
-    let settings = Settings::new(1, 16, 1, Report::Totals).expect(&rt, "within the limits");
+/// Whether the setup allocates two pages, and the one worker has two commands.
+fn is_whole(script: &Script) -> bool {
     let alloc_page = Command {
         node: 0,
         op: Op::Alloc,
     };
-    let setup = [alloc_page, alloc_page];
-    for size in 1..60 {
-        let Ok(script) = by_parts(rt.alloc(), &settings, SCRIPT, size) else {
-            assert!(rt; false, "a script");
-            return;
-        };
-        assert!(rt; script.setup.as_slice() == setup.as_slice(), "{size}");
-        assert!(rt; script.workers.as_slice().len() == 1, "{size}");
-        for commands in script.workers.as_slice() {
-            assert!(rt; commands.as_slice().len() == 2, "{size}");
+    match script.workers.as_slice() {
+        [commands] => {
+            commands.as_slice().len() == 2
+                && script.setup.as_slice() == [alloc_page, alloc_page].as_slice()
         }
+        _ => false,
+    }
+}
+
+#[test]
+fn parts_of_each_length(rt: HostRuntime) {
+    let settings = Settings::new(1, 16, 1, Report::Totals).expect(&rt, "within the limits");
+    for size in 1..60 {
+        let told = by_parts(rt.alloc(), &settings, SCRIPT, size);
+        assert!(rt; matches!(&told, Ok(script) if is_whole(script)), "{size}");
     }
 }
 
@@ -62,27 +65,21 @@ fn first_fault_of_parts(rt: HostRuntime) {
     }
 }
 
+/// Whether the next part of a text ends this line, and no other.
+fn ends_one(text: &mut TextInParts, part: &[u8], number: u64, bytes: &[u8]) -> bool {
+    let mut rest = text.next_part(part);
+    let Ok(Some(line)) = text.next_line(&mut rest) else {
+        return false;
+    };
+    let is_line = line.number == number && line.bytes.as_slice() == bytes;
+    is_line && matches!(text.next_line(&mut rest), Ok(None))
+}
+
 #[test]
 fn lines_in_turn(rt: HostRuntime) {
     let mut text = TextInParts::new(rt.alloc());
-    let mut rest = text.next_part(b"one\ntw".as_slice());
-    let Ok(Some(first)) = text.next_line(&mut rest) else {
-        assert!(rt; false, "a line");
-        return;
-    };
-    assert!(rt; first.number == 1);
-    assert!(rt; first.bytes.as_slice() == b"one".as_slice());
-    let Ok(None) = text.next_line(&mut rest) else {
-        assert!(rt; false, "a line begun");
-        return;
-    };
-    let mut rest = text.next_part(b"o\n".as_slice());
-    let Ok(Some(second)) = text.next_line(&mut rest) else {
-        assert!(rt; false, "a line");
-        return;
-    };
-    assert!(rt; second.number == 2);
-    assert!(rt; second.bytes.as_slice() == b"two".as_slice());
+    assert!(rt; ends_one(&mut text, b"one\ntw", 1, b"one"));
+    assert!(rt; ends_one(&mut text, b"o\n", 2, b"two"));
     text.note_fault(TextKind::BadWord);
     assert!(rt; text.fault() == Some((2, TextKind::BadWord)));
     let (line, behind) = text.last_line();

@@ -1,16 +1,42 @@
 //! Scripts as the whole grammar reads them: sections of workers, all commands, and first faults.
 use std::alloc::Global;
-use thp_text::{Command, Op, ReadFault, Report, Settings, TextKind, read_script};
+use thp_text::{Command, Op, ReadFault, Report, Script, Sequence, Settings, TextKind, read_script};
+
+/// What a script of one node and one worker is read as.
+fn read(alloc: Global, script: &[u8]) -> Result<Script, ReadFault> {
+    match Settings::new(1, 16, 1, Report::Totals) {
+        Some(settings) => read_script(alloc, &settings, script),
+        None => Err(ReadFault::OutOfMemory),
+    }
+}
 
 /// The first fault of a script by line and kind, `None` where it has none.
 fn first_fault(alloc: Global, script: &[u8]) -> Option<(u32, TextKind)> {
-    let Some(settings) = Settings::new(1, 16, 1, Report::Totals) else {
-        return Some((0, TextKind::TooLong));
-    };
-    match read_script(alloc, &settings, script) {
+    match read(alloc, script) {
         Err(ReadFault::Text { line, kind }) => Some((line, kind)),
         _ => None,
     }
+}
+
+/// Whether a script is read as these commands of the setup and those of the worker.
+fn reads(alloc: Global, text: &[u8], setup: &[Command], worker: &[Command]) -> bool {
+    match read(alloc, text) {
+        Ok(script) => {
+            script.setup.as_slice() == setup && is_worker(script.workers.as_slice(), worker)
+        }
+        Err(_) => false,
+    }
+}
+
+fn is_worker(workers: &[Sequence<Command>], commands: &[Command]) -> bool {
+    match workers {
+        [worker] => worker.as_slice() == commands,
+        _ => false,
+    }
+}
+
+fn command(op: Op) -> Command {
+    Command { node: 0, op }
 }
 
 #[test]
@@ -40,46 +66,23 @@ fn faults_of_the_whole_grammar(rt: HostRuntime) {
 
 #[test]
 fn sections_and_all_commands(rt: HostRuntime) {
-    let settings = Settings::new(1, 16, 1, Report::Totals).expect(&rt, "within the limits");
     let script =
         b"# setup first\nsetup\nalloc 0\n\nworker 1\nmap 0 7 3 4\ncount 0\ntake 0 8\nsplitnext 0\nputback 0\n";
-    let read = read_script(rt.alloc(), &settings, script.as_slice());
-    let Ok(script) = read else {
-        assert!(rt; false, "a script");
-        return;
-    };
-    let setup = [Command {
-        node: 0,
-        op: Op::Alloc,
-    }];
-    assert!(rt; script.setup.as_slice() == setup.as_slice());
-    let ops = [
-        Op::Map {
+    let commands = [
+        command(Op::Map {
             first: 3,
             count: 4,
             page: 7,
-        },
-        Op::Count,
-        Op::Take { count: 8 },
-        Op::SplitNext,
-        Op::PutBack,
+        }),
+        command(Op::Count),
+        command(Op::Take { count: 8 }),
+        command(Op::SplitNext),
+        command(Op::PutBack),
     ];
-    assert!(rt; script.workers.as_slice().len() == 1);
-    for commands in script.workers.as_slice() {
-        assert!(rt; commands.as_slice().len() == ops.len());
-        for (command, op) in commands.as_slice().iter().zip(ops.as_slice()) {
-            assert!(rt; command.op == *op);
-        }
-    }
+    assert!(rt; reads(rt.alloc(), script, &[command(Op::Alloc)], &commands));
 }
 
 #[test]
 fn without_sections_each_worker_has_no_commands(rt: HostRuntime) {
-    let settings = Settings::new(1, 16, 1, Report::Totals).expect(&rt, "within the limits");
-    let Ok(script) = read_script(rt.alloc(), &settings, b"".as_slice()) else {
-        assert!(rt; false, "a script");
-        return;
-    };
-    assert!(rt; script.workers.as_slice().len() == 1);
-    assert!(rt; script.setup.as_slice().is_empty());
+    assert!(rt; reads(rt.alloc(), b"", &[], &[]));
 }
