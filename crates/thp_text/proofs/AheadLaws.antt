@@ -24,7 +24,7 @@ use Rattle.thp_model.specs.declared.page_call.Loss.TheVariants as loss
 use Rattle.thp_model.specs.declared.page_call.PageCall.TheVariants.{Gain, Loss}
 use Rattle.thp_text.specs.declared.settings.Settings.{Settings}
 use Rattle.thp_text.specs.declared.statement.Statement.TheVariants.{Call}
-use Rattle.thp_text.specs.Ahead.{CommandAhead, IsName, LineAhead, OperandsAhead, WordAhead}
+use Rattle.thp_text.specs.Ahead.{CommandAhead, LineAhead, OperandsAhead}
 use Rattle.thp_text.specs.WordsAhead.{NumberAhead}
 use Rattle.thp_text.specs.Commands.{batch_command, command_of, node_command, page_command, range_command, Reading}
 use Rattle.thp_text.specs.Operands.{reading_of}
@@ -187,6 +187,13 @@ pub of_some : {A : Type 0} (o : Option A) (P Q : A → Type 0) → ((x : A) → 
 of_some None P Q f h = tt
 of_some (Some x) P Q f h = f x h
 
+-- a name of a command whose operands are read so: no byte of it ends a word or a line, and no comment begins with it
+pub record IsName (s : Settings) (name : Text) (reading : Reading) : Type 0 where
+  pub one_word : pieces_at 32 name ≡ name ∷ []
+  pub one_line : pieces_at 10 name ≡ name ∷ []
+  pub says : (line : Text) → says_nothing (name ++ 32 ∷ line) ≡ false
+  pub reads : (words : List Text) → by_words s (name ∷ words) ≡ (reading s words >>= λ command. Ok (Call command))
+
 begins_with_line : (text line rest : Text) → lines_of line ≡ line ∷ [] → text ≡ line ++ 10 ∷ rest → lines_of text ≡ line ∷ lines_of rest
 begins_with_line text line rest one e = rw e (whole_front 10 line rest one)
 
@@ -207,16 +214,12 @@ command_of_name s name reading text operands rest command n e o =
       says = statement_of-read s line.line (Call command) (n.says o.line.line) read;
     }
 
--- and so are the word of a command and its operands where they were read
-pub word_named : {A : Type 0} (s : Settings) (word : CommandWord) (text operands : Text) (read : Option A) (command : A → Command) (rest : A → Text) → WordAhead word text operands
+-- and so they are where operands were read
+pub named : {A : Type 0} (s : Settings) (name : Text) (word : CommandWord) (text operands : Text) (read : Option A) (command : A → Command) (rest : A → Text) → IsName s name (reading_of word) → text ≡ name ++ 32 ∷ operands
     → IfSome read (λ r. OperandsAhead (reading_of word s) operands (command r) (rest r)) → IfSome read (λ r. CommandAhead s text (command r) (rest r))
-word_named s word text operands read command rest a h =
+named s name word text operands read command rest n e h =
     of_some read (λ r. OperandsAhead (reading_of word s) operands (command r) (rest r)) (λ r. CommandAhead s text (command r) (rest r))
-    (λ r o. command_of_name s a.name (reading_of word) text operands (rest r) (command r) (a.is_name s) a.stands o) h
-
--- a text that begins with a name and a space
-pub word_stands : (word : CommandWord) (name text rest : Text) → ((s : Settings) → IsName s name (reading_of word)) → text ≡ name ++ 32 ∷ rest → WordAhead word text rest
-word_stands word name text rest n e = record { name = name; is_name = n; stands = e }
+    (λ r o. command_of_name s name (reading_of word) text operands (rest r) (command r) n e o) h
 
 module _ (s : Settings) where
   pub alloc_is : IsName s (codes "alloc") (reading_of (OfNode Alloc))

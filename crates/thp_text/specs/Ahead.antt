@@ -1,20 +1,17 @@
 -- Commands that are read at the front of a text in one walk over its bytes. No public clause cites this module.
-use Rattle.std.specs.Prelude.{◌≡◌, false, ◌<◌, ◌+◌, ℕ, All, IfSome, List, ◌∷◌, [], ◌++◌, length, Option, Result, Ok}
+use Rattle.std.specs.Prelude.{◌≡◌, ◌<◌, ◌+◌, ℕ, All, IfSome, List, ◌∷◌, [], ◌++◌, length, Option, Result, Ok}
 use Rattle.thp_text.specs.declared.fault.TextKind.{TextKind}
 use Rattle.thp_text.specs.declared.script.Command.{Command}
-use Rattle.thp_text.specs.declared.script.CommandWord.{CommandWord}
 use Rattle.thp_text.specs.declared.script.Script.{Script}
 use Rattle.thp_text.specs.declared.settings.Settings.{Settings}
 use Rattle.thp_text.specs.declared.statement.Statement.TheVariants.{Call}
-use Rattle.thp_text.specs.Commands.{IsCommandFor, Reading}
+use Rattle.thp_text.specs.Commands.{IsCommandFor}
 use Rattle.thp_text.specs.Limits.{max_input}
-use Rattle.thp_text.specs.Operands.{reading_of}
 use Rattle.thp_text.specs.Parts.{lines_spell}
-use Rattle.thp_text.specs.Readings.{◌>>=◌}
 use Rattle.thp_text.specs.Scripts.{Fault}
-use Rattle.thp_text.specs.Statements.{by_words, says_nothing, statement_of, IsSectionFor}
+use Rattle.thp_text.specs.Statements.{statement_of, IsSectionFor}
 use Rattle.thp_text.specs.TextInParts.{told_behind, IsCounted, TextSoFar}
-use Rattle.thp_text.specs.Words.{Text, lines_of, pieces_at, words_of}
+use Rattle.thp_text.specs.Words.{Text, lines_of, words_of}
 
 -- the text begins with a line of these words, and goes on with `rest`
 pub record LineAhead (words : List Text) (text rest : Text) : Type 0 where
@@ -22,19 +19,6 @@ pub record LineAhead (words : List Text) (text rest : Text) : Type 0 where
   pub words_are : words_of line ≡ words
   pub one_line : lines_of line ≡ line ∷ []
   pub stands : text ≡ line ++ 10 ∷ rest
-
--- a name of a command whose operands are read so: no byte of it ends a word or a line, and no comment begins with it
-pub record IsName (s : Settings) (name : Text) (reading : Reading) : Type 0 where
-  pub one_word : pieces_at 32 name ≡ name ∷ []
-  pub one_line : pieces_at 10 name ≡ name ∷ []
-  pub says : (line : Text) → says_nothing (name ++ 32 ∷ line) ≡ false
-  pub reads : (words : List Text) → by_words s (name ∷ words) ≡ (reading s words >>= λ command. Ok (Call command))
-
--- the text begins with a word that names this, and goes on with `rest` behind a space
-pub record WordAhead (word : CommandWord) (text rest : Text) : Type 0 where
-  pub name : Text
-  pub is_name : (s : Settings) → IsName s name (reading_of word)
-  pub stands : text ≡ name ++ 32 ∷ rest
 
 -- the text begins with a line whose words read as this command, and goes on with `rest`
 pub record OperandsAhead (reading : List Text → Result Command TextKind) (text : Text) (command : Command) (rest : Text) : Type 0 where

@@ -1,12 +1,12 @@
-//! Commands read at the front of a text, in one walk over its bytes: their words are cut and known and their numbers folded as
-//! the bytes come. What isn't read so, as a section's line, a comment and each fault, is for `statement` to tell.
+//! The operands of commands read at the front of a text, in one walk over its bytes: they are cut and folded as the bytes come.
+//! What isn't read so, as a section's line, a comment and each fault, is for `statement` to tell.
 ghost use Rattle.std.specs.Prelude.{IfSome};
-ghost use Rattle.thp_text.specs.Ahead.{CommandAhead, OperandsAhead};
+ghost use Rattle.thp_text.specs.Ahead.{OperandsAhead};
 ghost use Rattle.thp_text.specs.Commands.{batch_command, node_command, page_command, range_command};
-ghost use Rattle.thp_text.specs.Operands.{batch_op, call_on};
+ghost use Rattle.thp_text.specs.Operands.{batch_op, call_on, reading_of};
 ghost use Rattle.thp_text.specs.PageCommands.{op_on};
 
-use crate::script::{BatchCall, Command, CommandWord, Op, RangeCall, word_ahead};
+use crate::script::{BatchCall, Command, CommandWord, Op, RangeCall};
 use crate::settings::Settings;
 use crate::words_ahead::number_ahead;
 use thp_model::{MAX_BATCH, PageCall};
@@ -75,16 +75,19 @@ fn batch_command_ahead<'t>(
     Some((Command { node, op }, rest))
 }
 
-/// The command of the line that a text begins with, and what follows the line. `None` says nothing of the line.
+/// The operands of a command, as its word wants them. `None` says nothing of the line.
 #[inline(always)]
-pub(crate) fn command_ahead<'t>(settings: &Settings, text: &'t [u8]) -> Option<(Command, &'t [u8])>
-    ensures { IfSome result (λ read. CommandAhead settings.now text.now read.0 read.1.now) }
+pub(crate) fn operands_ahead<'t>(
+    settings: &Settings,
+    word: CommandWord,
+    text: &'t [u8],
+) -> Option<(Command, &'t [u8])>
+    ensures { IfSome result (λ read. OperandsAhead (reading_of word settings.now) text.now read.0 read.1.now) }
 {
-    let (word, operands) = word_ahead(text)?;
     match word {
-        CommandWord::OfNode(op) => node_command_ahead(settings, op, operands),
-        CommandWord::OfPage(call) => page_command_ahead(settings, call, operands),
-        CommandWord::OfRange(call) => range_command_ahead(settings, call, operands),
-        CommandWord::OfBatch(call) => batch_command_ahead(settings, call, operands),
+        CommandWord::OfNode(op) => node_command_ahead(settings, op, text),
+        CommandWord::OfPage(call) => page_command_ahead(settings, call, text),
+        CommandWord::OfRange(call) => range_command_ahead(settings, call, text),
+        CommandWord::OfBatch(call) => batch_command_ahead(settings, call, text),
     }
 }

@@ -1,11 +1,13 @@
 //! Scripts as values, and the words of their commands.
 ghost use Rattle.std.specs.Prelude.{◌≡◌, IfSome, Some};
-ghost use Rattle.thp_text.specs.Ahead.{WordAhead};
+ghost use Rattle.thp_text.specs.Ahead.{CommandAhead};
 ghost use Rattle.thp_text.specs.Operands.{batch_op, call_on, Names};
 ghost use Rattle.thp_text.specs.PageCommands.{op_on, page_call_of};
 
+use crate::ahead::operands_ahead;
 use crate::fault::TextKind;
 use crate::sequence::Sequence;
+use crate::settings::Settings;
 use crate::words_ahead::behind_name;
 use thp_model::{Gain, Loss, PageCall};
 
@@ -177,90 +179,113 @@ pub(crate) fn command_word(name: &[u8]) -> Result<CommandWord, TextKind>
 }
 
 #[inline(always)]
-fn map_word(text: &[u8]) -> Option<(CommandWord, &[u8])>
-    ensures { IfSome result (λ read. WordAhead read.0 text.now read.1.now) }
+fn map_ahead<'t>(settings: &Settings, text: &'t [u8]) -> Option<(Command, &'t [u8])>
+    ensures { IfSome result (λ read. CommandAhead settings.now text.now read.0 read.1.now) }
 {
-    if let Some(rest) = behind_name(b"map", text) {
-        return Some((CommandWord::OfRange(RangeCall::Map), rest));
+    if let Some(operands) = behind_name(b"map", text) {
+        let word = CommandWord::OfRange(RangeCall::Map);
+        return operands_ahead(settings, word, operands);
     }
-    let rest = behind_name(b"mapwhole", text)?;
-    Some((CommandWord::OfPage(PageCall::Gain(Gain::MapWhole)), rest))
+    let operands = behind_name(b"mapwhole", text)?;
+    operands_ahead(
+        settings,
+        CommandWord::OfPage(PageCall::Gain(Gain::MapWhole)),
+        operands,
+    )
 }
 
 #[inline(always)]
-fn unmap_or_unpin_word(text: &[u8]) -> Option<(CommandWord, &[u8])>
-    ensures { IfSome result (λ read. WordAhead read.0 text.now read.1.now) }
+fn unmap_ahead<'t>(settings: &Settings, text: &'t [u8]) -> Option<(Command, &'t [u8])>
+    ensures { IfSome result (λ read. CommandAhead settings.now text.now read.0 read.1.now) }
 {
-    if let Some(rest) = behind_name(b"unmap", text) {
-        return Some((CommandWord::OfRange(RangeCall::Unmap), rest));
+    if let Some(operands) = behind_name(b"unmap", text) {
+        let word = CommandWord::OfRange(RangeCall::Unmap);
+        return operands_ahead(settings, word, operands);
     }
-    if let Some(rest) = behind_name(b"unpin", text) {
-        return Some((CommandWord::OfPage(PageCall::Loss(Loss::Unpin)), rest));
+    if let Some(operands) = behind_name(b"unpin", text) {
+        let word = CommandWord::OfPage(PageCall::Loss(Loss::Unpin));
+        return operands_ahead(settings, word, operands);
     }
-    let rest = behind_name(b"unmapwhole", text)?;
-    Some((CommandWord::OfPage(PageCall::Loss(Loss::UnmapWhole)), rest))
+    let operands = behind_name(b"unmapwhole", text)?;
+    operands_ahead(
+        settings,
+        CommandWord::OfPage(PageCall::Loss(Loss::UnmapWhole)),
+        operands,
+    )
 }
 
 #[inline(always)]
-fn split_or_scan_word(text: &[u8]) -> Option<(CommandWord, &[u8])>
-    ensures { IfSome result (λ read. WordAhead read.0 text.now read.1.now) }
+fn split_or_scan_ahead<'t>(settings: &Settings, text: &'t [u8]) -> Option<(Command, &'t [u8])>
+    ensures { IfSome result (λ read. CommandAhead settings.now text.now read.0 read.1.now) }
 {
-    if let Some(rest) = behind_name(b"splitpmd", text) {
-        return Some((CommandWord::OfPage(PageCall::Gain(Gain::SplitPmd)), rest));
+    if let Some(operands) = behind_name(b"splitpmd", text) {
+        let word = CommandWord::OfPage(PageCall::Gain(Gain::SplitPmd));
+        return operands_ahead(settings, word, operands);
     }
-    if let Some(rest) = behind_name(b"scan", text) {
-        return Some((CommandWord::OfBatch(BatchCall::Scan), rest));
+    if let Some(operands) = behind_name(b"scan", text) {
+        let word = CommandWord::OfBatch(BatchCall::Scan);
+        return operands_ahead(settings, word, operands);
     }
-    let rest = behind_name(b"splitnext", text)?;
-    Some((CommandWord::OfNode(Op::SplitNext), rest))
+    let operands = behind_name(b"splitnext", text)?;
+    operands_ahead(settings, CommandWord::OfNode(Op::SplitNext), operands)
 }
 
 #[inline(always)]
-fn pin_or_put_back_word(text: &[u8]) -> Option<(CommandWord, &[u8])>
-    ensures { IfSome result (λ read. WordAhead read.0 text.now read.1.now) }
+fn pin_or_put_back_ahead<'t>(settings: &Settings, text: &'t [u8]) -> Option<(Command, &'t [u8])>
+    ensures { IfSome result (λ read. CommandAhead settings.now text.now read.0 read.1.now) }
 {
-    if let Some(rest) = behind_name(b"pin", text) {
-        return Some((CommandWord::OfPage(PageCall::Gain(Gain::Pin)), rest));
+    if let Some(operands) = behind_name(b"pin", text) {
+        let word = CommandWord::OfPage(PageCall::Gain(Gain::Pin));
+        return operands_ahead(settings, word, operands);
     }
-    let rest = behind_name(b"putback", text)?;
-    Some((CommandWord::OfNode(Op::PutBack), rest))
+    let operands = behind_name(b"putback", text)?;
+    operands_ahead(settings, CommandWord::OfNode(Op::PutBack), operands)
 }
 
 #[inline(always)]
-fn count_or_close_word(text: &[u8]) -> Option<(CommandWord, &[u8])>
-    ensures { IfSome result (λ read. WordAhead read.0 text.now read.1.now) }
+fn count_or_close_ahead<'t>(settings: &Settings, text: &'t [u8]) -> Option<(Command, &'t [u8])>
+    ensures { IfSome result (λ read. CommandAhead settings.now text.now read.0 read.1.now) }
 {
-    if let Some(rest) = behind_name(b"count", text) {
-        return Some((CommandWord::OfNode(Op::Count), rest));
+    if let Some(operands) = behind_name(b"count", text) {
+        let word = CommandWord::OfNode(Op::Count);
+        return operands_ahead(settings, word, operands);
     }
-    let rest = behind_name(b"close", text)?;
-    Some((CommandWord::OfNode(Op::Close), rest))
+    let operands = behind_name(b"close", text)?;
+    operands_ahead(settings, CommandWord::OfNode(Op::Close), operands)
 }
 
-/// What the word names that a text begins with, and what follows the space behind it. `None` says nothing of the text.
+/// The command of the line that a text begins with, and what follows the line. `None` says nothing of the line. Each word goes
+/// to its operands at once: a word that was known in one place and matched on in another took more instructions.
 #[inline(always)]
-pub(crate) fn word_ahead(text: &[u8]) -> Option<(CommandWord, &[u8])>
-    ensures { IfSome result (λ read. WordAhead read.0 text.now read.1.now) }
+pub(crate) fn command_ahead<'t>(settings: &Settings, text: &'t [u8]) -> Option<(Command, &'t [u8])>
+    ensures { IfSome result (λ read. CommandAhead settings.now text.now read.0 read.1.now) }
 {
     match *text.first()? {
-        b'a' => Some((CommandWord::OfNode(Op::Alloc), behind_name(b"alloc", text)?)),
-        b'm' => map_word(text),
-        b'u' => unmap_or_unpin_word(text),
-        b's' => split_or_scan_word(text),
-        b'p' => pin_or_put_back_word(text),
-        b'c' => count_or_close_word(text),
-        b't' => Some((
+        b'a' => operands_ahead(
+            settings,
+            CommandWord::OfNode(Op::Alloc),
+            behind_name(b"alloc", text)?,
+        ),
+        b'm' => map_ahead(settings, text),
+        b'u' => unmap_ahead(settings, text),
+        b's' => split_or_scan_ahead(settings, text),
+        b'p' => pin_or_put_back_ahead(settings, text),
+        b'c' => count_or_close_ahead(settings, text),
+        b't' => operands_ahead(
+            settings,
             CommandWord::OfBatch(BatchCall::Take),
             behind_name(b"take", text)?,
-        )),
-        b'w' => Some((
+        ),
+        b'w' => operands_ahead(
+            settings,
             CommandWord::OfRange(RangeCall::Write),
             behind_name(b"write", text)?,
-        )),
-        b'z' => Some((
+        ),
+        b'z' => operands_ahead(
+            settings,
             CommandWord::OfRange(RangeCall::Zero),
             behind_name(b"zero", text)?,
-        )),
+        ),
         _ => None,
     }
 }

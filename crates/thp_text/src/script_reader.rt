@@ -7,10 +7,9 @@ ghost use Rattle.thp_text.specs.Scripts.{placed, script_of, IsScriptFor, TellsFa
 ghost use Rattle.thp_text.specs.Words.{Text};
 ghost use Rattle.thp_text.specs.declared.fault.ReadFault.TheVariants.{OutOfMemory};
 
-use crate::ahead::command_ahead;
 use crate::fault::ReadFault;
 use crate::lines::fault_behind;
-use crate::script::{Command, Script};
+use crate::script::{Command, Script, command_ahead};
 use crate::sequence::Sequence;
 use crate::settings::Settings;
 use crate::statement::{Statement, section_after, statement_in};
