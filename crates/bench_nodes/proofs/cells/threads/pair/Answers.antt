@@ -1,9 +1,8 @@
-use denote.Param.Send.{param_send, arg_send}
-use Rattle.thp_cell.proofs.Crossings.{crossings}
+use Rattle.thp_cell.proofs.Crossings.{sharing}
 use Rattle.bench_nodes.proofs.cells.threads.pair.Goals as goal
 
 pub join-requires-send-F : goal.join-requires-send-F
-join-requires-send-F g c κs within = search (param_send, arg_send, crossings) depth 40
+join-requires-send-F g c κs within = search sharing depth 20
 
 pub join-requires-send-A : goal.join-requires-send-A
-join-requires-send-A g c κs within = search (param_send, arg_send, crossings) depth 40
+join-requires-send-A g c κs within = search sharing depth 20
