@@ -36,10 +36,10 @@ pub record Alike (a b : Call) (v w : What) : Type 0 where
 
 one_of : (caller : ℕ) (a b : Call) (v w : What) → Alike a b v w → (old new : EngineState) (answer : Answer) → IsLow old → OneCall caller a v old new answer → OneCall caller b w old new answer
 one_of caller a b v w k old new (Ok u) low d =
-    let ok : refusal old.node.shape old.node.journal b ≡ None = sym (k.same _ _ low) ∙ d.1.0.0 in
-    (d.0, (ok, subst (λ (x : What). Did old.node new.node caller (by caller x ∷ [])) (k.whole _ _ low ok) d.1.0.1), tt)
+    let ok : refusal old.node.shape old.node.journal b ≡ None = sym (k.same _ _ low) ∙ d.1.0 in
+    (d.0, (ok, subst (λ (x : What). Did old.node new.node caller (by caller x ∷ [])) (k.whole _ _ low ok) d.1.1), tt)
 one_of caller a b v w k old new (Err f) low d =
-    (d.0, tt, subst (λ (r : Option Refusal). Fails caller r 1 old new f) (k.same _ _ low) d.1.1)
+    (d.0, tt, subst (λ (r : Option Refusal). Fails caller r 1 old new f) (k.same _ _ low) d.2)
 
 one : (caller : ℕ) (a b : Call) (v w : What) → Alike a b v w → (old new : Option EngineState) (answer : Answer) → IfSome old IsLow → Does old new answer (OneCall caller a v) → Does old new answer (OneCall caller b w)
 one caller a b v w k None None answer low d = d
@@ -51,11 +51,11 @@ lose_of : (caller p : ℕ) (a b : Call) (v w : Outcome → List Bool → What) �
     LoseCall caller a p v old new (answer_with answer t) → LoseCall caller b p w old new (answer_with answer t)
 lose_of caller p a b v w k t old new (Ok u) low d =
     let no : List Bool = [] in
-    let ok : refusal old.node.shape old.node.journal b ≡ None = sym ((k Stays no).same _ _ low) ∙ d.1.0 in
-    (d.0, ok, subst (λ (x : What). Did old.node new.node caller (by caller x ∷ [])) ((k _ _).whole _ _ low ok) d.1.1.0, d.1.1.1.0, d.1.1.1.1.0, tt)
+    let ok : refusal old.node.shape old.node.journal b ≡ None = sym ((k Stays no).same _ _ low) ∙ d.1 in
+    (d.0, ok, subst (λ (x : What). Did old.node new.node caller (by caller x ∷ [])) ((k _ _).whole _ _ low ok) d.2, d.3, d.4, tt)
 lose_of caller p a b v w k t old new (Err f) low d =
     let no : List Bool = [] in
-    (d.0, tt, tt, tt, tt, subst (λ (r : Option Refusal). Fails caller r 1 old new f) ((k Stays no).same _ _ low) d.1.1.1.1.1)
+    (d.0, tt, tt, tt, tt, subst (λ (r : Option Refusal). Fails caller r 1 old new f) ((k Stays no).same _ _ low) d.5)
 
 lose : (caller p : ℕ) (a b : Call) (v w : Outcome → List Bool → What) → ((o : Outcome) (r : List Bool) → Alike a b (v o r) (w o r)) → (t : ThpDone) (old new : Option EngineState) (answer : Answer) → IfSome old IsLow →
     Does old new answer (λ o n x. LoseCall caller a p v o n (answer_with x t)) → Does old new answer (λ o n x. LoseCall caller b p w o n (answer_with x t))
@@ -68,10 +68,10 @@ lose caller p a b v w k t (Some old) (Some new) answer low d = lose_of caller p 
 
 pass_of_one : (caller : ℕ) (a b : Call) (v w : What) → Alike a b v w → (old new : SharedState) (answer : PassAnswer) → IsLowPass old → PassOne caller a v old new answer → PassOne caller b w old new answer
 pass_of_one caller a b v w k old new (Ok u) low d =
-    (d.0, one_as old.pass new.pass caller a b v w (λ h. k.same _ h low) (λ h ok. k.whole _ h low ok) d.1.0, tt)
+    (d.0, one_as old.pass new.pass caller a b v w (λ h. k.same _ h low) (λ h ok. k.whole _ h low ok) d.1, tt)
 pass_of_one caller a b v w k old new (Err f) low d =
     let low : new.pass.shape.order ≤ max_order = subst (λ (s : SharedState). s.pass.shape.order ≤ max_order) (sym d.0) low in
-    (d.0, tt, subst (λ (r : Option Refusal). PassFails caller r 1 old.pass new.pass f) (k.same _ _ low) d.1.1)
+    (d.0, tt, subst (λ (r : Option Refusal). PassFails caller r 1 old.pass new.pass f) (k.same _ _ low) d.2)
 
 pass_one : (caller : ℕ) (a b : Call) (v w : What) → Alike a b v w → (old new : Option SharedState) (answer : PassAnswer) → IfSome old IsLowPass → PassDoes old new answer (PassOne caller a v) → PassDoes old new answer (PassOne caller b w)
 pass_one caller a b v w k None None answer low d = d
@@ -82,13 +82,13 @@ pass_one caller a b v w k (Some old) (Some new) answer low d = pass_of_one calle
 pass_of_lost : (caller p : ℕ) (a b : Call) (v w : Outcome → List Bool → What) → ((o : Outcome) (r : List Bool) → Alike a b (v o r) (w o r)) → (t : ThpDone) (old new : SharedState) (answer : PassAnswer) → IsLowPass old →
     PassLost caller a p v old new (pass_answer_with answer t) → PassLost caller b p w old new (pass_answer_with answer t)
 pass_of_lost caller p a b v w k t old new (Ok u) low d =
-    let x = d.1.0 in
+    let x = d.1 in
     let done : Done = x.0 in
-    (d.0, (done, x.1.0, x.1.1.0, lose_as old.pass new.pass caller p a b v w done (λ h. (k done.outcome done.released).same _ h low) (λ h ok. (k done.outcome done.released).whole _ h low ok) x.1.1.1), tt)
+    (d.0, (done, x.1, x.2, lose_as old.pass new.pass caller p a b v w done (λ h. (k done.outcome done.released).same _ h low) (λ h ok. (k done.outcome done.released).whole _ h low ok) x.3), tt)
 pass_of_lost caller p a b v w k t old new (Err f) low d =
     let no : List Bool = [] in
     let low : new.pass.shape.order ≤ max_order = subst (λ (s : SharedState). s.pass.shape.order ≤ max_order) (sym d.0) low in
-    (d.0, tt, subst (λ (r : Option Refusal). PassFails caller r 1 old.pass new.pass f) ((k Stays no).same _ _ low) d.1.1)
+    (d.0, tt, subst (λ (r : Option Refusal). PassFails caller r 1 old.pass new.pass f) ((k Stays no).same _ _ low) d.2)
 
 pass_lost : (caller p : ℕ) (a b : Call) (v w : Outcome → List Bool → What) → ((o : Outcome) (r : List Bool) → Alike a b (v o r) (w o r)) → (t : ThpDone) (old new : Option SharedState) (answer : PassAnswer) → IfSome old IsLowPass →
     PassDoes old new answer (λ o n x. PassLost caller a p v o n (pass_answer_with x t)) → PassDoes old new answer (λ o n x. PassLost caller b p w o n (pass_answer_with x t))
