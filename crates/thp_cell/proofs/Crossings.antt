@@ -1,7 +1,7 @@
 -- Passes and batches may go to another thread, and cells may be shared by threads: what each type is made of may.
 use denote.RattleType.{RattleType}
 use mir.Syntax.{Dict}
-use denote.Param.Send.{IsSend, IsSync, view_send, view_sync, sendable, param_send, arg_send, struct_send, recorded_send, shr_send}
+use denote.Param.Send.{IsSend, IsSync, view_send, view_sync, sendable, param_send, arg_send, struct_send, recorded_send, plain_send, shr_send}
 use denote.Param.SendFields.{declared_send, declared_sync}
 use Rattle.std.proofs.Crossing.{crosses, Vec-send, send, sync, frees}
 use Rattle.std.specs.contracts.alloc.Global as Global
@@ -83,6 +83,9 @@ kept_pass_send = pass_send keeps.dict keeps.dict Kept.the_row keeps.ghosts kept_
 -- what a caller's threads ask of what they are given
 pub ruleset crossings = (sendable, crosses, kept_cell_sync, kept_pass_send, batch_send)
 
+both : {A B : Type 0} → A → B → A × B
+both a b = (a, b)
+
 -- What closures ask that hold a shared cell, passes, batches and plain values alone. A search by these few rules takes a second, where
 -- one by all takes minutes.
-pub ruleset sharing = (param_send, arg_send, struct_send, recorded_send, shr_send, kept_cell_sync, kept_pass_send, batch_send)
+pub ruleset sharing = (tt, both, param_send, arg_send, struct_send, recorded_send, plain_send, shr_send, kept_cell_sync, kept_pass_send, batch_send)
