@@ -202,10 +202,13 @@ pub(crate) fn word_ahead(version: Version, text: &[u8]) -> Option<(EventWord, &[
 pub(crate) fn outcome_of(word: &[u8]) -> Result<Outcome, TextKind>
     ensures { result ≡ outcome_of word.now }
 {
-    match word {
-        b"stays" => Ok(Outcome::Stays),
-        b"queued" => Ok(Outcome::Queued),
-        b"freed" => Ok(Outcome::Freed),
-        _ => Err(TextKind::BadWord),
+    if word == b"stays".as_slice() {
+        Ok(Outcome::Stays)
+    } else if word == b"queued".as_slice() {
+        Ok(Outcome::Queued)
+    } else if word == b"freed".as_slice() {
+        Ok(Outcome::Freed)
+    } else {
+        Err(TextKind::BadWord)
     }
 }

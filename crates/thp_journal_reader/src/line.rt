@@ -26,11 +26,14 @@ pub enum Line {
 fn version_of(word: &[u8]) -> Result<Version, TextKind>
     ensures { result ≡ version_of word.now }
 {
-    match word {
-        b"1" => Ok(Version::Plain),
-        b"2" => Ok(Version::Orders),
-        b"3" => Ok(Version::Underused),
-        _ => Err(TextKind::BadNumber),
+    if word == b"1".as_slice() {
+        Ok(Version::Plain)
+    } else if word == b"2".as_slice() {
+        Ok(Version::Orders)
+    } else if word == b"3".as_slice() {
+        Ok(Version::Underused)
+    } else {
+        Err(TextKind::BadNumber)
     }
 }
 
