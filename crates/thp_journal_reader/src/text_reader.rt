@@ -18,10 +18,12 @@ use thp_text::{TextInParts, TextKind, WholeLine, fault_behind};
 fn fault_at(behind: &[u8], place: Place) -> Option<TextKind>
     ensures { result ≡ fault_at (fault_behind behind.now) place }
 {
-    match (fault_behind(behind), place) {
-        (Some(kind), _) => Some(kind),
-        (None, Place::Ended { .. }) => None,
-        (None, _) => Some(TextKind::Cut),
+    if let Some(kind) = fault_behind(behind) {
+        return Some(kind);
+    }
+    match place {
+        Place::Ended { .. } => None,
+        _ => Some(TextKind::Cut),
     }
 }
 
