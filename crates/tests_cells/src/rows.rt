@@ -5,13 +5,13 @@ ghost use Rattle.thp_cell.specs.Views.{HasCaller};
 ghost use Rattle.thp_cell.specs.Calls.{at_front};
 
 use crate::steps::{
-    allocate, cell_of, count_is, freed, is_allocation, pin_page, queue_page, queued, refused,
-    return_pages, scan_pages, scanned, split_mapping, stays, take_pages, try_page, unmap,
+    allocate, cell_of, count_is, freed, is_allocation, pin_page, queue_page, queued, refuse_page,
+    refused, return_pages, scan_pages, scanned, split_mapping, stays, take_pages, try_page, unmap,
 };
 use std::alloc::Global;
 use std::process::Abort;
 use thp_cell::{Busy, CellFault, Hold, NodeCell, Pass};
-use thp_model::{PageId, Refusal, Shape};
+use thp_model::{Event, PageId, Refusal, Shape};
 use thp_node::{Batch, NewFault, Node, Tried};
 
 // Takes the node for a hold, which nobody has.
@@ -52,6 +52,14 @@ fn call_round_a_hold(rt: &impl Abort, cell: &NodeCell, a: Pass, mut b: Pass) -> 
     (a, b)
 }
 
+// The events are one, the allocation of this page by this caller.
+fn expect_allocation(rt: &impl Abort, events: &[Event], caller: u32, page: PageId) {
+    assert!(rt; events.len() == 1);
+    for event in events {
+        assert!(rt; is_allocation(event, caller, page));
+    }
+}
+
 #[test]
 fn busy_while_held(rt: HostRuntime) {
     let (cell, pass) = cell_of(&rt, rt.alloc(), 16, 2);
@@ -60,12 +68,7 @@ fn busy_while_held(rt: HostRuntime) {
     let pass = cell.join(a, b);
     assert!(rt; pass.callers() == (0, 2));
     let node = cell.finish(pass);
-    assert!(rt; node.journal().len() == 1);
-    assert!(rt;
-        node.journal()
-            .iter()
-            .all(|event| is_allocation(event, 1, PageId(0)))
-    );
+    expect_allocation(&rt, node.journal(), 1, PageId(0));
 }
 
 #[test]
@@ -145,7 +148,7 @@ fn close_and_free(rt: &impl Abort, cell: &NodeCell, pass: &mut Pass, page: PageI
     ensures same { pass.new ≡ at_front pass.old pass.new.front }
 {
     assert!(rt; cell.close(pass, 0) == Ok(()));
-    assert!(rt; cell.alloc_page(pass, 0) == refused(Refusal::Closed));
+    refuse_page(rt, cell, pass, 0, Refusal::Closed);
     unmap(rt, cell, pass, 0, page, 0, 1, stays());
     unmap(rt, cell, pass, 0, page, 2, 510, freed());
 }
@@ -187,6 +190,17 @@ fn try_and_return(rt: &impl Abort, cell: &NodeCell, pass: &mut Pass, mut batch: 
     return_pages(rt, cell, pass, batch, 0);
 }
 
+// Queues the pages 0 to 2.
+fn queue_three(rt: &impl Abort, cell: &NodeCell, pass: &mut Pass)
+    requires cell { pass.old.cell ≡ cell.now }
+    requires caller { HasCaller pass.old 0 }
+    ensures same { pass.new ≡ at_front pass.old pass.new.front }
+{
+    queue_page(rt, cell, pass, 0, PageId(0));
+    queue_page(rt, cell, pass, 0, PageId(1));
+    queue_page(rt, cell, pass, 0, PageId(2));
+}
+
 // Two callers take the pages 0 and 1, and page 2; the second frees page 1 before the first tries it.
 fn free_across_batches(rt: &impl Abort, cell: &NodeCell, a: &mut Pass, b: &mut Pass)
     requires a_cell { a.old.cell ≡ cell.now }
@@ -209,9 +223,7 @@ fn free_across_batches(rt: &impl Abort, cell: &NodeCell, a: &mut Pass, b: &mut P
 fn frees_across_batches(rt: HostRuntime) {
     let (cell, pass) = cell_of(&rt, rt.alloc(), 16, 2);
     let (mut a, mut b) = cell.split(pass, 1);
-    queue_page(&rt, &cell, &mut a, 0, PageId(0));
-    queue_page(&rt, &cell, &mut a, 0, PageId(1));
-    queue_page(&rt, &cell, &mut a, 0, PageId(2));
+    queue_three(&rt, &cell, &mut a);
     free_across_batches(&rt, &cell, &mut a, &mut b);
     let pass = cell.join(a, b);
     let node = cell.finish(pass);

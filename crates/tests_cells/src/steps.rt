@@ -17,8 +17,13 @@ fn cell_with(rt: &impl Abort, alloc: Global, shape: Shape, callers: u32) -> (Nod
     ensures callers { result.1.callers ≡ callers }
     ensures few { callers ≤ 64 }
 {
-    let node = Node::new(alloc, shape).expect(rt, "a node of this shape");
-    NodeCell::new(alloc, node, callers).expect(rt, "a cell of these callers")
+    let Ok(node) = Node::new(alloc, shape) else {
+        panic!(rt; "no node of this shape");
+    };
+    match NodeCell::new(alloc, node, callers) {
+        Ok(made) => made,
+        Err(_) => panic!(rt; "no cell of these callers"),
+    }
 }
 
 // The same over a node of order 9 with these blocks.
@@ -110,6 +115,22 @@ pub(crate) fn allocate(rt: &impl Abort, cell: &NodeCell, pass: &mut Pass, caller
     ensures batches { BatchesStay pass.old pass.new }
 {
     assert!(rt; cell.alloc_page(pass, caller) == Ok(page));
+}
+
+// No page is allocated, for this reason.
+pub(crate) fn refuse_page(
+    rt: &impl Abort,
+    cell: &NodeCell,
+    pass: &mut Pass,
+    caller: u32,
+    refusal: Refusal,
+)
+    requires cell { pass.old.cell ≡ cell.now }
+    requires caller { HasCaller pass.old caller }
+    ensures same { pass.new ≡ at_front pass.old pass.new.front }
+    ensures batches { BatchesStay pass.old pass.new }
+{
+    assert!(rt; cell.alloc_page(pass, caller) == refused(refusal));
 }
 
 // Splits the PMD mapping of a page.
@@ -220,6 +241,12 @@ pub(crate) fn scan_pages(
     assert!(rt; cell.scan(pass, caller, n) == Ok(answer));
 }
 
+// These are the first and the last of the pages.
+fn expect_ends(rt: &impl Abort, pages: &[PageId], ends: (PageId, PageId)) {
+    assert!(rt; pages.first() == Some(&ends.0));
+    assert!(rt; pages.last() == Some(&ends.1));
+}
+
 // Takes up to `n` pages, of which these are the first and the last.
 pub(crate) fn take_pages(
     rt: &impl Abort,
@@ -239,8 +266,7 @@ pub(crate) fn take_pages(
 {
     match cell.take(pass, caller, n) {
         Ok(batch) => {
-            let pages = batch.pages();
-            assert!(rt; (pages.first(), pages.last()) == (Some(&ends.0), Some(&ends.1)));
+            expect_ends(rt, batch.pages(), ends);
             batch
         }
         Err(_) => panic!(rt; "a take was refused"),
@@ -266,6 +292,11 @@ pub(crate) fn try_page(
     assert!(rt; cell.split_next(pass, batch) == Ok(answer));
 }
 
+// So many pages returned, and none was dropped.
+fn expect_returned(rt: &impl Abort, reply: BackReply, pages: u32) {
+    assert!(rt; (reply.back, reply.dropped) == (pages, 0));
+}
+
 // Puts a batch back, of which so many pages return and none is dropped.
 pub(crate) fn return_pages(
     rt: &impl Abort,
@@ -281,7 +312,7 @@ pub(crate) fn return_pages(
     ensures batches { BatchesStay pass.old pass.new }
 {
     match cell.put_back(pass, batch) {
-        Ok(BackReply { back, dropped }) => assert!(rt; (back, dropped) == (pages, 0)),
+        Ok(reply) => expect_returned(rt, reply, pages),
         Err(_) => panic!(rt; "a put-back was refused"),
     }
 }

@@ -5,8 +5,8 @@ ghost use Rattle.thp_cell.specs.Views.{HasCaller};
 ghost use Rattle.thp_cell.specs.Calls.{at_front, BatchesStay};
 
 use crate::steps::{
-    allocate, count_is, done, pin_page, queued, refused, return_pages, scan_pages, scanned,
-    small_cell_of, split_mapping, stays, take_pages, try_page, unmap, write_data,
+    allocate, count_is, done, pin_page, queued, refuse_page, refused, return_pages, scan_pages,
+    scanned, small_cell_of, split_mapping, stays, take_pages, try_page, unmap, write_data,
 };
 use std::process::Abort;
 use thp_cell::{NodeCell, Pass};
@@ -84,7 +84,7 @@ fn block_of_a_live_page(rt: HostRuntime) {
     let (cell, mut pass) = small_cell_of(&rt, rt.alloc(), 1);
     allocate(&rt, &cell, &mut pass, 0, PAGE);
     scan_pages(&rt, &cell, &mut pass, 0, 1, scanned(1, 1, 0, 0, 0, 0));
-    assert!(rt; cell.alloc_page(&mut pass, 0) == refused(Refusal::NoBlock));
+    refuse_page(&rt, &cell, &mut pass, 0, Refusal::NoBlock);
     unmap(
         &rt,
         &cell,

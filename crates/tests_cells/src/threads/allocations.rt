@@ -3,11 +3,11 @@ ghost use Rattle.std.specs.Prelude.{◌≡◌};
 ghost use Rattle.thp_cell.specs.Views.{HasCaller};
 ghost use Rattle.thp_cell.specs.Calls.{at_front};
 
-use crate::threads::cells::cell_of;
+use crate::steps::{cell_of, is_allocation};
 use std::process::Abort;
 use std::thread;
 use thp_cell::{NodeCell, Pass};
-use thp_model::{Event, PageId, What};
+use thp_model::{Event, PageId};
 
 // Allocates until 20 pages were answered, or gives up after 50,000,000 calls.
 fn allocate_20(cell: &NodeCell, pass: Pass, caller: u32) -> (Pass, u32)
@@ -28,24 +28,17 @@ fn allocate_20(cell: &NodeCell, pass: Pass, caller: u32) -> (Pass, u32)
     (pass, pages)
 }
 
-// The event is the allocation of this page by this caller.
-fn is_allocation(event: &Event, caller: u32, page: PageId) -> bool {
-    match event.what {
-        What::Alloc {
-            page: allocated,
-            block: _,
-        } => event.caller == caller && allocated == page,
-        _ => false,
-    }
-}
-
 // The events are 40 allocations, in the order of the pages' numbers, and 20 of them by caller 1.
 fn are_40_allocations(rt: &impl Abort, events: &[Event]) {
     assert!(rt; events.len() == 40);
-    assert!(rt; events.iter().filter(|event| event.caller == 1).count() == 20);
+    let mut by_caller_1 = 0u32;
     for (number, event) in events.iter().enumerate() {
         assert!(rt; is_allocation(event, event.caller, PageId(number as u64)));
+        if event.caller == 1 {
+            by_caller_1 = by_caller_1.wrapping_add(1);
+        }
     }
+    assert!(rt; by_caller_1 == 20);
 }
 
 #[test]

@@ -6,7 +6,7 @@ ghost use Rattle.thp_node.specs.Batches.{IsInFront};
 ghost use Rattle.thp_cell.specs.Views.{HasCaller, HasAll};
 ghost use Rattle.thp_cell.specs.Calls.{at_front, BatchesStay};
 
-use crate::threads::cells::cell_of;
+use crate::steps::cell_of;
 use std::alloc::Global;
 use std::process::Abort;
 use std::thread;
@@ -20,7 +20,7 @@ use thp_node::{BackReply, Batch, Tried};
 type Logged = (Pass, Vec<Answer>);
 
 // What a call was answered, as far as the answer tells it.
-#[derive(Clone, Copy, PartialEq, Eq, Debug)]
+#[derive(Clone, Copy, PartialEq, Eq)]
 enum Answer {
     Page(PageId),
     PmdSplit(PageId),
@@ -162,6 +162,12 @@ fn shrink(
     }
 }
 
+fn note_taken(log: &mut Vec<Answer>, pages: &[PageId]) {
+    for &page in pages {
+        note(log, Answer::Taken(page));
+    }
+}
+
 fn take(cell: &NodeCell, pass: &mut Pass, caller: u32, log: &mut Vec<Answer>) -> Option<Batch>
     requires cell { pass.old.cell ≡ cell.now }
     requires caller { HasCaller pass.old caller }
@@ -171,12 +177,21 @@ fn take(cell: &NodeCell, pass: &mut Pass, caller: u32, log: &mut Vec<Answer>) ->
 {
     match cell.take(pass, caller, 3) {
         Ok(batch) => {
-            for &page in batch.pages() {
-                note(log, Answer::Taken(page));
-            }
+            note_taken(log, batch.pages());
             Some(batch)
         }
         Err(_) => None,
+    }
+}
+
+fn note_tried(log: &mut Vec<Answer>, pages: &[PageId], tried: Tried) {
+    for &page in pages {
+        if tried == Tried::Split(page) {
+            note(log, Answer::Split(page));
+        }
+        if tried == Tried::Pinned(page) {
+            note(log, Answer::FoundPinned(page));
+        }
     }
 }
 
@@ -190,16 +205,15 @@ fn try_next(cell: &NodeCell, pass: &mut Pass, batch: Batch, log: &mut Vec<Answer
 {
     let mut batch = batch;
     if let Ok(tried) = cell.split_next(pass, &mut batch) {
-        for &page in batch.pages() {
-            if tried == Tried::Split(page) {
-                note(log, Answer::Split(page));
-            }
-            if tried == Tried::Pinned(page) {
-                note(log, Answer::FoundPinned(page));
-            }
-        }
+        note_tried(log, batch.pages(), tried);
     }
     batch
+}
+
+fn note_returned(log: &mut Vec<Answer>, pages: u32) {
+    for _ in 0..pages {
+        note(log, Answer::Returned);
+    }
 }
 
 fn put_back(cell: &NodeCell, pass: &mut Pass, batch: Batch, log: &mut Vec<Answer>) -> Option<Batch>
@@ -212,12 +226,8 @@ fn put_back(cell: &NodeCell, pass: &mut Pass, batch: Batch, log: &mut Vec<Answer
 {
     match cell.put_back(pass, batch) {
         Ok(BackReply { back, dropped }) => {
-            for _ in 0..back {
-                note(log, Answer::Returned);
-            }
-            for _ in 0..dropped {
-                note(log, Answer::Returned);
-            }
+            note_returned(log, back);
+            note_returned(log, dropped);
             None
         }
         Err((batch, _)) => Some(batch),
