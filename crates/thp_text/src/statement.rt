@@ -10,7 +10,7 @@ use crate::settings::Settings;
 use crate::words::Words;
 
 /// What a line says.
-#[derive(Clone, Copy, Debug)]
+#[derive(Clone, Copy)]
 pub(crate) enum Statement {
     /// Nothing: the line is empty or a comment.
     Nothing,
