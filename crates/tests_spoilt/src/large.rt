@@ -10,23 +10,27 @@ const SHAPE: Shape = Shape {
     underused: None,
 };
 
-/// More than 2^20 pages, one after the other in one block.
-fn are_numbered(alloc: Global) -> Option<bool> {
-    let shape = Shape { blocks: 1, ..SHAPE };
-    let mut node = Node::new(alloc, shape).ok()?;
-    for number in 0..1_050_000u64 {
-        let page = node.alloc_page(0).ok()?;
-        node.unmap_whole(0, page).ok()?;
-        if page.0 != number {
-            return Some(false);
-        }
+/// Whether a page comes by this number, and goes again.
+fn is_numbered(node: &mut Node, number: u64) -> bool {
+    match node.alloc_page(0) {
+        Ok(page) => page.0 == number && node.unmap_whole(0, page).is_ok(),
+        Err(_) => false,
     }
-    Some(node.allocations() == 1_050_000 && node.journal().len() == 2_100_000)
 }
 
+fn node_of_one_block(alloc: Global) -> Option<Node> {
+    Node::new(alloc, Shape { blocks: 1, ..SHAPE }).ok()
+}
+
+/// More than 2^20 pages, one after the other in one block.
 #[test]
 fn a_million_pages(rt: HostRuntime) {
-    assert!(rt; are_numbered(rt.alloc()) == Some(true));
+    let mut node = node_of_one_block(rt.alloc()).expect(&rt, "a node");
+    for number in 0..1_050_000 {
+        assert!(rt; is_numbered(&mut node, number));
+    }
+    assert!(rt; node.allocations() == 1_050_000);
+    assert!(rt; node.journal().len() == 2_100_000);
 }
 
 /// A page in each of 4,096 blocks, by a caller of its own, far beyond those that a node has, and one page more.

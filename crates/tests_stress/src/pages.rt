@@ -35,10 +35,15 @@ impl PageSeen {
     // How many subpages are mapped.
     fn used(&self) -> usize {
         if self.whole > 0 {
-            self.own.len()
-        } else {
-            self.own.iter().filter(|count| **count > 0).count()
+            return self.own.len();
         }
+        let mut used = 0usize;
+        for count in self.own.iter() {
+            if *count > 0 {
+                used = used.wrapping_add(1);
+            }
+        }
+        used
     }
 
     // Each subpage of a range is mapped once more.

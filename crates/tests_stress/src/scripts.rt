@@ -36,11 +36,20 @@ fn next(state: u64) -> u64 {
         .wrapping_add(1_442_695_040_888_963_407)
 }
 
-// How many subpages the pages of a node have.
-pub(crate) fn subpages_of(node: usize) -> u32 {
-    match ORDERS.get(node) {
-        Some(order) => 1u32.wrapping_shl(*order),
-        None => 512,
+// How many subpages the pages of an order have.
+pub(crate) fn subpages_of(order: u32) -> u32 {
+    let mut subpages = 1u32;
+    for _ in 0..order {
+        subpages = subpages.wrapping_mul(2);
+    }
+    subpages
+}
+
+// The order of the pages of a node.
+fn order_of(node: u64) -> u32 {
+    match ORDERS.get(node as usize) {
+        Some(order) => *order,
+        None => 9,
     }
 }
 
@@ -51,7 +60,7 @@ fn write_page_command(
     node: u64,
     page: u64,
 ) -> Result<(), AllocError> {
-    let size = subpages_of(node as usize);
+    let size = subpages_of(order_of(node));
     let others = size.wrapping_sub(1);
     let first = (state >> 20).checked_rem(u64::from(size)).unwrap_or(0);
     let count = 1 + (state >> 30) % 3;

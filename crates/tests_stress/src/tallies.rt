@@ -1,5 +1,6 @@
 //! What the events of a node add up to, counted one by one.
 use crate::pages::PageSeen;
+use crate::scripts::subpages_of;
 use std::alloc::{AllocError, Global};
 use thp_model::{Event, Outcome, PageId, SubSet, What};
 use thp_node::Node;
@@ -27,7 +28,7 @@ impl Tally {
     pub(crate) fn of(alloc: Global, node: &Node) -> Option<Tally> {
         let shape = node.shape();
         let mut tally = Tally {
-            subpages: 1u32.wrapping_shl(shape.order),
+            subpages: subpages_of(shape.order),
             looks: shape.shrinks_underused(),
             pages: Vec::new(alloc),
             lengths: Vec::new(alloc),

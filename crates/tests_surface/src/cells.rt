@@ -8,7 +8,7 @@ use std::alloc::Global;
 use std::process::Abort;
 use thp_cell::{Busy, CellFault, Hold, NodeCell, Pass};
 use thp_model::PageId;
-use thp_node::{Node, Tried};
+use thp_node::{Done, Node, Tried};
 
 // A cell of two callers.
 fn cell_of(rt: &impl Abort, alloc: Global) -> (NodeCell, Pass)
@@ -20,7 +20,7 @@ fn cell_of(rt: &impl Abort, alloc: Global) -> (NodeCell, Pass)
     NodeCell::new(alloc, node, 2).expect(rt, "a cell")
 }
 
-// The calls about a page.
+// The calls about a page that is mapped whole.
 fn used(cell: &NodeCell, pass: &mut Pass) -> Result<PageId, CellFault>
     requires cell { pass.old.cell ≡ cell.now }
     requires caller { HasCaller pass.old 1 }
@@ -31,29 +31,61 @@ fn used(cell: &NodeCell, pass: &mut Pass) -> Result<PageId, CellFault>
     let _stays = cell.unmap_whole(pass, 1, page)?;
     cell.write(pass, 1, page, 0, 3)?;
     cell.zero(pass, 1, page, 0, 1)?;
+    Ok(page)
+}
+
+// The calls about its subpages and its pins.
+fn unmapped(cell: &NodeCell, pass: &mut Pass, page: PageId) -> Result<Done, CellFault>
+    requires cell { pass.old.cell ≡ cell.now }
+    requires caller { HasCaller pass.old 1 }
+    ensures { pass.new ≡ at_front pass.old pass.new.front }
+{
     cell.split_pmd(pass, 1, page)?;
     cell.map_sub(pass, 1, page, 3, 1)?;
     cell.pin(pass, 1, page)?;
     let _pinned = cell.unpin(pass, 1, page)?;
-    let _queued = cell.unmap_sub(pass, 1, page, 1, 1)?;
-    Ok(page)
+    cell.unmap_sub(pass, 1, page, 1, 1)
 }
 
-// The calls about a batch, a scan and the close.
-fn shrunk(cell: &NodeCell, pass: &mut Pass) -> Result<Tried, CellFault>
+// The calls about a batch.
+fn tried(cell: &NodeCell, pass: &mut Pass) -> Result<Tried, CellFault>
     requires cell { pass.old.cell ≡ cell.now }
     requires caller { HasCaller pass.old 1 }
     ensures { pass.new ≡ at_front pass.old pass.new.front }
 {
     let mut batch = cell.take(pass, 1, 8)?;
     let tried = cell.split_next(pass, &mut batch)?;
-    if let Err((batch, fault)) = cell.put_back(pass, batch) {
-        batch.abandon();
-        return Err(fault);
+    match cell.put_back(pass, batch) {
+        Ok(_) => Ok(tried),
+        Err((batch, fault)) => {
+            batch.abandon();
+            Err(fault)
+        }
     }
+}
+
+// A scan and the close.
+fn closed(cell: &NodeCell, pass: &mut Pass) -> Result<(), CellFault>
+    requires cell { pass.old.cell ≡ cell.now }
+    requires caller { HasCaller pass.old 1 }
+    ensures { pass.new ≡ at_front pass.old pass.new.front }
+{
     let _scanned = cell.scan(pass, 1, 128)?;
-    cell.close(pass, 1)?;
-    Ok(tried)
+    cell.close(pass, 1)
+}
+
+// All calls of caller 1: the page that was used, how many pages were queued, and what became of the first.
+fn called(cell: &NodeCell, pass: &mut Pass) -> Result<(PageId, u32, Tried), CellFault>
+    requires cell { pass.old.cell ≡ cell.now }
+    requires caller { HasCaller pass.old 1 }
+    ensures { pass.new ≡ at_front pass.old pass.new.front }
+{
+    let page = used(cell, pass)?;
+    unmapped(cell, pass, page)?;
+    let queued = cell.count(pass);
+    let tried = tried(cell, pass)?;
+    closed(cell, pass)?;
+    Ok((page, queued, tried))
 }
 
 // The node is held, and let go.
@@ -78,16 +110,11 @@ fn let_go(cell: &NodeCell, hold: Hold) -> Pass
 fn a_shared_node(rt: HostRuntime) {
     let (cell, pass) = cell_of(&rt, rt.alloc());
     let (left, mut right) = cell.split(pass, 1);
-    let page = used(&cell, &mut right);
-    let queued = cell.count(&mut right);
-    let tried = shrunk(&cell, &mut right);
+    let told = called(&cell, &mut right);
+    assert!(rt; matches!(told, Ok((PageId(0), 1, Tried::Split(PageId(0))))));
     let left = held(&cell, left);
-    let callers = right.callers();
+    assert!(rt; right.callers() == (1, 2));
     let pass = cell.join(left, right);
     let node = cell.finish(pass);
-    assert_eq!(rt;
-        (page, queued, tried, callers),
-        (Ok(PageId(0)), 1, Ok(Tried::Split(PageId(0))), (1, 2))
-    );
     assert!(rt; !node.journal().is_empty());
 }

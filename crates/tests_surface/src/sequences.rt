@@ -39,9 +39,8 @@ fn elements_by_index_and_in_order(rt: HostRuntime) {
     assert!(rt; last_of(&commands) == Some(command(2)));
     assert!(rt; command_at(&commands, 1) == Some(command(1)));
     assert!(rt; command_at(&commands, 3).is_none());
-    let ascending = commands
-        .iter()
-        .enumerate()
-        .all(|(place, command)| command.node as usize == place);
-    assert!(rt; commands.len() == 3 && ascending);
+    assert!(rt; commands.len() == 3);
+    for (place, command) in commands.iter().enumerate() {
+        assert!(rt; command.node as usize == place);
+    }
 }
