@@ -66,36 +66,46 @@ fn underused_scan(rt: HostRuntime) {
     assert!(rt; node.journal().get(3).is_some_and(is_used));
 }
 
+// An underused page is split by a scan, and a pinned one is dropped by it.
+fn scan_underused_and_pinned(rt: &impl Abort, cell: &NodeCell, pass: &mut Pass)
+    requires cell { pass.old.cell ≡ cell.now }
+    requires caller { HasCaller pass.old 0 }
+    ensures same { pass.new ≡ at_front pass.old pass.new.front }
+{
+    allocate(rt, cell, pass, 0, PAGE);
+    allocate(rt, cell, pass, 0, PageId(1));
+    write_data(rt, cell, pass, 0, PAGE, 0, 2);
+    pin_page(rt, cell, pass, 0, PageId(1));
+    scan_pages(rt, cell, pass, 0, 8, scanned(2, 1, 1, 0, 1, 0));
+    count_is(rt, cell, pass, 0);
+}
+
 #[test]
 fn underused_pinned(rt: HostRuntime) {
     let (cell, mut pass) = small_cell_of(&rt, rt.alloc(), 4);
-    allocate(&rt, &cell, &mut pass, 0, PAGE);
-    allocate(&rt, &cell, &mut pass, 0, PageId(1));
-    write_data(&rt, &cell, &mut pass, 0, PAGE, 0, 2);
-    pin_page(&rt, &cell, &mut pass, 0, PageId(1));
-    scan_pages(&rt, &cell, &mut pass, 0, 8, scanned(2, 1, 1, 0, 1, 0));
-    count_is(&rt, &cell, &mut pass, 0);
+    scan_underused_and_pinned(&rt, &cell, &mut pass);
     let node = cell.finish(pass);
     assert!(rt; (node.frames_held(), node.frames_given()) == (6, 2));
+}
+
+// A page all of whose frames were given back has its block until its last unmap.
+fn split_and_free(rt: &impl Abort, cell: &NodeCell, pass: &mut Pass)
+    requires cell { pass.old.cell ≡ cell.now }
+    requires caller { HasCaller pass.old 0 }
+    ensures same { pass.new ≡ at_front pass.old pass.new.front }
+{
+    allocate(rt, cell, pass, 0, PAGE);
+    scan_pages(rt, cell, pass, 0, 1, scanned(1, 1, 0, 0, 0, 0));
+    refuse_page(rt, cell, pass, 0, Refusal::NoBlock);
+    let freed = done(Outcome::Freed, SubSet::empty());
+    unmap(rt, cell, pass, 0, PAGE, 0, 4, freed);
+    allocate(rt, cell, pass, 0, PageId(1));
 }
 
 #[test]
 fn block_of_a_live_page(rt: HostRuntime) {
     let (cell, mut pass) = small_cell_of(&rt, rt.alloc(), 1);
-    allocate(&rt, &cell, &mut pass, 0, PAGE);
-    scan_pages(&rt, &cell, &mut pass, 0, 1, scanned(1, 1, 0, 0, 0, 0));
-    refuse_page(&rt, &cell, &mut pass, 0, Refusal::NoBlock);
-    unmap(
-        &rt,
-        &cell,
-        &mut pass,
-        0,
-        PAGE,
-        0,
-        4,
-        done(Outcome::Freed, SubSet::empty()),
-    );
-    allocate(&rt, &cell, &mut pass, 0, PageId(1));
+    split_and_free(&rt, &cell, &mut pass);
     let node = cell.finish(pass);
     assert!(rt; (node.frames_held(), node.frames_given()) == (4, 4));
 }
