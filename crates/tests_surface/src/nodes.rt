@@ -4,19 +4,34 @@ use std::alloc::Global;
 use thp_model::{PageId, Refusal};
 use thp_node::{BackReply, Counters, Done, NewFault, Node, ScanReply, Tried};
 
-// A page that is mapped, written, pinned and partly unmapped.
-fn used(node: &mut Node) -> Result<Done, Refusal> {
+// A page that is mapped whole once more, for a while.
+fn mapped(node: &mut Node) -> Result<PageId, Refusal> {
     node.reserve(16)?;
     let page = node.alloc_page(0)?;
     node.map_whole(0, page)?;
     let _stays = node.unmap_whole(0, page)?;
+    Ok(page)
+}
+
+// It is written, and its mapping is split.
+fn written(node: &mut Node, page: PageId) -> Result<(), Refusal> {
     node.write(0, page, 0, 3)?;
     node.zero(0, page, 0, 1)?;
-    node.split_pmd(0, page)?;
+    node.split_pmd(0, page)
+}
+
+// It is pinned for a while, and partly unmapped.
+fn unmapped(node: &mut Node, page: PageId) -> Result<Done, Refusal> {
     node.map_sub(0, page, 3, 1)?;
     node.pin(0, page)?;
     let _pinned = node.unpin(0, page)?;
     node.unmap_sub(0, page, 1, 1)
+}
+
+fn used(node: &mut Node) -> Result<Done, Refusal> {
+    let page = mapped(node)?;
+    written(node, page)?;
+    unmapped(node, page)
 }
 
 // The page is taken, tried and put back, and a scan finds nothing; then the node is closed.

@@ -7,14 +7,20 @@ use std::test::Fail;
 use thp_model::{PageId, Refusal, SubSet};
 use thp_page::{Change, Page, PageTable, Standing};
 
-// The calls of a page that refuse nothing here.
-fn changed() -> Result<Change, Refusal> {
+// A page after calls that refuse nothing here.
+fn written() -> Result<Page, Refusal> {
     let mut page = Page::fresh(9);
     page.map_whole()?;
     let _change = page.unmap_whole()?;
     page.write(0, 2)?;
     page.zero(0, 1)?;
     page.split_pmd()?;
+    Ok(page)
+}
+
+// What the last of its other calls changes.
+fn changed() -> Result<Change, Refusal> {
+    let mut page = written()?;
     page.map_sub(0, 1)?;
     page.pin()?;
     page.unpin()?;

@@ -1,4 +1,5 @@
 //! Takes, tries and put-backs of a batch, where the journal has so many events.
+ghost use Rattle.std.specs.Prelude.{◌<◌, ◌≤◌};
 ghost use Rattle.thp_node.specs.Batches.{IsInFront};
 
 use crate::memory::nodes::{MOST, expect_unchanged, node_after, view_of};
@@ -7,21 +8,25 @@ use std::process::Abort;
 use thp_model::PageId;
 use thp_node::{BackReply, Batch, Node, Tried};
 
-fn take_at_last(rt: &(impl Abort + Print), node: &mut Node) -> Batch
+/// Takes so many pages, at the second try at the latest.
+pub(crate) fn take_at_last(rt: &(impl Abort + Print), node: &mut Node, caller: u32, n: u32) -> Batch
+    requires caller { caller < 64 }
+    requires few { n ≤ 128 }
     ensures { IsInFront node.new.journal result }
 {
     let before = view_of(node);
-    match node.take(1, 8) {
+    match node.take(caller, n) {
         Ok(batch) => return batch,
         Err(refusal) => expect_unchanged(rt, node, before, refusal, "Node::take"),
     }
-    match node.take(1, 8) {
+    match node.take(caller, n) {
         Ok(batch) => batch,
         Err(_) => panic!(rt; "a take was refused twice"),
     }
 }
 
-fn try_at_last(rt: &(impl Abort + Print), node: &mut Node, batch: &mut Batch) -> Tried
+/// Tries the next page, at the second try at the latest.
+pub(crate) fn try_at_last(rt: &(impl Abort + Print), node: &mut Node, batch: &mut Batch) -> Tried
     requires { IsInFront node.old.journal batch.old }
     ensures { IsInFront node.new.journal batch.new }
 {
@@ -36,7 +41,8 @@ fn try_at_last(rt: &(impl Abort + Print), node: &mut Node, batch: &mut Batch) ->
     }
 }
 
-fn return_at_last(rt: &(impl Abort + Print), node: &mut Node, batch: Batch) -> BackReply
+/// Puts the batch back, at the second try at the latest.
+pub(crate) fn return_at_last(rt: &(impl Abort + Print), node: &mut Node, batch: Batch) -> BackReply
     requires { IsInFront node.old.journal batch }
 {
     let before = view_of(node);
@@ -66,7 +72,7 @@ fn is_as_before(node: &Node, events: usize) -> bool {
 /// Takes the pinned page, tries it and puts it back.
 fn pass_batch(rt: &(impl Abort + Print), alloc: Global, writes: usize) {
     let mut node = node_after(rt, alloc, writes);
-    let mut batch = take_at_last(rt, &mut node);
+    let mut batch = take_at_last(rt, &mut node, 1, 8);
     assert!(rt; batch.pages().len() == 1);
     let tried = try_at_last(rt, &mut node, &mut batch);
     assert!(rt; matches!(tried, Tried::Pinned(PageId(0))));

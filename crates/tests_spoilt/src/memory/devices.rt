@@ -4,7 +4,8 @@ use std::io::Write;
 
 /// Tells that a call was refused memory.
 pub(crate) fn tell(rt: &impl Print, call: &str) {
-    let _ = println!(rt; "refused: {call}");
+    let _ = rt.print("refused: ");
+    let _ = rt.println(call);
 }
 
 /// A writer that compares what it takes with a text.

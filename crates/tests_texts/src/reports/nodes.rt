@@ -27,39 +27,65 @@ pub(crate) fn small_node(rt: &impl Abort, alloc: Global) -> Node {
     Node::new(alloc, shape).expect(rt, "a node of 4 blocks")
 }
 
+const PAGE: PageId = PageId(0);
+
+// What caller 0 does, and whether that is answered.
+fn allocates(node: &mut Node) -> bool {
+    node.alloc_page(0).is_ok()
+}
+
+fn writes(node: &mut Node, count: u32) -> bool {
+    node.write(0, PAGE, 0, count).is_ok()
+}
+
+fn divides(node: &mut Node) -> bool {
+    node.split_pmd(0, PAGE).is_ok()
+}
+
+fn unmaps(node: &mut Node, first: u32, count: u32) -> bool {
+    node.unmap_sub(0, PAGE, first, count).is_ok()
+}
+
+fn pins(node: &mut Node, page: PageId) -> bool {
+    node.pin(0, page).is_ok()
+}
+
+fn scans(node: &mut Node) -> bool {
+    node.scan(0, 8).is_ok()
+}
+
 // Page 0 lost half of its mappings and was split.
 pub(crate) fn first_run(rt: &impl Abort, alloc: Global) -> Node {
     let mut node = empty_node(rt, alloc);
-    assert!(rt; node.alloc_page(0).is_ok());
-    assert!(rt; node.split_pmd(0, PageId(0)).is_ok());
-    assert!(rt; node.unmap_sub(0, PageId(0), 0, 256).is_ok());
-    assert!(rt; node.scan(0, 8).is_ok());
+    assert!(rt; allocates(&mut node));
+    assert!(rt; divides(&mut node));
+    assert!(rt; unmaps(&mut node, 0, 256));
+    assert!(rt; scans(&mut node));
     node
 }
 
 // Page 0 was found in use, then lost a mapping, and was split with its other subpage that no one wrote.
 pub(crate) fn underused_scan(rt: &impl Abort, alloc: Global) -> Node {
     let mut node = small_node(rt, alloc);
-    let page = PageId(0);
-    assert!(rt; node.alloc_page(0).is_ok());
-    assert!(rt; node.write(0, page, 0, 3).is_ok());
-    assert!(rt; node.scan(0, 8).is_ok());
-    assert!(rt; node.split_pmd(0, page).is_ok());
-    assert!(rt; node.unmap_sub(0, page, 0, 1).is_ok());
-    assert!(rt; node.scan(0, 8).is_ok());
-    assert!(rt; node.unmap_sub(0, page, 3, 1).is_ok());
-    assert!(rt; node.unmap_sub(0, page, 1, 2).is_ok());
+    assert!(rt; allocates(&mut node));
+    assert!(rt; writes(&mut node, 3));
+    assert!(rt; scans(&mut node));
+    assert!(rt; divides(&mut node));
+    assert!(rt; unmaps(&mut node, 0, 1));
+    assert!(rt; scans(&mut node));
+    assert!(rt; unmaps(&mut node, 3, 1));
+    assert!(rt; unmaps(&mut node, 1, 2));
     node
 }
 
 // Of two pages that no one unmapped the pinned one was dropped, and the underused one was split.
 pub(crate) fn underused_pinned(rt: &impl Abort, alloc: Global) -> Node {
     let mut node = small_node(rt, alloc);
-    assert!(rt; node.alloc_page(0).is_ok());
-    assert!(rt; node.alloc_page(0).is_ok());
-    assert!(rt; node.write(0, PageId(0), 0, 2).is_ok());
-    assert!(rt; node.pin(0, PageId(1)).is_ok());
-    assert!(rt; node.scan(0, 8).is_ok());
+    assert!(rt; allocates(&mut node));
+    assert!(rt; allocates(&mut node));
+    assert!(rt; writes(&mut node, 2));
+    assert!(rt; pins(&mut node, PageId(1)));
+    assert!(rt; scans(&mut node));
     node
 }
 
