@@ -83,7 +83,8 @@ kept_pass_send = pass_send keeps.dict keeps.dict Kept.the_row keeps.ghosts kept_
 -- what a caller's threads ask of what they are given
 pub ruleset crossings = (sendable, crosses, kept_cell_sync, kept_pass_send, batch_send)
 
-both : {A B : Type 0} → A → B → A × B
+-- what is made of two may cross threads where both may
+pub both : {A B : Type 0} → A → B → A × B
 both a b = (a, b)
 
 -- What closures ask that hold a shared cell, passes, batches and plain values alone. A search by these few rules takes a second, where
