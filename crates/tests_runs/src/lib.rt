@@ -9,4 +9,6 @@ mod program;
 #[cfg(test)]
 mod scripts;
 #[cfg(test)]
+mod stress;
+#[cfg(test)]
 mod turns;

@@ -1,5 +1,5 @@
 //! Runs of generated scripts, whose workers may take turns.
-use crate::scripts::{ORDERS, Plan, UNDERUSED, script};
+use crate::stress::scripts::{ORDERS, Plan, UNDERUSED, script};
 use std::alloc::Global;
 use std::process::Abort;
 use std::sync::atomic::{AtomicU32, Ordering};

@@ -1,6 +1,6 @@
 //! Open batches as a caller's own events tell them.
-use crate::parts::Part;
-use crate::tallies::Tally;
+use crate::stress::parts::Part;
+use crate::stress::tallies::Tally;
 use std::alloc::Global;
 use thp_model::{PageId, What};
 use thp_node::{BackReply, Tried};

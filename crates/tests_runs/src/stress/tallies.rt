@@ -1,6 +1,6 @@
 //! What the events of a node add up to, counted one by one.
-use crate::pages::PageSeen;
-use crate::scripts::subpages_of;
+use crate::stress::pages::PageSeen;
+use crate::stress::scripts::subpages_of;
 use std::alloc::{AllocError, Global};
 use thp_model::{Event, Outcome, PageId, SubSet, What};
 use thp_node::Node;

@@ -1,8 +1,8 @@
 //! A caller's answers, gone over command by command against its own events.
-use crate::batches::Batch;
-use crate::commands::{event_of, may_refuse, without_block};
-use crate::parts::Part;
-use crate::tallies::Tally;
+use crate::stress::batches::Batch;
+use crate::stress::commands::{event_of, may_refuse, without_block};
+use crate::stress::parts::Part;
+use crate::stress::tallies::Tally;
 use std::alloc::Global;
 use thp_model::Refusal;
 use thp_node::{Node, ScanReply, Tried};

@@ -1,9 +1,9 @@
 //! Three runs, each of some 100,000 commands.
-use crate::runs::{ran, settings_of};
-use crate::scripts::Plan;
-use crate::tallies::Tally;
-use crate::texts::{are_answers, are_totals, is_journal};
-use crate::walks::explain_section;
+use crate::stress::runs::{ran, settings_of};
+use crate::stress::scripts::Plan;
+use crate::stress::tallies::Tally;
+use crate::stress::texts::{are_answers, are_totals, is_journal};
+use crate::stress::walks::explain_section;
 use std::alloc::Global;
 use std::process::Abort;
 use std::thread::Threads;

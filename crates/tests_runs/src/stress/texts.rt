@@ -1,6 +1,6 @@
 //! The reports of a run, beside what the nodes and answers say.
-use crate::commands::without_block;
-use crate::tallies::Tally;
+use crate::stress::commands::without_block;
+use crate::stress::tallies::Tally;
 use std::alloc::{AllocError, Global};
 use thp_journal_reader::{NodeJournal, check_text, read_journal};
 use thp_model::{Event, Outcome, PageId, Refusal, SubSet};
