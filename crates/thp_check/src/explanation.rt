@@ -5,7 +5,7 @@ ghost use Rattle.thp_check.specs.Explanations.{explanation};
 use crate::Misfit;
 use crate::expected::put_expected;
 use crate::pieces::put_line;
-use crate::reasons::put_why;
+use crate::told_reasons::put_why;
 use std::alloc::AllocError;
 use thp_journal_writer::{put, put_number};
 use thp_model::Event;

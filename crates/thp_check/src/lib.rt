@@ -17,9 +17,9 @@ mod live_page;
 mod misfit;
 mod node_state;
 mod pieces;
-mod reasons;
 mod replay;
 mod tally;
+mod told_reasons;
 
 pub use checking::check;
 pub use explanation::put_explanation;
