@@ -72,8 +72,10 @@ fn limits_and_constructors(rt: HostRuntime) -> Result<(), Fail> {
 
 // A page of this number comes into block 2, where it stands nowhere and has no pin.
 fn page_comes(rt: &impl Abort, table: &mut PageTable, id: PageId)
-    requires { length table.old.links ≡ 4 }
+    requires size { length table.old.links ≡ 4 }
+    requires slots { length table.old.slots ≡ 4 }
     ensures size { length table.new.links ≡ 4 }
+    ensures slots { length table.new.slots ≡ 4 }
     ensures occupied { IsSome (slot_at table.new 2) }
 {
     put(rt, table, 2, id);
@@ -84,8 +86,10 @@ fn page_comes(rt: &impl Abort, table: &mut PageTable, id: PageId)
 // The page of block 2 is pinned, and moves into a batch.
 fn page_moves(rt: &impl Abort, table: &mut PageTable)
     requires size { length table.old.links ≡ 4 }
+    requires slots { length table.old.slots ≡ 4 }
     requires occupied { IsSome (slot_at table.old 2) }
     ensures size { length table.new.links ≡ 4 }
+    ensures slots { length table.new.slots ≡ 4 }
     ensures occupied { IsSome (slot_at table.new 2) }
 {
     assert!(rt; pin_at(table, 2) == Ok(()));
@@ -97,8 +101,10 @@ fn page_moves(rt: &impl Abort, table: &mut PageTable)
 // The page of block 2, which has this number, goes.
 fn page_goes(rt: &impl Abort, table: &mut PageTable, id: PageId)
     requires size { length table.old.links ≡ 4 }
+    requires slots { length table.old.slots ≡ 4 }
     requires occupied { IsSome (slot_at table.old 2) }
     ensures size { length table.new.links ≡ 4 }
+    ensures slots { length table.new.slots ≡ 4 }
 {
     table.clear(2);
     assert!(rt; table.block_of(id) == None);
