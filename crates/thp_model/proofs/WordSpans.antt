@@ -1,25 +1,27 @@
 -- The words of a range: full ones, of which the first and the last are cut.
-use Rattle.std.proofs.Common.{◌≡◌, ◌≢◌, ℕ, ◌+◌, ◌-◌, ◌*◌, ◌/◌, ◌%◌, ◌^◌, ◌<◌, ◌≤◌, Bool, true, false, not, ◌&&◌, min, List, [], ◌∷◌, set, get_or, refl, ap, ap₂, sym, ◌∙◌, arith, nat_eq, nat_le, nat_lt, inl, inr}
+use Rattle.std.proofs.Common.{◌≡◌, ◌≢◌, ℕ, ◌+◌, ◌-◌, ◌*◌, ◌/◌, ◌%◌, ◌^◌, ◌<◌, ◌≤◌, Bool, true, false, not, ◌&&◌, ◌||◌, min, List, [], ◌∷◌, set, get_or, refl, ap, ap₂, sym, ◌∙◌, arith, nat_eq, nat_le, nat_lt, inl, inr}
 use Rattle.std.specs.Int.{bit_at, w64}
 use Rattle.std.specs.Prelude.{bit_and}
 use Rattle.std.proofs.lemmas.List.{get_or-set_same, get_or-set_other}
 use Rattle.std.proofs.lemmas.Nat.{and_le_l}
-use Rattle.std.proofs.lemmas.Nat.Bits.{bit_at_and, bit_at_not, bit_at-lt, bit_at_ones}
+use Rattle.std.proofs.lemmas.Nat.Bits.{bit_at_and, bit_at_not, bit_at-lt, bit_at-zero}
 use Rattle.std.proofs.lemmas.Bool.Decides.{eqb_tells, nat_tests}
 use Rattle.thp_model.specs.Sets.{set_of, has, covers}
 use Rattle.thp_model.specs.Words.{in_words, AreWords, get_or-set_of}
-use Rattle.thp_model.proofs.WordLemmas.{set_of-ext, none_set, ones_below, below_bit, AreWords-set}
+use Rattle.thp_model.proofs.WordLemmas.{set_of-ext, all_set, ones_below, below_bit, AreWords-set}
 
 -- the words have the numbers from one place up to another
 abbrev pub Spans : ℕ → ℕ → List ℕ → Type 0
 Spans first end ws = (i : ℕ) → i < 512 → in_words ws i ≡ (nat_lt i end && nat_le first i)
 
--- where no word was written there is none
-pub spans_none : (k : ℕ) → Spans (64 * k) (64 * k) (0 ∷ 0 ∷ 0 ∷ 0 ∷ 0 ∷ 0 ∷ 0 ∷ 0 ∷ [])
-spans_none k i below =
-    let zeros : List ℕ = 0 ∷ 0 ∷ 0 ∷ 0 ∷ 0 ∷ 0 ∷ 0 ∷ 0 ∷ [] in
-    sym (get_or-set_of (in_words zeros) i below) ∙ ap (λ t. has t i) none_set ∙ get_or-set_of (λ j. false) i below ∙ go where
-      go : false ≡ (nat_lt i (64 * k) && nat_le (64 * k) i)
+-- where all words are full, all numbers
+abbrev pub full_words : List ℕ
+full_words = 18446744073709551615 ∷ 18446744073709551615 ∷ 18446744073709551615 ∷ 18446744073709551615 ∷ 18446744073709551615 ∷ 18446744073709551615 ∷ 18446744073709551615 ∷ 18446744073709551615 ∷ []
+
+pub spans_full : Spans 0 512 full_words
+spans_full i below =
+    sym (get_or-set_of (in_words full_words) i below) ∙ ap (λ t. has t i) all_set ∙ get_or-set_of (λ j. true) i below ∙ go where
+      go : true ≡ (nat_lt i 512 && nat_le 0 i)
       go = grind (arith, nat_tests)
 
 -- a number of a word that was set, and one of another
@@ -31,18 +33,50 @@ in_other : (ws : List ℕ) (k v i : ℕ) → i / 64 ≢ k → in_words (set ws k
 unfolding in_words
 in_other ws k v i g = ap (λ x. nat_eq (bit_at x (i % 64)) 1) (get_or-set_other ws k (i / 64) v 0 g)
 
--- one full word more
-pub spans_more : (ws : List ℕ) (start k : ℕ) → AreWords ws → k < 8 → start ≤ k → Spans (64 * start) (64 * k) ws → Spans (64 * start) (64 * (k + 1)) (set ws k 18446744073709551615)
-spans_more ws start k a h least spans i short =
+-- a number of a word that was taken out
+out_of : (ws : List ℕ) (k i : ℕ) → AreWords ws → k < 8 → i / 64 ≡ k → in_words (set ws k 0) i ≡ false
+out_of ws k i a h e = in_set ws k 0 i a h e ∙ ap (λ x. nat_eq x 1) (bit_at-zero (i % 64))
+
+-- one word less at the front
+pub spans_less : (ws : List ℕ) (k : ℕ) → AreWords ws → k < 8 → Spans (64 * k) 512 ws → Spans (64 * (k + 1)) 512 (set ws k 0)
+spans_less ws k a h spans i short =
     elim (eqb_tells (i / 64) k) [
-      | inl y ↦ in_set ws k 18446744073709551615 i a h y.1 ∙ ap (λ x. nat_eq x 1) (bit_at_ones 64 (i % 64) (omega arith)) ∙ here y.1
-      | inr y ↦ in_other ws k 18446744073709551615 i y.1 ∙ spans i short ∙ ap (λ b. b && nat_le (64 * start) i) (there y.1)
+      | inl y ↦ out_of ws k i a h y.1 ∙ here y.1
+      | inr y ↦ in_other ws k 0 i y.1 ∙ spans i short ∙ there y.1
     ] where
-      here : i / 64 ≡ k → true ≡ (nat_lt i (64 * (k + 1)) && nat_le (64 * start) i)
+      here : i / 64 ≡ k → false ≡ (nat_lt i 512 && nat_le (64 * (k + 1)) i)
       here e = grind (arith, nat_tests)
 
-      there : i / 64 ≢ k → nat_lt i (64 * k) ≡ nat_lt i (64 * (k + 1))
+      there : i / 64 ≢ k → (nat_lt i 512 && nat_le (64 * k) i) ≡ (nat_lt i 512 && nat_le (64 * (k + 1)) i)
       there g = grind (arith, nat_tests)
+
+-- the words have the numbers from `first` on, but for those from `end` on and below `to`
+abbrev pub SpansBut : ℕ → ℕ → ℕ → List ℕ → Type 0
+SpansBut first end to ws = (i : ℕ) → i < 512 → in_words ws i ≡ ((nat_lt i end || nat_le to i) && nat_le first i)
+
+pub spans_but : (first end : ℕ) (ws : List ℕ) → Spans first 512 ws → SpansBut first end end ws
+spans_but first end ws spans i short = spans i short ∙ go where
+  go : (nat_lt i 512 && nat_le first i) ≡ ((nat_lt i end || nat_le end i) && nat_le first i)
+  go = grind (arith, nat_tests)
+
+-- one word less behind the range
+pub spans_but_less : (ws : List ℕ) (first end k : ℕ) → AreWords ws → k < 8 → end ≤ 64 * k → SpansBut first end (64 * k) ws → SpansBut first end (64 * (k + 1)) (set ws k 0)
+spans_but_less ws first end k a h least spans i short =
+    elim (eqb_tells (i / 64) k) [
+      | inl y ↦ out_of ws k i a h y.1 ∙ here y.1
+      | inr y ↦ in_other ws k 0 i y.1 ∙ spans i short ∙ there y.1
+    ] where
+      here : i / 64 ≡ k → false ≡ ((nat_lt i end || nat_le (64 * (k + 1)) i) && nat_le first i)
+      here e = grind (arith, nat_tests)
+
+      there : i / 64 ≢ k → ((nat_lt i end || nat_le (64 * k) i) && nat_le first i) ≡ ((nat_lt i end || nat_le (64 * (k + 1)) i) && nat_le first i)
+      there g = grind (arith, nat_tests)
+
+-- once no word is left behind it
+pub spans_cut : (first end to : ℕ) (ws : List ℕ) → to ≡ 8 → SpansBut first end (64 * to) ws → Spans first end ws
+spans_cut first end to ws all spans i short = spans i short ∙ go where
+  go : ((nat_lt i end || nat_le (64 * to) i) && nat_le first i) ≡ (nat_lt i end && nat_le first i)
+  go = grind (arith, nat_tests)
 
 -- a bit of both
 both_bits : (x y : ℕ) → x < 2 → y < 2 → nat_eq (min x y) 1 ≡ (nat_eq x 1 && nat_eq y 1)

@@ -60,7 +60,7 @@ impl SubSet {
         requires { order ≤ max_order }
         ensures { result ≡ set_of (λ i. nat_lt i (2 ^ order)) }
     {
-        SubSet::below(1 << order)
+        SubSet::range(0, 1 << order)
     }
 
     /// The `count` subpages from `first` on.
@@ -73,9 +73,13 @@ impl SubSet {
         }
         let end = first + count;
         let (start, last) = (first / 64, (end - 1) / 64);
-        let mut words = [0; 8];
-        for k in start..last + 1 {
-            words[k as usize] = u64::MAX;
+        // Long ranges are those of whole pages most often, so it is words that are taken out.
+        let mut words = [u64::MAX; 8];
+        for k in 0..start {
+            words[k as usize] = 0;
+        }
+        for k in last + 1..8 {
+            words[k as usize] = 0;
         }
         // no word between the first and the last has a subpage outside the range
         words[start as usize] &= !word_below(first, start);
@@ -254,25 +258,6 @@ impl SubSet {
             at += 64 - at % 64;
         }
         at
-    }
-
-    // the set of the numbers below n
-    fn below(n: u32) -> SubSet
-        requires { n ≤ max_subpages }
-        ensures { result ≡ set_of (λ i. nat_lt i n) }
-    {
-        SubSet {
-            words: [
-                word_below(n, 0),
-                word_below(n, 1),
-                word_below(n, 2),
-                word_below(n, 3),
-                word_below(n, 4),
-                word_below(n, 5),
-                word_below(n, 6),
-                word_below(n, 7),
-            ],
-        }
     }
 }
 
