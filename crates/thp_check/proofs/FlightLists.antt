@@ -8,7 +8,7 @@ use Rattle.std.proofs.lemmas.List.Elements.{filter-append, Contains-push_cases}
 use Rattle.thp_links.specs.declared.link.Link.{Link}
 use Rattle.thp_links.specs.declared.link.TheConstants.{NIL}
 use Rattle.thp_links.specs.Indices.{without}
-use Rattle.thp_links.specs.Standing.{Stands, SameOutside, Segment, between}
+use Rattle.thp_links.specs.Standing.{Stands, SameOutside, between}
 use Rattle.thp_links.proofs.Members.{empty_from_first, Contains-nil, Contains-head, Contains-behind, Contains-cons_cases, Contains-from_without}
 use Rattle.thp_links.proofs.OneTable.{Stands-kept, Stands-nil, Stands-inside}
 use Rattle.thp_model.proofs.ListPlaces.{append_none}

@@ -1,5 +1,5 @@
 -- What a replay shows of its pages: their numbers by block, and what its table says of one.
-use Rattle.std.proofs.Common.{◌≡◌, ℕ, zero, suc, ◌<◌, ◌≤◌, ◌+◌, ◌^◌, Bool, true, false, not, cond, if◌then◌else◌, ◌&&◌, ◌||◌, List, [], ◌∷◌, ◌++◌, Option, Some, None, length, map, take, get_or, refl, ap, ap₂, sym, ◌∙◌, subst, arith, nat_lt}
+use Rattle.std.proofs.Common.{◌≡◌, ℕ, zero, suc, ◌<◌, ◌+◌, ◌^◌, Bool, true, false, not, cond, if◌then◌else◌, ◌&&◌, ◌||◌, List, [], ◌∷◌, ◌++◌, Option, Some, None, length, map, take, get_or, refl, ap, ap₂, sym, ◌∙◌, subst, arith, nat_lt}
 use Rattle.std.specs.Prelude.{slice_get, IsSome, is_some, Result, Ok, Err, IfOk}
 use Rattle.std.specs.Int.{from_bool}
 use Rattle.std.specs.List.{filter, range_with_len}
@@ -16,7 +16,6 @@ use Rattle.thp_model.specs.Sets.{set_of, has}
 use Rattle.thp_model.specs.Shapes.{subpages}
 use Rattle.thp_model.specs.Underused.{is_zero_filled, is_partly_mapped, shrinks_underused}
 use Rattle.thp_model.specs.Words.{get_or-set_of}
-use Rattle.thp_model.proofs.Bools.{by_bool}
 use Rattle.thp_model.proofs.ListPlaces.{append_none}
 use Rattle.thp_model.proofs.PageRefusals.{held_is}
 use Rattle.thp_model.proofs.Tallying.{size_is, total_is, whole_is}

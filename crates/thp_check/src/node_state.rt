@@ -191,7 +191,10 @@ impl NodeState {
             Some(block) => block,
             None => return refused(Refusal::NoPage),
         };
-        let mut done = Done::none();
+        let mut done = Done {
+            outcome: Outcome::Stays,
+            released: SubSet::empty(),
+        };
         let left = match self.places.lose(block, loss, self.closed, &mut done) {
             Ok(left) => left,
             Err(refusal) => return refused(refusal),

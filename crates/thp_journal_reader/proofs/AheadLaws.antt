@@ -10,6 +10,7 @@ use Rattle.thp_model.specs.declared.events.Outcome.{Outcome}
 use Rattle.thp_model.specs.declared.events.Outcome.TheVariants.{Stays, Queued, Freed}
 use Rattle.thp_model.specs.declared.events.What.TheVariants as what
 use Rattle.thp_model.specs.History.{by}
+use Rattle.thp_model.specs.Sets.{set_of}
 use Rattle.thp_text.specs.declared.fault.TextKind.{TextKind}
 use Rattle.thp_text.specs.Words.{Text, number_of, pieces_at}
 use Rattle.thp_text.specs.WordsAhead.{NumberAhead}
@@ -21,11 +22,11 @@ use Rattle.thp_journal_reader.specs.declared.event_word.PageWord.{PageWord}
 use Rattle.thp_journal_reader.specs.declared.event_word.RangeWord.{RangeWord}
 use Rattle.thp_journal_reader.specs.declared.line.Line.TheVariants.{Happened}
 use Rattle.thp_journal_reader.specs.declared.version.Version.{Version}
-use Rattle.thp_journal_reader.specs.Ahead.{EventAhead, LineAhead, OperandsAhead, OutcomeAhead, WordAhead}
+use Rattle.thp_journal_reader.specs.Ahead.{EventAhead, LineAhead, OperandsAhead, OutcomeAhead, SetAhead, WordAhead}
 use Rattle.thp_journal_reader.specs.EventLines.{event_by, event_of, loss_event, page_event, range_event, split_event, unmap_event, outcome_and_word}
 use Rattle.thp_journal_reader.specs.EventWords.{event_word, loss_what, outcome_of, page_what, range_what}
 use Rattle.thp_journal_reader.specs.JournalLines.{by_words, line_by}
-use Rattle.thp_journal_reader.specs.SetTexts.{set_of_text}
+use Rattle.thp_journal_reader.specs.SetTexts.{set_of_text, set_with}
 use Rattle.thp_journal_reader.proofs.PlainLines.{line_of-read}
 use Rattle.thp_journal_reader.proofs.PlainWords.{event_word_letters, letters_whole}
 
@@ -77,6 +78,23 @@ set_read word (Ok x) some set e f g =
     sym e ∙ ap (λ (y : List Bool). Ok y) is
 set_read word (Err kind) some set e f g = let wrong : None ≡ Some set = sym f ∙ g in absurd (cc)
 
+-- a dash alone on a line says the set of no subpage
+pub no_frame_ahead : (text rest : Text) → text ≡ 45 ∷ 10 ∷ rest → SetAhead (set_of (λ i. false)) text rest
+unfolding set_of_text set_with
+no_frame_ahead text rest e = record {
+  word = 45 ∷ [];
+  line = record {
+    line = 45 ∷ [];
+    words_are = refl;
+    lines = rw e (whole_front 10 (45 ∷ []) rest refl);
+    shorter = rw e (omega arith);
+  };
+  reads = refl;
+}
+
+pub set_ahead : (set : List Bool) (word text rest : Text) → LineAhead (word ∷ []) text rest → set_of_text word ≡ Ok set → SetAhead set text rest
+set_ahead set word text rest line reads = record { word = word; line = line; reads = reads }
+
 -- ---- operands
 
 pub page_ahead : (name : PageWord) (caller p : ℕ) (text rest : Text) → NumberAhead 10 18446744073709551615 text p rest → OperandsAhead (page_event name) caller text (by caller (page_what name p)) rest
@@ -97,35 +115,35 @@ range_ahead name caller p first count text t1 t2 rest a b d = record {
   reads = λ w c. rw (c, a.reads, b.reads, d.reads) refl;
 }
 
-pub loss_ahead : (name : LossWord) (caller p : ℕ) (outcome : Outcome) (set : List Bool) (text t1 t2 word rest : Text)
-    → NumberAhead 32 18446744073709551615 text p t1 → OutcomeAhead t1 outcome t2 → LineAhead (word ∷ []) t2 rest → set_of_text word ≡ Ok set
+pub loss_ahead : (name : LossWord) (caller p : ℕ) (outcome : Outcome) (set : List Bool) (text t1 t2 rest : Text)
+    → NumberAhead 32 18446744073709551615 text p t1 → OutcomeAhead t1 outcome t2 → SetAhead set t2 rest
     → OperandsAhead (loss_event name) caller text (by caller (loss_what name outcome p set)) rest
 unfolding loss_event outcome_and_word
-loss_ahead name caller p outcome set text t1 t2 word rest a o l f = record {
-  words = a.word ∷ o.word ∷ word ∷ [];
-  line = number_more 18446744073709551615 p (o.word ∷ word ∷ []) text t1 rest a (outcome_more outcome (word ∷ []) t1 t2 rest o l);
-  reads = λ w c. rw (o.reads, c, a.reads, f) refl;
+loss_ahead name caller p outcome set text t1 t2 rest a o s = record {
+  words = a.word ∷ o.word ∷ s.word ∷ [];
+  line = number_more 18446744073709551615 p (o.word ∷ s.word ∷ []) text t1 rest a (outcome_more outcome (s.word ∷ []) t1 t2 rest o s.line);
+  reads = λ w c. rw (o.reads, c, a.reads, s.reads) refl;
 }
 
-pub unmap_ahead : (caller p first count : ℕ) (outcome : Outcome) (set : List Bool) (text t1 t2 t3 t4 word rest : Text)
-    → NumberAhead 32 18446744073709551615 text p t1 → NumberAhead 32 65535 t1 first t2 → NumberAhead 32 65535 t2 count t3 → OutcomeAhead t3 outcome t4 → LineAhead (word ∷ []) t4 rest → set_of_text word ≡ Ok set
+pub unmap_ahead : (caller p first count : ℕ) (outcome : Outcome) (set : List Bool) (text t1 t2 t3 t4 rest : Text)
+    → NumberAhead 32 18446744073709551615 text p t1 → NumberAhead 32 65535 t1 first t2 → NumberAhead 32 65535 t2 count t3 → OutcomeAhead t3 outcome t4 → SetAhead set t4 rest
     → OperandsAhead unmap_event caller text (by caller (what.UnmapSub outcome p first count set)) rest
 unfolding unmap_event outcome_and_word
-unmap_ahead caller p first count outcome set text t1 t2 t3 t4 word rest a b d o l f = record {
-  words = a.word ∷ b.word ∷ d.word ∷ o.word ∷ word ∷ [];
-  line = number_more 18446744073709551615 p (b.word ∷ d.word ∷ o.word ∷ word ∷ []) text t1 rest a
-      (number_more 65535 first (d.word ∷ o.word ∷ word ∷ []) t1 t2 rest b
-      (number_more 65535 count (o.word ∷ word ∷ []) t2 t3 rest d (outcome_more outcome (word ∷ []) t3 t4 rest o l)));
-  reads = λ w c. rw (o.reads, c, a.reads, b.reads, d.reads, f) refl;
+unmap_ahead caller p first count outcome set text t1 t2 t3 t4 rest a b d o s = record {
+  words = a.word ∷ b.word ∷ d.word ∷ o.word ∷ s.word ∷ [];
+  line = number_more 18446744073709551615 p (b.word ∷ d.word ∷ o.word ∷ s.word ∷ []) text t1 rest a
+      (number_more 65535 first (d.word ∷ o.word ∷ s.word ∷ []) t1 t2 rest b
+      (number_more 65535 count (o.word ∷ s.word ∷ []) t2 t3 rest d (outcome_more outcome (s.word ∷ []) t3 t4 rest o s.line)));
+  reads = λ w c. rw (o.reads, c, a.reads, b.reads, d.reads, s.reads) refl;
 }
 
-pub split_ahead : (caller p : ℕ) (set : List Bool) (text t1 word rest : Text) → NumberAhead 32 18446744073709551615 text p t1 → LineAhead (word ∷ []) t1 rest → set_of_text word ≡ Ok set
+pub split_ahead : (caller p : ℕ) (set : List Bool) (text t1 rest : Text) → NumberAhead 32 18446744073709551615 text p t1 → SetAhead set t1 rest
     → OperandsAhead split_event caller text (by caller (what.Split p set)) rest
 unfolding split_event
-split_ahead caller p set text t1 word rest a l f = record {
-  words = a.word ∷ word ∷ [];
-  line = number_more 18446744073709551615 p (word ∷ []) text t1 rest a l;
-  reads = λ w c. rw (c, a.reads, f) refl;
+split_ahead caller p set text t1 rest a s = record {
+  words = a.word ∷ s.word ∷ [];
+  line = number_more 18446744073709551615 p (s.word ∷ []) text t1 rest a s.line;
+  reads = λ w c. rw (c, a.reads, s.reads) refl;
 }
 
 -- ---- words of events

@@ -1,5 +1,5 @@
 -- Events that are read at the front of a text in one walk over its bytes. No public clause cites this module.
-use Rattle.std.specs.Prelude.{◌≡◌, ◌<◌, ℕ, List, [], ◌∷◌, ◌++◌, length, Result, Ok}
+use Rattle.std.specs.Prelude.{◌≡◌, ◌<◌, ℕ, Bool, List, [], ◌∷◌, ◌++◌, length, Result, Ok}
 use Rattle.thp_model.specs.declared.events.Event.{Event}
 use Rattle.thp_model.specs.declared.events.Outcome.{Outcome}
 use Rattle.thp_text.specs.declared.fault.TextKind.{TextKind}
@@ -10,6 +10,7 @@ use Rattle.thp_journal_reader.specs.declared.version.Version.{Version}
 use Rattle.thp_journal_reader.specs.EventLines.{caller_number}
 use Rattle.thp_journal_reader.specs.EventWords.{event_word, outcome_of}
 use Rattle.thp_journal_reader.specs.JournalLines.{line_of}
+use Rattle.thp_journal_reader.specs.SetTexts.{set_of_text}
 
 -- the text's first line has these words, and `rest` follows it
 pub record LineAhead (words : List Text) (text rest : Text) : Type 0 where
@@ -33,6 +34,12 @@ pub record OutcomeAhead (text : Text) (outcome : Outcome) (rest : Text) : Type 0
   pub one_line : lines_of word ≡ word ∷ []
   pub reads : outcome_of word ≡ Ok outcome
   pub stands : text ≡ word ++ 32 ∷ rest
+
+-- the text's first line is the text of this set, and `rest` follows it
+pub record SetAhead (set : List Bool) (text rest : Text) : Type 0 where
+  pub word : Text
+  pub line : LineAhead (word ∷ []) text rest
+  pub reads : set_of_text word ≡ Ok set
 
 -- the text's first line has words that read as this event behind each word of its caller
 pub record OperandsAhead (reading : Text → List Text → Result Event TextKind) (caller : ℕ) (text : Text) (event : Event) (rest : Text) : Type 0 where

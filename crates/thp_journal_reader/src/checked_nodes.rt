@@ -1,5 +1,5 @@
 //! Nodes whose events are replayed as they are read, and not kept.
-ghost use Rattle.std.specs.Prelude.{◌≡◌, ◌≤◌, ◌<◌, ◌+◌, ◌-◌, ◌^◌, ◌∷◌, ◌++◌, [], length, List, None, OnOk};
+ghost use Rattle.std.specs.Prelude.{◌≡◌, ◌≤◌, ◌<◌, ◌+◌, ◌-◌, ◌^◌, ◌∷◌, ◌++◌, ℕ, [], length, List, None, Some, OnOk};
 ghost use Rattle.thp_journal_reader.specs.Checking.{nodes_told, AreLegal, GoesWith, HasRoom, HasRoomIn, Says};
 ghost use Rattle.thp_journal_reader.specs.Reading.{began, on_last, with_event, with_line};
 ghost use Rattle.thp_journal_reader.specs.declared.journals.NodeJournal.{NodeJournal};
@@ -8,6 +8,7 @@ ghost use Rattle.thp_journal_reader.specs.Later.{goes_later};
 ghost use Rattle.thp_model.specs.BlockLaws.{event_with, least_free};
 ghost use Rattle.thp_model.specs.Shapes.{IsShape};
 ghost use Rattle.thp_model.specs.declared.events.Event.{Event};
+ghost use Rattle.thp_model.specs.declared.events.What.TheVariants.{Alloc};
 ghost use Rattle.thp_text.specs.Limits.{max_counted};
 
 use crate::illegal::Illegal;
@@ -15,8 +16,8 @@ use crate::keeps_nodes::KeepsNodes;
 use crate::line::Line;
 use crate::past_lines::PastLines;
 use std::alloc::{AllocError, Global};
-use thp_check::Replay;
-use thp_model::{Event, Shape, What};
+use thp_check::{Misfit, Replay};
+use thp_model::{Event, PageId, Shape, What};
 
 /// The replay of a node whose events so far are legal.
 #[derive(Drop)]
@@ -67,14 +68,35 @@ impl Verdict {
                     next_line: next_line + 1,
                 });
             }
-            Err(misfit) => {
-                self.illegal = Some(Illegal {
-                    line: next_line,
-                    event: *event,
-                    misfit,
-                });
-            }
+            Err(misfit) => self.note(next_line, event, &misfit),
         }
+    }
+
+    // What comes seldom is done in functions of its own: else each event would clear the stack for it.
+
+    /// Notes the first event that isn't legal.
+    #[inline(never)]
+    fn note(&mut self, line: u64, event: &Event, misfit: &Misfit)
+        ensures node { self.new.node ≡ self.old.node }
+        ensures illegal { self.new.illegal ≡ Some (record { line = line; event = event.now; misfit = misfit.now }) }
+    {
+        self.illegal = Some(Illegal {
+            line,
+            event: *event,
+            misfit: *misfit,
+        });
+    }
+
+    /// Goes on with the node at hand by a new page, in the least free block.
+    #[inline(never)]
+    fn place(&mut self, node: NodeAtHand, caller: u32, page: PageId)
+        requires none { self.old.node ≡ None }
+        requires room { HasRoomIn node }
+        ensures { (nodes : List NodeJournal) (told : Event) (block : ℕ) → self.old.illegal ≡ None → AreLegal nodes node.replay node.next_line → told ≡ record { caller = caller; what = Alloc page block } → Says (on_last (with_event told) nodes) self.new }
+    {
+        let block = node.replay.least_free_block();
+        let what = What::Alloc { page, block };
+        self.go_on(node, &Event { caller, what });
     }
 
     /// One more event of the last node, if there is one: an allocation in the least free block.
@@ -86,17 +108,7 @@ impl Verdict {
             return;
         };
         match event.what {
-            What::Alloc { page, .. } => {
-                let block = node.replay.least_free_block();
-                let what = What::Alloc { page, block };
-                self.go_on(
-                    node,
-                    &Event {
-                        caller: event.caller,
-                        what,
-                    },
-                );
-            }
+            What::Alloc { page, .. } => self.place(node, event.caller, page),
             _ => self.go_on(node, event),
         }
     }

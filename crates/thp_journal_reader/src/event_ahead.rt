@@ -1,13 +1,13 @@
 //! Events read at the front of a text, in one walk over the bytes of their lines. What isn't read so, as a node's line, a close and
 //! each fault, is for `line` to tell.
 ghost use Rattle.std.specs.Prelude.{◌≡◌, [], ◌∷◌, IfSome};
-ghost use Rattle.thp_journal_reader.specs.Ahead.{EventAhead, LineAhead, OperandsAhead, OutcomeAhead};
+ghost use Rattle.thp_journal_reader.specs.Ahead.{EventAhead, LineAhead, OperandsAhead, OutcomeAhead, SetAhead};
 ghost use Rattle.thp_journal_reader.specs.EventLines.{event_by, loss_event, page_event, range_event, split_event, unmap_event};
 
 use crate::event_word::{EventWord, LossWord, PageWord, RangeWord, word_ahead};
 use crate::set_text::set_of_text;
 use crate::version::Version;
-use thp_model::{Event, MAX_CALLERS, Outcome, PageId, What};
+use thp_model::{Event, MAX_CALLERS, Outcome, PageId, SubSet, What};
 use thp_text::{behind_name, cut_at, number_ahead};
 
 /// The outcome whose word a text begins with, and what follows the space behind it.
@@ -36,6 +36,32 @@ fn last_word_ahead(text: &[u8]) -> Option<(&[u8], &[u8])>
         return None;
     };
     Some((word, rest))
+}
+
+/// Reads the set whose text stands alone on the first line of a text, and gives what follows the line.
+#[inline(always)]
+fn set_ahead<'t>(text: &'t [u8], set: &mut SubSet) -> Option<&'t [u8]>
+    ensures { IfSome result (λ rest. SetAhead set.new text.now rest.now) }
+{
+    // most events give no frame back
+    if let Some(rest) = behind_no_frame(text) {
+        *set = SubSet::empty();
+        return Some(rest);
+    }
+    let (word, rest) = last_word_ahead(text)?;
+    *set = set_of_text(word).ok()?;
+    Some(rest)
+}
+
+/// What follows the first line of a text where a dash stands alone on it, as for the set of no subpage.
+#[inline(always)]
+fn behind_no_frame(text: &[u8]) -> Option<&[u8]>
+    ensures { IfSome result (λ rest. text.now ≡ 45 ∷ 10 ∷ rest.now) }
+{
+    match text {
+        [dash, end, rest @ ..] if *dash == b'-' && *end == b'\n' => Some(rest),
+        _ => None,
+    }
 }
 
 /// `PAGE`
@@ -67,8 +93,8 @@ fn loss_event_ahead(name: LossWord, caller: u32, text: &[u8]) -> Option<(Event, 
 {
     let (page, rest) = number_ahead(b' ', u64::MAX, text)?;
     let (outcome, rest) = outcome_ahead(rest)?;
-    let (word, rest) = last_word_ahead(rest)?;
-    let released = set_of_text(word).ok()?;
+    let mut released = SubSet::empty();
+    let rest = set_ahead(rest, &mut released)?;
     let what = name.what(outcome, PageId(page), released);
     Some((Event { caller, what }, rest))
 }
@@ -82,8 +108,8 @@ fn unmap_event_ahead(caller: u32, text: &[u8]) -> Option<(Event, &[u8])>
     let (first, rest) = number_ahead(b' ', u64::from(u16::MAX), rest)?;
     let (count, rest) = number_ahead(b' ', u64::from(u16::MAX), rest)?;
     let (outcome, rest) = outcome_ahead(rest)?;
-    let (word, rest) = last_word_ahead(rest)?;
-    let released = set_of_text(word).ok()?;
+    let mut released = SubSet::empty();
+    let rest = set_ahead(rest, &mut released)?;
     let what = What::UnmapSub {
         outcome,
         page: PageId(page),
@@ -100,8 +126,8 @@ fn split_event_ahead(caller: u32, text: &[u8]) -> Option<(Event, &[u8])>
     ensures { IfSome result (λ read. OperandsAhead split_event caller text.now read.0 read.1.now) }
 {
     let (page, rest) = number_ahead(b' ', u64::MAX, text)?;
-    let (word, rest) = last_word_ahead(rest)?;
-    let released = set_of_text(word).ok()?;
+    let mut released = SubSet::empty();
+    let rest = set_ahead(rest, &mut released)?;
     let what = What::Split {
         page: PageId(page),
         released,

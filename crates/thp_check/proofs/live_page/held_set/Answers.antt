@@ -1,5 +1,5 @@
 use Rattle.std.proofs.Common.{sym, ◌∙◌}
-use Rattle.thp_check.proofs.Showing.{held_unsplit, held_split, held_used}
+use Rattle.thp_check.proofs.Showing.{held_unsplit, held_split}
 use Rattle.thp_check.proofs.live_page.held_set.Goals as goal
 
 pub returns-then-not-is_split : goal.returns-then-not-is_split

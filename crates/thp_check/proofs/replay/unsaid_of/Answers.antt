@@ -1,4 +1,4 @@
-use Rattle.std.proofs.Common.{◌≡◌, not, inl, sym, subst}
+use Rattle.std.proofs.Common.{not, inl, sym, subst}
 use Rattle.thp_model.specs.declared.events.What.{What}
 use Rattle.thp_model.specs.History.{by}
 use Rattle.thp_model.specs.Legal.{Fits}

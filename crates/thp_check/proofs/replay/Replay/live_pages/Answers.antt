@@ -1,5 +1,4 @@
 use Rattle.std.proofs.Common.{◌≡◌, ℕ, List, Some, map, length, ap, sym, ◌∙◌, subst}
-use Rattle.std.specs.Prelude.{IfOk}
 use Rattle.std.specs.List.{filter, range_with_len}
 use Rattle.thp_model.specs.Frames.{block_in_use}
 use Rattle.thp_live_pages.specs.Homes.{block_of}

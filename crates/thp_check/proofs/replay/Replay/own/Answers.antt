@@ -1,6 +1,6 @@
 use Rattle.std.proofs.Common.{◌≡◌, ℕ, ◌<◌, Bool, true, false, cond, ◌&&◌, nat_lt, refl, ap, sym, ◌∙◌, arith}
 use Rattle.thp_model.specs.Counts.{is_live, own}
-use Rattle.thp_model.specs.Pages.{own_at, size}
+use Rattle.thp_model.specs.Pages.{own_at}
 use Rattle.thp_model.specs.Shapes.{subpages}
 use Rattle.thp_model.proofs.Tallying.{own_is, size_is}
 use Rattle.thp_check.specs.declared.node_state.NodeState.{NodeState}

@@ -1,8 +1,8 @@
-use Rattle.std.proofs.Common.{◌≡◌, true, ◌&&◌, nat_lt, ap, sym, ◌∙◌}
+use Rattle.std.proofs.Common.{◌&&◌, nat_lt, ap, sym, ◌∙◌}
 use Rattle.std.specs.Prelude.{is_some}
 use Rattle.thp_model.specs.Counts.{is_live, is_used, pins, whole}
 use Rattle.thp_model.specs.Frames.{is_held}
-use Rattle.thp_model.specs.Pages.{PageState, holds, is_worth, used_set, zero_set}
+use Rattle.thp_model.specs.Pages.{is_worth}
 use Rattle.thp_model.specs.Sets.{set_of}
 use Rattle.thp_model.specs.Shapes.{subpages}
 use Rattle.thp_model.specs.Underused.{is_worth_split, is_zero_filled}

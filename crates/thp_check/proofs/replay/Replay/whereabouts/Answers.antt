@@ -1,4 +1,4 @@
-use Rattle.std.proofs.Common.{◌≡◌, ap, sym, ◌∙◌}
+use Rattle.std.proofs.Common.{ap, sym, ◌∙◌}
 use Rattle.thp_model.specs.Counts.{is_live}
 use Rattle.thp_check.specs.declared.node_state.NodeState.{NodeState}
 use Rattle.thp_check.specs.Replays.{Replayed}

@@ -1,4 +1,4 @@
-use Rattle.std.proofs.Common.{◌∙◌, arith}
+use Rattle.std.proofs.Common.{◌∙◌}
 use Rattle.thp_check.proofs.Showing.{got, number_is, pages_more}
 use Rattle.thp_check.proofs.replay.reading.pages_of.Goals as goal
 

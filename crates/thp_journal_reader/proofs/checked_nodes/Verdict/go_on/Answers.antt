@@ -1,4 +1,4 @@
-use Rattle.std.proofs.Common.{◌+◌, Option, Some, subst, sym}
+use Rattle.std.proofs.Common.{◌+◌, ◌∙◌, Option, Some, subst, sym}
 use Rattle.thp_journal_reader.specs.Checking.{SaysBy}
 use Rattle.thp_journal_reader.specs.Reading.{on_last, with_event}
 use Rattle.thp_journal_reader.specs.declared.checked_nodes.NodeAtHand.{NodeAtHand}
@@ -13,5 +13,8 @@ returns-in-Ok c = λ nodes told none legal placed.
 
 pub returns-in-Err : goal.returns-in-Err
 returns-in-Err c = λ nodes told none legal placed.
-    let P : Option NodeAtHand → Type 0 = λ node. SaysBy (on_last (with_event told) nodes) node (Some (record { line = c.args.node.next_line; event = c.args.event.now; misfit = c.in-Err.misfit })) in
-    subst P (sym c.requires.none) (turns_illegal nodes c.args.node.replay c.args.node.next_line told c.args.event.now c.in-Err.misfit legal placed c.in-Err.ensures.misfit c.in-Err.ensures.why)
+    let found : Illegal = record { line = c.args.node.next_line; event = c.args.event.now; misfit = c.in-Err.misfit } in
+    let P : Option NodeAtHand → Type 0 = λ node. SaysBy (on_last (with_event told) nodes) node (Some found) in
+    let Q : Option Illegal → Type 0 = λ illegal. SaysBy (on_last (with_event told) nodes) c.note.new.self.node illegal in
+    subst Q (sym c.note.ensures.illegal)
+    (subst P (sym (c.note.ensures.node ∙ c.requires.none)) (turns_illegal nodes c.args.node.replay c.args.node.next_line told c.args.event.now c.in-Err.misfit legal placed c.in-Err.ensures.misfit c.in-Err.ensures.why))
