@@ -5,6 +5,8 @@
 
 pub mod conclusions;
 #[cfg(test)]
+mod keeping;
+#[cfg(test)]
 mod limits;
 #[cfg(test)]
 mod rows;

@@ -67,7 +67,7 @@ module _ (d e : Dict) (T : RattleType) (R : Ghosts T.Denot) (recorder_send : IsS
 
   -- a pass may go to another thread
   pub pass_send : IsSend (Pass.the_row T R)
-  pass_send = view_send (in_pass.the_row T R) _ _ _ _ (declared_send (in_pass.the_type T R) (search sendable, (search sendable, (search (sendable, seat.the_send, node_send), tt))))
+  pass_send = view_send (in_pass.the_row T R) _ _ _ _ (declared_send (in_pass.the_type T R) (search sendable, (search sendable, (search sendable, (search (sendable, seat.the_send, node_send), tt)))))
 
 -- kept events may go to another thread
 kept_send : IsSend Kept.the_row

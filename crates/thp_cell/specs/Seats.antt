@@ -1,12 +1,14 @@
 -- What a pass and a hold keep of their seats. No public clause cites this module.
-use Rattle.std.specs.Prelude.{◌≡◌, ℕ, ◌<◌, ◌≤◌, true, false, [], ◌∷◌}
+use Rattle.std.specs.Prelude.{◌≡◌, ℕ, ◌<◌, ◌≤◌, Bool, true, false, List, [], ◌∷◌}
 use Rattle.atomic_table.specs.declared.shared.Seat.{Seat}
 use Rattle.thp_model.specs.Limits.{max_callers, max_order}
+use Rattle.thp_model.specs.History.{History}
 use Rattle.thp_model.specs.Legal.{IsLegal}
 use Rattle.thp_node.specs.NodeState.{NodeState}
 use Rattle.thp_cell.specs.declared.rule.Knows.{Knows}
-use Rattle.thp_cell.specs.Rule.{Adds}
-use Rattle.thp_cell.specs.Views.{PassState}
+use Rattle.thp_cell.specs.Calls.{at_front}
+use Rattle.thp_cell.specs.Rule.{Adds, AllBelow, Since}
+use Rattle.thp_cell.specs.Views.{PassState, HasAll}
 
 abbrev pub Place : Type 0
 Place = Seat NodeState Knows
@@ -20,6 +22,15 @@ pass_state s = record {
   end = s.me.0.end;
   front = s.me.0.front;
 }
+
+-- the history that a seat's holder knows of: where the seat has the slot, the journal of the node in it
+abbrev pub front_in : List (ℕ × NodeState) → History → History
+front_in [] front = front
+front_in ((k, node) ∷ slots) front = node.journal
+
+-- what the holder of a seat knows
+abbrev pub known_state : Place → PassState
+known_state s = at_front (pass_state s) (front_in s.me.1 s.me.0.front)
 
 -- the seat has callers, all of them the cell's, and a legal front, and hasn't the slot
 pub record IsFree (s : Place) : Type 0 where
@@ -57,9 +68,40 @@ pub record HoldsNode (s : Place) : Type 0 where
   pub journal : node.journal ≡ s.me.0.front
   pub legal : IsLegal node.shape node.journal
 
--- the numbers of a pass are its seat's, and the pages are none too large
-pub record IsNumbered (first end : ℕ) (s : Place) : Type 0 where
-  pub first_is : first ≡ s.me.0.first
-  pub end_is : end ≡ s.me.0.end
+-- the seat has the slot, and no event of its node has a caller beyond the cell's
+pub record IsKept (s : Place) : Type 0 where
+  pub lent : IsLent s
+  pub known : AllBelow s.me.0.callers lent.node.journal
+
+-- the seat of a pass, which keeps the node or doesn't
+abbrev pub IsIn : Bool → Place → Type 0
+IsIn true s = IsKept s
+IsIn false s = IsFree s
+
+-- The seat has the slot with the node, as a pass that was p took it or kept it: the journal is the front of the pass and then events
+-- of other callers alone, and what the table knows of it is a front, and then events of the pass's callers alone.
+pub record HasTaken (p : PassState) (s : Place) : Type 0 where
+  pub same : pass_state s ≡ at_front p s.me.0.front
+  pub callers : p.first < p.end
+  pub inside : p.end ≤ p.callers
+  pub has_node : s.me.0.has_node ≡ true
+  pub node : NodeState
+  pub slot : s.me.1 ≡ (0, node) ∷ []
+  pub shape : node.shape ≡ p.shape
+  pub since : Since p.first p.end p.front node.journal
+  pub adds : Adds p.first p.end s.me.0.front node.journal
+  pub legal : IsLegal node.shape node.journal
+  pub known : AllBelow p.callers node.journal
+
+-- another pass has the node: nothing changed
+pub record FoundBusy (keeps : Bool) (old new : Place) : Type 0 where
+  pub same : known_state new ≡ known_state old
+  pub still : IsIn keeps new
+  pub shared : HasAll (known_state old) → ⊥
+
+-- the numbers of a pass, and its pages are none too large
+pub record IsNumbered (first end : ℕ) (p : PassState) : Type 0 where
+  pub first_is : first ≡ p.first
+  pub end_is : end ≡ p.end
   pub few : end ≤ max_callers
-  pub order : s.me.0.shape.order ≤ max_order
+  pub order : p.shape.order ≤ max_order

@@ -1,5 +1,5 @@
 //! A node that threads share: how it is made, held, split among threads, and taken apart.
-ghost use Rattle.std.specs.Prelude.{◌≡◌, ℕ, ◌<◌, ◌≤◌, ◌⊎◌, ◌↔◌, [], ◌∷◌, length, true, false, Err, All, IfOk, IfErr};
+ghost use Rattle.std.specs.Prelude.{◌≡◌, ℕ, ◌<◌, ◌≤◌, ◌⊎◌, ◌↔◌, [], ◌∷◌, length, true, false, Err, All, IfOk, IfErr, OnOk, OnErr};
 ghost use Rattle.thp_model.specs.Limits.{max_callers};
 ghost use Rattle.thp_model.specs.History.{events_of};
 ghost use Rattle.thp_model.specs.Legal.{IsLegal};
@@ -45,7 +45,7 @@ impl<R: Recorder> NodeCell<R> {
     ghost use Rattle.std.specs.Borrow.{sem};
     ghost use Rattle.thp_node.specs.NodeState.{NodeState};
     ghost use Rattle.thp_cell.specs.Steps.{seen, left_of, right_of, Took, WasBusy};
-    ghost use Rattle.thp_cell.specs.Seats.{IsFree, IsLent, HasSlot};
+    ghost use Rattle.thp_cell.specs.Seats.{front_in, known_state, IsFree, IsIn, IsKept, IsLent, HasSlot, HasTaken, FoundBusy};
     ghost use Rattle.thp_cell.specs.Lending.{lends_node};
 
     /// Makes a cell of a node, for a number of callers, and the pass that has them all. Their numbers are those below
@@ -87,6 +87,7 @@ impl<R: Recorder> NodeCell<R> {
                 Pass {
                     first: 0,
                     end: callers,
+                    keeps: false,
                     seat,
                 },
             )),
@@ -107,18 +108,22 @@ impl<R: Recorder> NodeCell<R> {
         let Pass {
             first,
             end,
+            keeps,
             mut seat,
         } = pass;
+        self.settle(&mut seat, keeps);
         let right = self.split_seat::<Brand>(&mut seat, at);
         (
             Pass {
                 first,
                 end: at,
+                keeps: false,
                 seat,
             },
             Pass {
                 first: at,
                 end,
+                keeps: false,
                 seat: right,
             },
         )
@@ -157,16 +162,25 @@ impl<R: Recorder> NodeCell<R> {
         let Pass {
             first,
             end: _,
+            keeps,
             mut seat,
         } = left;
         let Pass {
             first: _,
             end,
-            seat: other,
+            keeps: right_keeps,
+            seat: mut other,
         } = right;
+        self.settle(&mut seat, keeps);
+        self.settle(&mut other, right_keeps);
         self.table.shared.join_seat::<Both>(&mut seat, other);
         self.table.shared.load::<Look>(&mut seat, 0);
-        Pass { first, end, seat }
+        Pass {
+            first,
+            end,
+            keeps: false,
+            seat,
+        }
     }
 
     /// Takes the node for a hold without events: no other pass reaches it before the release. Refused where another pass
@@ -179,12 +193,20 @@ impl<R: Recorder> NodeCell<R> {
         let Pass {
             first,
             end,
+            keeps,
             mut seat,
         } = pass;
+        self.settle(&mut seat, keeps);
         if self.lock(&mut seat) {
             Ok(Hold { first, end, seat })
         } else {
-            Err((Pass { first, end, seat }, Busy))
+            let pass = Pass {
+                first,
+                end,
+                keeps: false,
+                seat,
+            };
+            Err((pass, Busy))
         }
     }
 
@@ -199,7 +221,36 @@ impl<R: Recorder> NodeCell<R> {
             mut seat,
         } = hold;
         self.unlock(&mut seat);
-        Pass { first, end, seat }
+        Pass {
+            first,
+            end,
+            keeps: false,
+            seat,
+        }
+    }
+
+    /// Keeps the node for the calls of the pass that follow: they no more take and release it each, and no other pass reaches it until
+    /// the pass lets it go, is divided, joined or taken for a hold, or the cell is taken apart. Refused where another pass has the node,
+    /// which a pass of all callers never meets.
+    pub fn keep(&self, pass: &mut Pass<R>) -> Result<(), Busy>
+        requires { pass.old.cell ≡ self.now }
+        ensures follows { OnOk result (Follows pass.old pass.new) }
+        ensures busy { OnErr result (IsBusy pass.old pass.new) }
+    {
+        if !self.enter(&mut pass.seat, pass.keeps) {
+            return Err(Busy);
+        }
+        pass.keeps = true;
+        Ok(())
+    }
+
+    /// Lets a node go that the pass keeps, if it does.
+    pub fn let_go(&self, pass: &mut Pass<R>)
+        requires { pass.old.cell ≡ self.now }
+        ensures { pass.new ≡ pass.old }
+    {
+        self.settle(&mut pass.seat, pass.keeps);
+        pass.keeps = false;
     }
 
     /// How many pages are queued, by a single load without the lock, also while another pass has the node.
@@ -208,6 +259,9 @@ impl<R: Recorder> NodeCell<R> {
         ensures follows { Follows pass.old pass.new }
         ensures count { result ≡ length (queue pass.new.shape pass.new.front) }
     {
+        if pass.keeps {
+            return self.queued(&mut pass.seat);
+        }
         let found = self.table.shared.load::<Count>(&mut pass.seat, 0);
         (found / 2) as u32
     }
@@ -233,18 +287,72 @@ impl<R: Recorder> NodeCell<R> {
         ensures frames { HasFramesOnce result.shape result.journal }
         ensures sum { KeepsFrames result.shape result.journal }
     {
-        let NodeCell { table } = self;
         let Pass {
             first: _,
             end: _,
-            seat,
+            keeps,
+            mut seat,
         } = pass;
+        self.settle(&mut seat, keeps);
+        let NodeCell { table } = self;
         let mut closed = table.close_with(seat);
         let node = closed.take(0);
         closed.free();
         // tells the proof the laws at the journal
         node.laws();
         node
+    }
+
+    // Takes the node for a call, where the pass doesn't keep it.
+    #[inline(always)]
+    fn enter(&self, seat: &mut Seat<Node<R>, Knows>, keeps: bool) -> bool
+        requires cell { seat.old.table_id ≡ self.now }
+        requires is { IsIn keeps seat.old }
+        ensures same_cell { seat.new.table_id ≡ seat.old.table_id }
+        ensures took { result ≡ true → HasTaken (known_state seat.old) seat.new }
+        ensures busy { result ≡ false → FoundBusy keeps seat.old seat.new }
+    {
+        if keeps {
+            return true;
+        }
+        self.lock(seat)
+    }
+
+    // Ends a call: releases the node, where the pass doesn't keep it.
+    #[inline(always)]
+    fn leave(&self, seat: &mut Seat<Node<R>, Knows>, keeps: bool)
+        requires cell { seat.old.table_id ≡ self.now }
+        requires kept { IsKept seat.old }
+        ensures same_cell { seat.new.table_id ≡ seat.old.table_id }
+        ensures is { IsIn keeps seat.new }
+        ensures same { known_state seat.new ≡ known_state seat.old }
+    {
+        if !keeps {
+            self.unlock(seat);
+        }
+    }
+
+    // Releases a node that was kept.
+    fn settle(&self, seat: &mut Seat<Node<R>, Knows>, keeps: bool)
+        requires cell { seat.old.table_id ≡ self.now }
+        requires is { IsIn keeps seat.old }
+        ensures same_cell { seat.new.table_id ≡ seat.old.table_id }
+        ensures free { IsFree seat.new }
+        ensures same { known_state seat.new ≡ known_state seat.old }
+    {
+        if keeps {
+            self.unlock(seat);
+        }
+    }
+
+    // How many pages are queued on a node that is kept.
+    fn queued(&self, seat: &mut Seat<Node<R>, Knows>) -> u32
+        requires cell { seat.old.table_id ≡ self.now }
+        requires kept { IsKept seat.old }
+        ensures same { seat.new ≡ seat.old }
+        ensures count { result ≡ length (queue seat.old.me.0.shape (front_in seat.old.me.1 seat.old.me.0.front)) }
+    {
+        Self::node(seat, self).queue_len()
     }
 
     // The lock step: where no other pass has the node, the seat has the slot with it until `unlock`.

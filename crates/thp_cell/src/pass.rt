@@ -17,18 +17,20 @@ pub struct Pass<R: Recorder = Kept> {
     // the callers: from `first` on and below `end`
     pub(crate) first: u32,
     pub(crate) end: u32,
+    // whether the pass keeps the node between its calls
+    pub(crate) keeps: bool,
     pub(crate) seat: Seat<Node<R>, Knows>,
 }
 
 impl<R: Recorder> Model for Pass<R> {
     ghost use Rattle.thp_cell.specs.Views.{PassState};
-    ghost use Rattle.thp_cell.specs.Seats.{pass_state, IsNumbered, IsFree};
+    ghost use Rattle.thp_cell.specs.Seats.{known_state, IsNumbered, IsIn};
 
     ghost Value = { PassState };
 
-    ghost view = { λ p. pass_state p.seat };
+    ghost view = { λ p. known_state p.seat };
 
-    ghost invariant = { λ p. IsNumbered p.first p.end p.seat × IsFree p.seat };
+    ghost invariant = { λ p. IsNumbered p.first p.end (known_state p.seat) × IsIn p.keeps p.seat };
 }
 
 impl<R: Recorder> Pass<R> {
@@ -74,5 +76,5 @@ impl<R: Recorder> Model for Hold<R> {
 
     ghost view = { λ h. pass_state h.seat };
 
-    ghost invariant = { λ h. IsNumbered h.first h.end h.seat × HoldsNode h.seat };
+    ghost invariant = { λ h. IsNumbered h.first h.end (pass_state h.seat) × HoldsNode h.seat };
 }

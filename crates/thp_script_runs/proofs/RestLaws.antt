@@ -1,5 +1,5 @@
 -- What is left of the workers' sections, done one after another.
-use Rattle.std.proofs.Common.{◌≡◌, ◌∙◌, ◌++◌, ◌+◌, ◌<◌, ◌≤◌, ap, ℕ, Bool, zero, suc, List, [], ◌∷◌, length, drop, get_or, refl, sym, subst, arith, length-append, append_assoc, Some}
+use Rattle.std.proofs.Common.{◌≡◌, ◌∙◌, ◌++◌, ◌+◌, ◌<◌, ◌≤◌, ap, ℕ, zero, suc, List, [], ◌∷◌, length, drop, get_or, refl, sym, subst, arith, length-append, append_assoc, Some}
 use Rattle.std.specs.Prelude.{All, Vec, slice_get}
 use Rattle.std.specs.declared.alloc.Global.{Global}
 use Rattle.std.proofs.lemmas.List.{append-nil, drop_all, length-map}

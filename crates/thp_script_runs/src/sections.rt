@@ -15,8 +15,8 @@ use thp_sections::{
 use thp_text::{Command, Script, Sequence};
 
 /// Does `setup` as caller 0, then the section of each worker on a thread of its own, and then, workers ascending, what they
-/// postponed. The passes have caller 0 and a caller for each worker. `answers`
-/// says what becomes of the answers.
+/// postponed. The passes have caller 0 and a caller for each worker, and keep the nodes where all callers are theirs. `answers` says
+/// what becomes of the answers.
 pub(crate) fn run_sections<R: Threads + Sync, P: Passes + Send + Drop, G: Gate + Sync>(
     rt: &R,
     alloc: Global,
@@ -32,10 +32,12 @@ pub(crate) fn run_sections<R: Threads + Sync, P: Passes + Send + Drop, G: Gate +
 {
     let Script { setup, workers } = script;
     let mut passes = passes;
+    passes.keep_nodes();
     let setup = work(alloc, setup.as_slice(), 0, answers, &mut passes, &NoGate)?;
     let workers = vectors(alloc, workers)?;
     let (passes, worked) = run_range(rt, alloc, passes, 1, workers.as_slice(), answers, gate)?;
     let mut passes = passes;
+    passes.keep_nodes();
     let done = do_rest(alloc, workers.as_slice(), worked, &mut passes)?;
     let sections = sections(alloc, setup, done)?;
     Ok((passes, sections))

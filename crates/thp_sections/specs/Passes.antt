@@ -5,6 +5,7 @@ use Rattle.thp_model.specs.declared.shape.Shape.{Shape}
 use Rattle.thp_model.specs.History.{History}
 use Rattle.thp_model.specs.Legal.{IsLegal}
 use Rattle.thp_cell.specs.Calls.{IsJoined, PartsStay}
+use Rattle.thp_cell.specs.Views.{HasAll}
 use Rattle.thp_sections.specs.Does.{Open}
 use Rattle.thp_sections.specs.Fronts.{Fronts}
 use Rattle.thp_sections.specs.Holdings.{Held, batch_of, lower_part, upper_part, OpenStay}
@@ -68,6 +69,10 @@ low_part at h = lower_part h at
 
 abbrev pub high_part : ℕ → Held → Held
 high_part at h = upper_part h at
+
+-- the pass has all callers
+abbrev pub IsOfAll : Held → Type 0
+IsOfAll h = HasAll h.pass
 
 -- two passes of one cell whose callers adjoin
 pub record Adjoins (l r : Held) : Type 0 where

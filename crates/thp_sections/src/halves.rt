@@ -1,7 +1,7 @@
 //! Workers side by side, by halves.
 ghost use Rattle.std.specs.Prelude.{◌≡◌, ◌<◌, All, IfOk, IsOkAnd, List, [], ◌∷◌, ◌++◌};
 ghost use Rattle.std.specs.Thread.{IsSync};
-ghost use Rattle.thp_sections.specs.Fronts.{Fronts};
+ghost use Rattle.thp_sections.specs.Fronts.{Fronts, HasAll};
 ghost use Rattle.thp_sections.specs.Halves.{CanJoin, CanRun, IsJoined, IsSplit, Ran};
 ghost use Rattle.thp_sections.specs.Sections.{AnswersAre};
 ghost use Rattle.thp_sections.specs.declared.reply.Worked.{Worked};
@@ -27,6 +27,13 @@ pub trait Passes: Steps + Sized {
     fn join(self, alloc: Global, other: Self) -> Result<Self, AllocError>
         requires { CanJoin (Self.fronts self) (Self.fronts other) }
         ensures { IfOk result (λ r. IsJoined (Self.fronts self) (Self.fronts other) (Self.fronts r)) };
+
+    /// Keeps the nodes for the steps that follow, up to a division of the callers, where that spares each step to take and release its
+    /// node. Contracts see nothing of it.
+    fn keep_nodes(&mut self)
+        requires { HasAll (Self.fronts self.old) }
+        ensures { Self.fronts self.new ≡ Self.fronts self.old }
+    {}
 }
 
 /// Does the sections of the workers from `first` on, each on a thread of its own. `answers` says what becomes of theirs.

@@ -2,7 +2,7 @@
 ghost use Rattle.std.specs.Prelude.{◌≡◌, ◌<◌, ◌≤◌, ℕ, length, slice_get, slice_set, IfOk, MatchBool, None, Ok, Some};
 ghost use Rattle.thp_model.specs.Legal.{IsLegal};
 ghost use Rattle.thp_cell.specs.Calls.{IsJoined, PartsStay};
-ghost use Rattle.thp_cell.specs.Views.{HasCaller};
+ghost use Rattle.thp_cell.specs.Views.{HasAll, HasCaller};
 ghost use Rattle.thp_sections.specs.Does.{answer_of, IsStep};
 ghost use Rattle.thp_sections.specs.Holdings.{batch_of, lower_part, loss_reply, page_reply, unit_reply, upper_part, HeldDone, IsShut, IsSomeBatch, OpenStay};
 
@@ -67,6 +67,16 @@ impl<'a, R: Recorder> NodePass<'a, R> {
             batches: _,
         } = self;
         pass
+    }
+
+    /// Keeps the node for the steps that follow, which then no more take and release it each, until the callers are divided or the
+    /// pass is taken out. Only who has all callers can ask for it.
+    pub(crate) fn keep(&mut self)
+        requires { HasAll self.old.pass }
+        ensures { self.new ≡ self.old }
+    {
+        // a pass of all callers never finds the node busy
+        let _ = self.cell.keep(&mut self.pass);
     }
 
     /// One step of a caller. What it is replied stands in `reply`, which after a fault says nothing.

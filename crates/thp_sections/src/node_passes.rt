@@ -2,7 +2,7 @@
 ghost use Rattle.std.specs.Prelude.{◌≡◌, ◌<◌, ◌++◌, All, IfOk, map};
 ghost use Rattle.thp_sections.specs.Does.{answer_of, IsStep};
 ghost use Rattle.thp_sections.specs.Fronts.{Goes, HasCaller, StepDone};
-ghost use Rattle.thp_sections.specs.Passes.{fronts_in, fronts_of, high_part, low_part, Agree, EachAdjoins, EachJoint, IsCut};
+ghost use Rattle.thp_sections.specs.Passes.{fronts_in, fronts_of, high_part, low_part, Agree, EachAdjoins, EachJoint, IsCut, IsOfAll};
 
 use crate::halves::Passes;
 use crate::node_pass::NodePass;
@@ -146,6 +146,20 @@ impl<'a, R: Recorder> Passes for NodePasses<'a, R> {
             end,
             nodes,
         })
+    }
+
+    fn keep_nodes(&mut self) {
+        keep_each(&mut self.nodes);
+    }
+}
+
+/// Keeps each node for the steps that follow.
+fn keep_each<'a, R: Recorder>(nodes: &mut Vec<NodePass<'a, R>>)
+    requires { All IsOfAll nodes.old.items }
+    ensures { nodes.new.items ≡ nodes.old.items }
+{
+    for index in 0..nodes.len() {
+        nodes[index].keep();
     }
 }
 

@@ -1,5 +1,5 @@
 -- The node is in the slot at the end, and its journal is the pass's front.
-use Rattle.std.proofs.Common.{◌≡◌, ◌<◌, arith, subst, ap, sym}
+use Rattle.std.proofs.Common.{◌≡◌, ◌∙◌, ◌<◌, arith, subst, ap, sym}
 use Rattle.std.specs.List.{All}
 use Rattle.std.proofs.lemmas.List.Elements.{All-weaker}
 use Rattle.thp_model.specs.declared.events.Event.{Event}
@@ -10,6 +10,7 @@ use Rattle.thp_cell.specs.Steps.{IsWhole}
 use Rattle.thp_cell.specs.Views.{PassState, HasAll}
 use Rattle.thp_cell.specs.Seats.{Place, pass_state}
 use Rattle.thp_cell.proofs.Ending.{EndsWith, ends}
+use Rattle.thp_cell.proofs.Keeping.{free_state}
 use Rattle.thp_cell.proofs.cell.NodeCell.finish.Goals as goal
 
 -- the node at the end, by the pass
@@ -31,10 +32,11 @@ is_whole p s is all = let whole = subst HasAll (sym is) all in record { from = w
 
 pub returns : goal.returns
 returns g c =
-    let free = c.pass.invariant.1 in
-    let s = c.pass.inside.seat in
-    let t = ends _ _ _ s.me.0 _ _ _ free.no_node free.callers (is_whole _ s c.pass.view_is c.requires.all) c.close_with-closed.ensures.values.2 c.take-node.ensures.value in
-    let e = ends_pass c.args.pass s c.take-node.result c.pass.view_is c.requires.all t in record {
+    let free = c.settle.ensures.free in
+    let s = c.settle.new.seat in
+    let is = sym (free_state s free.no_slot) ∙ (c.settle.ensures.same ∙ c.pass.view_is) in
+    let t = ends _ _ _ s.me.0 _ _ _ free.no_node free.callers (is_whole _ s is c.requires.all) c.close_with-closed.ensures.values.2 c.take-node.ensures.value in
+    let e = ends_pass c.args.pass s c.take-node.result is c.requires.all t in record {
       shape = e.shape;
       journal = e.journal;
       legal = t.legal;

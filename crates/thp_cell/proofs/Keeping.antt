@@ -1,0 +1,66 @@
+-- A pass that keeps its node, and one that doesn't: what their seats know.
+use Rattle.std.proofs.Common.{◌≡◌, ◌<◌, ◌≤◌, ℕ, Bool, true, false, List, [], ◌∷◌, refl, sym, ap, ◌∙◌, subst}
+use Rattle.atomic_table.specs.Table.{rest}
+use Rattle.atomic_table.specs.Lent.{seat_with}
+use Rattle.thp_model.specs.Legal.{IsLegal}
+use Rattle.thp_node.specs.NodeState.{NodeState}
+use Rattle.thp_cell.specs.Rule.{Adds, AllBelow}
+use Rattle.thp_cell.specs.Calls.{at_front, Follows}
+use Rattle.thp_cell.specs.Views.{PassState}
+use Rattle.thp_cell.specs.Seats.{Place, front_in, pass_state, known_state, IsFree, IsIn, IsKept, HasTaken}
+use Rattle.thp_cell.proofs.Fronts.{since_same}
+use Rattle.thp_cell.proofs.Passes.{follows}
+
+pub in_free : (keeps : Bool) (s : Place) → keeps ≡ false → IsIn keeps s → IsFree s
+in_free keeps s is held = subst (λ b. IsIn b s) is held
+
+pub in_kept : (keeps : Bool) (s : Place) → keeps ≡ true → IsIn keeps s → IsKept s
+in_kept keeps s is held = subst (λ b. IsIn b s) is held
+
+-- a seat without the slot knows its front
+pub free_state : (s : Place) → s.me.1 ≡ [] → known_state s ≡ pass_state s
+free_state s none = ap (λ l. at_front (pass_state s) (front_in l s.me.0.front)) none
+
+-- and one with the slot the node's journal
+kept_front : (s : Place) (node : NodeState) → s.me.1 ≡ (0, node) ∷ [] → (known_state s).front ≡ node.journal
+kept_front s node slot = ap (λ l. front_in l s.me.0.front) slot
+
+-- nothing changed for a pass that keeps its node
+pub follows_kept : (p : PassState) (s : Place) → known_state s ≡ p → IsKept s → Follows p p
+follows_kept p s is k =
+    let lent = k.lent in
+    let front = kept_front s lent.node lent.slot in
+    let q = known_state s in
+    subst (λ (x : PassState). Follows x x) is (follows q q refl (since_same q.first q.end q.front) (subst (AllBelow s.me.0.callers) (sym front) k.known)
+    (subst (IsLegal s.me.0.shape) (sym front) (subst (λ z. IsLegal z lent.node.journal) lent.shape lent.legal)))
+
+-- a node that was taken may be kept
+pub kept_of : (p : PassState) (s : Place) → HasTaken p s → IsKept s
+kept_of p s has =
+    let is = sym has.same in record {
+      lent = record {
+        callers = subst (λ (q : PassState). q.first < q.end) is has.callers;
+        inside = subst (λ (q : PassState). q.end ≤ q.callers) is has.inside;
+        has_node = has.has_node;
+        node = has.node;
+        slot = has.slot;
+        shape = has.shape ∙ ap (λ (q : PassState). q.shape) is;
+        legal = has.legal;
+        adds = subst (λ (q : PassState). Adds q.first q.end s.me.0.front has.node.journal) is has.adds;
+      };
+      known = subst (λ (q : PassState). AllBelow q.callers has.node.journal) is has.known;
+    }
+
+-- and its pass knows the node's journal
+pub taken_state : (p : PassState) (s : Place) (has : HasTaken p s) → known_state s ≡ at_front p has.node.journal
+taken_state p s has = ap (at_front (pass_state s)) (kept_front s has.node has.slot) ∙ ap (λ (q : PassState). at_front q has.node.journal) has.same
+
+pub follows_taken : (p q : PassState) (s : Place) → p ≡ q → HasTaken p s → Follows q (known_state s)
+follows_taken p q s is has =
+    let legal : IsLegal p.shape has.node.journal = subst (λ z. IsLegal z has.node.journal) has.shape has.legal in
+    let at : Follows p (at_front p has.node.journal) = follows p (at_front p has.node.journal) refl has.since has.known legal in
+    subst (λ (x : PassState). Follows x (known_state s)) is (subst (Follows p) (sym (taken_state p s has)) at)
+
+-- a node that was only looked at lies in its slot as it did
+pub same_seat : (s : Place) (node : NodeState) → s.me.1 ≡ (0, node) ∷ [] → seat_with s 0 node ≡ s
+same_seat s node slot = ap (λ (l : List (ℕ × NodeState)). record s { me = (s.me.0, l) }) (ap (λ (l : List (ℕ × NodeState)). (0, node) ∷ rest l) slot ∙ sym slot)
