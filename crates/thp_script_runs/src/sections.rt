@@ -1,11 +1,12 @@
 //! All sections of a script: `setup`, the workers side by side, and what they postponed.
-ghost use Rattle.std.specs.Prelude.{◌≡◌, ◌+◌, ◌≤◌, ◌∷◌, [], All, IfOk, length};
+ghost use Rattle.std.specs.Prelude.{◌≡◌, ◌+◌, ◌≤◌, ◌∷◌, [], All, IfOk, List, length};
 ghost use Rattle.thp_sections.specs.declared.answer_log.Answers.{Answers};
 ghost use Rattle.thp_sections.specs.Fronts.{Fronts, HasAll};
 ghost use Rattle.thp_sections.specs.Halves.{AllWork, IsSection};
 ghost use Rattle.thp_sections.specs.Sections.{AnswersAre, IsDoneFor};
 ghost use Rattle.thp_text.specs.Limits.{max_workers};
-ghost use Rattle.thp_script_runs.specs.Sections.{commands_in, numbered, GoesFrom, InOrder, IsFitScript, IsNew, RunsTo, SectionAnswersAre};
+ghost use Rattle.thp_text.specs.declared.script.Command.{Command};
+ghost use Rattle.thp_script_runs.specs.Sections.{commands_in, numbered, GoesFrom, InOrder, IsFitScript, IsNew, IsSetUp, RunsTo, SectionAnswersAre};
 
 use std::alloc::{AllocError, Global};
 use std::thread::Threads;
@@ -34,6 +35,28 @@ pub(crate) fn run_sections<R: Threads + Sync, P: Passes + Send + Drop, G: Gate +
     let mut passes = passes;
     passes.keep_nodes();
     let setup = work(alloc, setup.as_slice(), 0, answers, &mut passes, &NoGate)?;
+    run_workers_behind(rt, alloc, passes, setup, workers, answers, gate)
+}
+
+/// Does the sections of the workers behind `setup`, each on a thread of its own, and then, workers ascending, what they postponed.
+pub(crate) fn run_workers_behind<
+    R: Threads + Sync,
+    P: Passes + Send + Drop,
+    G: Gate + Sync,
+>(
+    rt: &R,
+    alloc: Global,
+    passes: P,
+    setup: Worked,
+    workers: Sequence<Sequence<Command>>,
+    answers: Answers,
+    gate: &G,
+) -> Result<(P, Vec<Section>), AllocError>
+    requires set_up { (first : Fronts) × (commands : List Command) × IsSetUp first (P.fronts passes) commands workers setup }
+    requires setup_answers { AnswersAre answers setup }
+    ensures runs { (first : Fronts) (commands : List Command) → IsSetUp first (P.fronts passes) commands workers setup → IfOk result (λ r. RunsTo first (P.fronts r.0) (record { setup = commands; workers = workers }) r.1.items) }
+    ensures answers { IfOk result (λ r. All (SectionAnswersAre answers) r.1.items) }
+{
     let workers = vectors(alloc, workers)?;
     let (passes, worked) = run_range(rt, alloc, passes, 1, workers.as_slice(), answers, gate)?;
     let mut passes = passes;

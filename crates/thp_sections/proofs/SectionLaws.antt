@@ -2,7 +2,7 @@
 use Rattle.std.proofs.Common.{◌≡◌, ◌∙◌, ◌⊎◌, ◌++◌, set, ◌+◌, ◌-◌, ◌<◌, ◌≤◌, ap, ℕ, zero, suc, Bool, true, false, List, [], ◌∷◌, length, take, map, refl, sym, subst, inl, inr, arith, append_assoc, length-append, Option, Some, None, Ok, Err}
 use Rattle.std.specs.Prelude.{All, Vec, replicate, slice_get, Result}
 use Rattle.std.specs.declared.alloc.Global.{Global}
-use Rattle.std.proofs.lemmas.List.{append-nil, map-append, length-map, take_all}
+use Rattle.std.proofs.lemmas.List.{append-nil, map-append, length-map, take-append-le, take_all}
 use Rattle.std.proofs.lemmas.Bool.{cases_lt}
 use Rattle.std.proofs.lemmas.Option.{slice_get_past}
 use Rattle.std.proofs.lemmas.Grind.{flat_map-append}
@@ -173,6 +173,32 @@ ends_first c old mid commands answers opened begun le b =
       closes = ap (λ bs. closing old.nodes bs) batches;
       count = refl;
       known = known_as old.nodes old.nodes opened (batches_after (old.batches c) (steps_of b.turns)) (mid.batches c) refl (sym batches) b.known;
+    }
+
+-- a command behind others
+pub get_behind : (before commands : List Command) (k : ℕ) (command : Command) → slice_get commands k ≡ Some command → slice_get (before ++ commands) (length before + k) ≡ Some command
+get_behind [] commands k command at = let e : 0 + k ≡ k = omega arith in rw e at
+get_behind (first ∷ before) commands k command at =
+    let e : length (first ∷ before) + k ≡ suc (length before + k) = omega arith in
+    rw e (get_behind before commands k command at)
+
+-- Further commands come behind those that were done.
+pub begins_longer : (c : ℕ) (old mid : Fronts) (commands more : List Command) (answers : List Answer) (opened : List Bool) → length answers ≡ length commands → Begins c old mid commands answers opened first_begun → Begins c old mid (commands ++ more) answers opened first_begun
+begins_longer c old mid commands more answers opened each b =
+    let count : length b.turns ≡ length answers = sym (ap length b.answered ∙ length-answers 0 b.turns) in
+    let past : length commands ≤ length b.turns = omega (arith, each, count) in
+    let within : length b.turns ≤ length commands = omega (arith, each, count) in
+    let none = subst (λ o. IsNext (mid.batches c) o b.made first_begun) (slice_get_past commands (length b.turns) past) b.next in
+    record {
+      turns = b.turns;
+      made = b.made;
+      grows = b.grows;
+      steps = b.steps;
+      each = b.each;
+      done = b.done ∙ sym (take-append-le (length b.turns) commands more within);
+      answered = b.answered;
+      next = subst (λ ms. IsNext (mid.batches c) (slice_get (commands ++ more) (length b.turns)) ms first_begun) (sym none.0) (is_next_first (mid.batches c) (slice_get (commands ++ more) (length b.turns)));
+      known = b.known;
     }
 
 -- ---- put-backs

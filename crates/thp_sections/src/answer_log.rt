@@ -1,5 +1,5 @@
 //! The answers of a section, kept or only counted.
-ghost use Rattle.std.specs.Prelude.{◌≡◌, ◌<◌, ◌+◌, ◌++◌, ◌∷◌, [], length, IfNone, IfOk, IfSome, None, Some};
+ghost use Rattle.std.specs.Prelude.{◌≡◌, ◌<◌, ◌≤◌, ◌+◌, ◌++◌, ◌∷◌, [], length, IfNone, IfOk, IfSome, None, OnOk, Some};
 ghost use Rattle.thp_sections.specs.Does.{answer_of};
 ghost use Rattle.thp_sections.specs.Logs.{kept_in};
 
@@ -79,6 +79,18 @@ impl CountedAnswers {
     {
         self.count
     }
+
+    // Makes room for so many answers behind those that there are, unless they are too many to be counted.
+    fn reserve(&mut self, more: usize) -> Result<(), AllocError>
+        ensures items { self.new.items ≡ self.old.items }
+        ensures room { OnOk result (length self.old.items + more ≤ self.new.room) }
+    {
+        if more > usize::MAX - self.count {
+            return Err(AllocError);
+        }
+        self.room = self.room.max(self.count + more);
+        Ok(())
+    }
 }
 
 // What a log is: the answers themselves, or their number.
@@ -140,6 +152,18 @@ impl AnswerLog {
         match &mut self.log {
             Log::Kept(kept) => kept.push(command, node, called, reply),
             Log::Counted(counted) => counted.push(command, node, called, reply),
+        }
+    }
+
+    /// Makes room for so many answers behind those that there are.
+    pub fn reserve(&mut self, more: usize) -> Result<(), AllocError>
+        ensures items { self.new.items ≡ self.old.items }
+        ensures are { self.new.are ≡ self.old.are }
+        ensures room { OnOk result (length self.old.items + more ≤ self.new.room) }
+    {
+        match &mut self.log {
+            Log::Kept(kept) => kept.reserve(more),
+            Log::Counted(counted) => counted.reserve(more),
         }
     }
 

@@ -1,5 +1,5 @@
 //! Answers kept in less room than a list of them takes.
-ghost use Rattle.std.specs.Prelude.{◌≡◌, ◌<◌, ◌≤◌, ◌+◌, ◌++◌, ◌∷◌, [], length, slice_get, vec_capacity, vec_len, IfOk, Ok};
+ghost use Rattle.std.specs.Prelude.{◌≡◌, ◌<◌, ◌≤◌, ◌+◌, ◌++◌, ◌∷◌, [], length, slice_get, vec_capacity, vec_len, IfOk, Ok, OnOk};
 ghost use Rattle.thp_sections.specs.Does.{answer_of};
 ghost use Rattle.thp_sections.specs.Kept.{is_there, reaction_in};
 ghost use Rattle.thp_sections.specs.declared.kept_answers.ShortReply.{ShortReply};
@@ -86,6 +86,22 @@ impl KeptAnswers {
             node,
             reply,
         });
+    }
+
+    /// Makes room for so many answers behind those that there are.
+    pub fn reserve(&mut self, more: usize) -> Result<(), AllocError>
+        ensures items { self.new.items ≡ self.old.items }
+        ensures room { OnOk result (length self.old.items + more ≤ self.new.room) }
+    {
+        let count = self.short.len();
+        let Some(room) = count.checked_add(more) else {
+            return Err(AllocError);
+        };
+        self.short.reserve(more)?;
+        // there are no more long replies than answers
+        self.long.reserve(room - self.long.len())?;
+        self.room = room;
+        Ok(())
     }
 
     /// How many answers there are.

@@ -1,5 +1,6 @@
 //! The commands of a section, one after another, and the put-backs at its end.
-ghost use Rattle.std.specs.Prelude.{◌≡◌, ◌^◌, ◌≤◌, ◌<◌, All, IfOk, length};
+ghost use Rattle.std.specs.Prelude.{◌≡◌, ◌^◌, ◌≤◌, ◌<◌, All, IfOk, List, length};
+ghost use Rattle.thp_text.specs.declared.script.Command.{Command};
 ghost use Rattle.thp_sections.specs.Does.{answer_of};
 ghost use Rattle.thp_sections.specs.Fronts.{Fronts, Goes, HasAll, HasCaller};
 ghost use Rattle.thp_sections.specs.OpenBatches.{HasNoBatch};
@@ -73,7 +74,7 @@ pub fn work_rest<S: Steps>(
         });
     };
     if rest.command as usize == commands.len() {
-        return close(commands, worker, answers, opened, rest.steps, steps);
+        return close(rest.command, worker, answers, opened, rest.steps, steps);
     }
     let begun = Begun {
         steps: rest.steps,
@@ -132,13 +133,14 @@ fn go_on<S: Steps, G: Gate>(
         answers.push(number, node, said, &reply);
         begun = first_begun();
     }
-    gate.pass(worker, commands.len() as u32);
-    close(commands, worker, answers, opened, 0, steps)
+    let count = commands.len() as u32;
+    gate.pass(worker, count);
+    close(count, worker, answers, opened, 0, steps)
 }
 
-/// Puts back the open batches of a caller whose commands are all answered, nodes ascending; so many went back already.
-fn close<S: Steps>(
-    commands: &[Command],
+/// Puts back the open batches of a caller whose commands, so many, are all answered, nodes ascending; so many went back already.
+pub(crate) fn close<S: Steps>(
+    count: u32,
     worker: u32,
     answers: AnswerLog,
     opened: Vec<bool>,
@@ -146,11 +148,10 @@ fn close<S: Steps>(
     steps: &mut S,
 ) -> Result<Worked, AllocError>
     requires caller { HasCaller (S.fronts steps.old) worker }
-    requires few { length commands.now < 2 ^ 32 }
-    requires room { length commands.now ≤ answers.room }
-    requires ends { (old : Fronts) × Ends worker old (S.fronts steps.old) commands.now answers.items opened.items closed }
+    requires room { count ≤ answers.room }
+    requires ends { (old : Fronts) × (commands : List Command) × (length commands ≡ count) × Ends worker old (S.fronts steps.old) commands answers.items opened.items closed }
     ensures goes { Goes worker (S.fronts steps.old) (S.fronts steps.new) }
-    ensures works { (old : Fronts) → Ends worker old (S.fronts steps.old) commands.now answers.items opened.items closed → IfOk result (Works worker old (S.fronts steps.new) commands.now) }
+    ensures works { (old : Fronts) (commands : List Command) → length commands ≡ count → Ends worker old (S.fronts steps.old) commands answers.items opened.items closed → IfOk result (Works worker old (S.fronts steps.new) commands) }
     ensures answers { IfOk result (AnswersAre answers.are) }
     ensures done { HasAll (S.fronts steps.old) → IfOk result IsDoneFor }
 {
@@ -166,7 +167,7 @@ fn close<S: Steps>(
             }
             if is_busy(called) {
                 let rest = Rest {
-                    command: commands.len() as u32,
+                    command: count,
                     steps: closed,
                     so_far: first_begun().so_far,
                 };

@@ -10,3 +10,4 @@ pub mod ListLaws
 pub mod PartLaws
 pub mod AheadLaws
 pub mod PartReadLaws
+pub mod SetupLaws

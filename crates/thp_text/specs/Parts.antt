@@ -37,6 +37,19 @@ lines_spell s sections section line text = commands_from s line section (lines_o
 abbrev pub spelled_with : ReadSoFar → Text → Result Script Fault
 spelled_with r more = told_behind r.text more (lines_spell r.settings r.sections r.section r.text.line (r.text.begun ++ more))
 
+-- the commands of `setup`, which is the first section
+abbrev pub setup_of : List (List Command) → List Command
+setup_of [] = []
+setup_of (setup ∷ workers) = setup
+
+-- the script with these commands at the front of its `setup`
+abbrev pub behind_setup : List Command → Script → Script
+behind_setup front script = record { setup = front ++ script.setup; workers = script.workers }
+
+-- what is read of a script whose `setup` begins with these commands, by what is read of it without them
+abbrev pub read_behind : List Command → Result Script Fault → Result Script Fault
+read_behind front read = read >>= λ script. Ok (behind_setup front script)
+
 -- what is true of a script that is being read
 pub record IsReading (r : ReadSoFar) : Type 0 where
   pub sections : length r.sections ≡ r.settings.workers + 1

@@ -1,8 +1,8 @@
 //! Scripts from bytes.
-ghost use Rattle.std.specs.Prelude.{◌≡◌, ◌≢◌, ◌≤◌, ◌<◌, ◌+◌, ◌++◌, ◌∷◌, [], ℕ, List, All, IfOk, IfErr, IfSome, OnOk, length, replicate, vec_len};
+ghost use Rattle.std.specs.Prelude.{◌≡◌, ◌≢◌, ◌≤◌, ◌<◌, ◌+◌, ◌++◌, ◌∷◌, [], ℕ, List, All, IfOk, IfErr, IfSome, OnOk, length, replicate, slice_set, vec_len};
 ghost use Rattle.thp_text.specs.Commands.{IsCommandFor};
 ghost use Rattle.thp_text.specs.Ahead.{spelled_behind, IsPartRead};
-ghost use Rattle.thp_text.specs.Parts.{script_in, spelled_with, with_commands};
+ghost use Rattle.thp_text.specs.Parts.{read_behind, script_in, setup_of, spelled_with, with_commands};
 ghost use Rattle.thp_text.specs.Scripts.{placed, script_of, IsScriptFor, TellsFault};
 ghost use Rattle.thp_text.specs.Words.{Text};
 ghost use Rattle.thp_text.specs.declared.fault.ReadFault.TheVariants.{OutOfMemory};
@@ -86,6 +86,14 @@ fn add_ahead<'p>(
         rest = after;
     }
     Ok(rest)
+}
+
+/// Drops the commands of `setup`, which is the first section.
+fn clear_setup(sections: &mut Vec<Sequence<Command>>)
+    requires { 0 < vec_len sections.old }
+    ensures { sections.new.items ≡ slice_set sections.old.items 0 [] }
+{
+    sections[0].clear();
 }
 
 /// The script of its sections.
@@ -172,6 +180,23 @@ impl<'a> ScriptReader<'a> {
             section,
             text,
         })
+    }
+
+    /// The commands of `setup` that were read and not let go.
+    pub fn setup(&self) -> &[Command]
+        ensures commands { result.now ≡ setup_of self.now.sections }
+        ensures in_range { All (IsCommandFor self.now.settings.nodes) result.now }
+    {
+        self.sections[0].as_slice()
+    }
+
+    /// Lets go of the commands of `setup` that were read, once they are done: the script that the text spells is the one that is
+    /// told from then on, with these commands at the front of its `setup`. No memory is given back before the reader is.
+    pub fn let_setup_go(&mut self)
+        ensures text { (more : Text) → spelled_with self.old more ≡ read_behind (setup_of self.old.sections) (spelled_with self.new more) }
+        ensures settings { self.new.settings ≡ self.old.settings }
+    {
+        clear_setup(&mut self.sections);
     }
 
     /// The script that the whole text spells, or its first fault. No memory is taken.

@@ -104,4 +104,11 @@ impl<T: Drop> Sequence<T> {
         self.items.push(item)?;
         Ok(())
     }
+
+    /// Drops all elements. Their memory stays for others.
+    pub fn clear(&mut self)
+        ensures { self.new ≡ [] }
+    {
+        self.items.clear();
+    }
 }

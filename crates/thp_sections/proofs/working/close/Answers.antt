@@ -18,10 +18,11 @@ overflow_add-closed g c =
     let fronts = g.S.Steps.fronts in
     let inv = c.loop-node.invariant in
     let old = c.requires.ends.0 in
-    let e = inv.ends old c.requires.ends.1 in
-    let nodes = c.requires.ends.1.grows.same.nodes in
+    let commands = c.requires.ends.1 in
+    let e = inv.ends old commands c.requires.ends.3 in
+    let nodes = c.requires.ends.3.grows.same.nodes in
     let lt : c.loop-node.node < old.nodes = omega (arith, c.loop-node-test.true, c.nodes-nodes.ensures, nodes) in
-    let room = room_for_one c.args.worker c.loop-node.node old (fronts c.loop-node.steps) c.args.commands.now c.args.answers.items c.loop-node.opened.items c.loop-node.closed e lt inv.shut (sym (e.known.each c.loop-node.node lt) ∙ sym c.is_marked.ensures ∙ c.if-is_marked.true) in
+    let room = room_for_one c.args.worker c.loop-node.node old (fronts c.loop-node.steps) commands c.args.answers.items c.loop-node.opened.items c.loop-node.closed e lt inv.shut (sym (e.known.each c.loop-node.node lt) ∙ sym c.is_marked.ensures ∙ c.if-is_marked.true) in
     omega (arith, room, nodes, c.nodes-nodes.ensures, c.nodes-nodes.type_inv)
 
 pub returns-then-is_busy-clause-goes : goal.returns-then-is_busy-clause-goes
@@ -33,8 +34,8 @@ pub returns-then-is_busy-clause-works : goal.returns-then-is_busy-clause-works
 returns-then-is_busy-clause-works g c =
     let fronts = g.S.Steps.fronts in
     let back = rw c.if-is_busy.ensures.busy at c.put_back-called.ensures.back in
-    λ old e. rw c.loop-node.invariant.same (works_closing c.args.worker old (fronts c.put_back-called.new.steps) c.args.commands.now c.args.answers c.loop-node.opened c.loop-node.closed _ c.requires.room
-    (ends_stop c.args.worker c.loop-node.node old (fronts c.loop-node.steps) (fronts c.put_back-called.new.steps) c.args.commands.now c.args.answers.items c.loop-node.opened.items c.loop-node.closed first_begun (c.loop-node.invariant.ends old e) c.put_back-called.ensures.goes back) refl refl)
+    λ old commands count e. rw c.loop-node.invariant.same (works_closing c.args.worker old (fronts c.put_back-called.new.steps) commands c.args.answers c.loop-node.opened c.loop-node.closed _ (rw count c.requires.room)
+    (ends_stop c.args.worker c.loop-node.node old (fronts c.loop-node.steps) (fronts c.put_back-called.new.steps) commands c.args.answers.items c.loop-node.opened.items c.loop-node.closed first_begun (c.loop-node.invariant.ends old commands e) c.put_back-called.ensures.goes back) (sym count) refl)
 
 pub loop-node-preserved : goal.loop-node-preserved
 loop-node-preserved g c =
@@ -50,10 +51,10 @@ loop-node-preserved g c =
           let back = ended_comes first_begun (PutsBack who node mid new) w.put_back-called.result w.put_back-called.new.reply w.if-is_busy.ensures.free w.if-lacks_memory.ensures.some w.put_back-called.ensures.back in
           rw (w.steps-is, w.closed-is, w.opened-is, w.shut.ensures) (record {
             goes = goes_trans who f0 mid new inv.goes w.put_back-called.ensures.goes;
-            ends = λ old e.
+            ends = λ old commands e.
                 let lt : node < old.nodes = omega (arith, c.loop-node-test.true, c.nodes-nodes.ensures, e.grows.same.nodes) in
-                let now = inv.ends old e in
-                ends_more who node old mid c.args.commands.now c.args.answers.items c.loop-node.opened.items c.loop-node.closed now lt inv.shut (sym (now.known.each node lt) ∙ sym c.is_marked.ensures ∙ w.if-is_marked.true) new back.0 w.put_back-called.ensures.goes back.1;
+                let now = inv.ends old commands e in
+                ends_more who node old mid commands c.args.answers.items c.loop-node.opened.items c.loop-node.closed now lt inv.shut (sym (now.known.each node lt) ∙ sym c.is_marked.ensures ∙ w.if-is_marked.true) new back.0 w.put_back-called.ensures.goes back.1;
             same = inv.same;
             count = length-set c.loop-node.opened.items node false ∙ inv.count;
             shut = shut_put who node mid new back.0 inv.shut back.1;
@@ -65,8 +66,8 @@ loop-node-preserved g c =
             same = inv.same;
             count = inv.count;
             shut =
-                let e = inv.ends c.requires.ends.0 c.requires.ends.1 in
-                let lt : node < c.requires.ends.0.nodes = omega (arith, c.loop-node-test.true, c.nodes-nodes.ensures, c.requires.ends.1.grows.same.nodes) in
+                let e = inv.ends c.requires.ends.0 c.requires.ends.1 c.requires.ends.3 in
+                let lt : node < c.requires.ends.0.nodes = omega (arith, c.loop-node-test.true, c.nodes-nodes.ensures, c.requires.ends.3.grows.same.nodes) in
                 shut_more who node mid inv.shut (not_open (mid.batches who node) (sym (e.known.each node lt) ∙ sym c.is_marked.ensures ∙ w.if-is_marked.false));
           })
     ]
@@ -74,4 +75,4 @@ loop-node-preserved g c =
 pub returns-clause-works : goal.returns-clause-works
 returns-clause-works g c =
     let fronts = g.S.Steps.fronts in
-    λ old e. rw c.loop-node.invariant.same (works_end c.args.worker old (fronts c.loop-node.steps) c.args.commands.now c.args.answers c.loop-node.opened c.loop-node.closed c.loop-node.node c.requires.room (c.loop-node.invariant.ends old e) (omega (arith, c.loop-node-test.false, c.nodes-nodes.ensures, e.grows.same.nodes)) c.loop-node.invariant.shut)
+    λ old commands count e. rw c.loop-node.invariant.same (works_end c.args.worker old (fronts c.loop-node.steps) commands c.args.answers c.loop-node.opened c.loop-node.closed c.loop-node.node (rw count c.requires.room) (c.loop-node.invariant.ends old commands e) (omega (arith, c.loop-node-test.false, c.nodes-nodes.ensures, e.grows.same.nodes)) c.loop-node.invariant.shut)

@@ -1,4 +1,5 @@
-use Rattle.std.proofs.Common.{◌≡◌, ◌<◌, ℕ, None, length}
+use Rattle.std.proofs.Common.{◌≡◌, ◌<◌, ℕ, List, None, length}
+use Rattle.thp_text.specs.declared.script.Command.{Command}
 use Rattle.thp_sections.specs.Fronts.{Fronts, Goes}
 use Rattle.thp_sections.specs.Sections.{Ends}
 use Rattle.thp_sections.proofs.working.close.Given as goal
@@ -8,7 +9,7 @@ invariant-loop-node g l =
     let fronts = g.S.Steps.fronts in
     record {
       goes : Goes l.worker (fronts l.fn.steps) (fronts l.steps);
-      ends : (old : Fronts) → Ends l.worker old (fronts l.fn.steps) l.commands l.fn.answers.items l.fn.opened.items l.fn.closed → Ends l.worker old (fronts l.steps) l.commands l.fn.answers.items l.opened.items l.closed;
+      ends : (old : Fronts) (commands : List Command) → Ends l.worker old (fronts l.fn.steps) commands l.fn.answers.items l.fn.opened.items l.fn.closed → Ends l.worker old (fronts l.steps) commands l.fn.answers.items l.opened.items l.closed;
       count : length l.opened.items ≡ (fronts l.fn.steps).nodes;
       same : l.answers ≡ l.fn.answers;
       shut : (k : ℕ) → k < l.node → (fronts l.steps).batches l.worker k ≡ None;

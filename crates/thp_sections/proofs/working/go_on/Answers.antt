@@ -1,4 +1,4 @@
-use Rattle.std.proofs.Common.{◌≡◌, ◌<◌, ◌≤◌, ◌∙◌, ◌++◌, ◌∷◌, [], ℕ, Bool, List, ap, arith, sym, subst, get_or, length, Some}
+use Rattle.std.proofs.Common.{◌≡◌, ◌<◌, ◌≤◌, ◌∙◌, ◌++◌, ◌∷◌, [], ℕ, Bool, List, ap, arith, sym, subst, get_or, length, refl, Some}
 use Rattle.std.specs.Prelude.{slice_get}
 use Rattle.std.proofs.lemmas.List.{length-set}
 use Rattle.std.proofs.lemmas.Option.{slice_get-get_or}
@@ -87,7 +87,7 @@ close-requires-clause-ends g c =
     let fronts = g.S.Steps.fronts in
     let inv = c.loop-index.invariant in
     let le : length c.args.commands.now ≤ length c.loop-index.answers.items = omega (arith, inv.count, c.loop-index-test.false) in
-    (c.requires.begun.0, ends_first c.args.worker c.requires.begun.0 (fronts c.loop-index.steps) c.args.commands.now c.loop-index.answers.items c.loop-index.opened.items c.loop-index.begun le (inv.begins c.requires.begun.0 c.requires.begun.1))
+    (c.requires.begun.0, c.args.commands.now, refl, ends_first c.args.worker c.requires.begun.0 (fronts c.loop-index.steps) c.args.commands.now c.loop-index.answers.items c.loop-index.opened.items c.loop-index.begun le (inv.begins c.requires.begun.0 c.requires.begun.1))
 
 pub returns-clause-goes : goal.returns-clause-goes
 returns-clause-goes g c =
@@ -99,4 +99,4 @@ returns-clause-works g c =
     let fronts = g.S.Steps.fronts in
     let inv = c.loop-index.invariant in
     let le : length c.args.commands.now ≤ length c.loop-index.answers.items = omega (arith, inv.count, c.loop-index-test.false) in
-    λ old b. c.close.ensures.works old (ends_first c.args.worker old (fronts c.loop-index.steps) c.args.commands.now c.loop-index.answers.items c.loop-index.opened.items c.loop-index.begun le (inv.begins old b))
+    λ old b. c.close.ensures.works old c.args.commands.now refl (ends_first c.args.worker old (fronts c.loop-index.steps) c.args.commands.now c.loop-index.answers.items c.loop-index.opened.items c.loop-index.begun le (inv.begins old b))

@@ -1,0 +1,85 @@
+//! Runs of a script whose `setup` comes in parts, so that its commands needn't be kept.
+ghost use Rattle.std.specs.Prelude.{◌≡◌, [], All, IfOk, List, map};
+ghost use Rattle.thp_cell.specs.Views.{HasAll, PassState};
+ghost use Rattle.thp_sections.specs.declared.answer_log.Answers.TheVariants.{Kept as KeptAnswers};
+ghost use Rattle.thp_sections.specs.Fronts.{Fronts};
+ghost use Rattle.thp_sections.specs.Passes.{fronts_in};
+ghost use Rattle.thp_text.specs.Parts.{behind_setup};
+ghost use Rattle.thp_text.specs.Scripts.{IsScriptFor};
+ghost use Rattle.thp_text.specs.declared.script.Command.{Command};
+ghost use Rattle.thp_text.specs.declared.script.Script.{Script};
+ghost use Rattle.thp_script_runs.specs.InParts.{AreNew, HasBegun};
+ghost use Rattle.thp_script_runs.specs.NewNodes.{histories_of, shapes_of, AreNodesFor};
+ghost use Rattle.thp_script_runs.specs.Runs.{IsRun};
+ghost use Rattle.thp_script_runs.specs.Sections.{SectionAnswersAre};
+ghost use Rattle.thp_script_runs.specs.Sharing.{cell_of, RunsOn};
+
+use crate::nodes::new_nodes;
+use crate::running::{Ran, answers_for};
+use crate::sections::run_workers_behind;
+use crate::sharing::{close, finish, open, share};
+use std::alloc::{AllocError, Global};
+use std::thread::Threads;
+use thp_cell::{NodeCell, Pass};
+use thp_node::Recorder;
+use thp_sections::{
+    Gate, NodePasses, Passes, Section, SectionInParts, begin_section, do_commands, end_section,
+};
+use thp_text::{Script, Settings};
+
+/// New nodes that record what happens in an `N`, each in a cell, and the passes that have all of their callers.
+pub fn new_cells<N: Recorder>(
+    alloc: Global,
+    settings: &Settings,
+) -> Result<(Vec<NodeCell<N>>, Vec<Pass<N>>), AllocError>
+    ensures { IfOk result (λ r. AreNew settings.now r.0.items r.1.items) }
+{
+    let nodes = new_nodes(alloc, settings, 0)?;
+    share(alloc, nodes, settings.workers + 1)
+}
+
+/// Begins a run on new nodes, of whose `setup` no command has come.
+pub fn begin_run<'a, N: Recorder>(
+    alloc: Global,
+    settings: &Settings,
+    cells: &'a [NodeCell<N>],
+    passes: Vec<Pass<N>>,
+) -> Result<(NodePasses<'a, N>, SectionInParts), AllocError>
+    requires { AreNew settings.now cells.now passes.items }
+    ensures begun { IfOk result (λ r. HasBegun settings.now cells.now passes.items (fronts_in r.0) [] (fronts_in r.0) r.1) }
+    ensures answers { settings.now.report ≡ Report.Answers → IfOk result (λ r. r.1.answers.are ≡ KeptAnswers) }
+{
+    let callers = settings.workers + 1;
+    let nodes = open(alloc, cells, passes)?;
+    let mut passes = NodePasses::new(nodes, callers, 0, callers);
+    passes.keep_nodes();
+    let setup = begin_section(alloc, 0, answers_for(settings.report), &passes)?;
+    Ok((passes, setup))
+}
+
+/// Ends a run: does what is left of its script, `setup` first.
+pub fn end_run<'a, R: Threads + Sync, N: Recorder + Send, G: Gate + Sync>(
+    rt: &R,
+    alloc: Global,
+    settings: &Settings,
+    passes: NodePasses<'a, N>,
+    setup: SectionInParts,
+    script: Script,
+    gate: &G,
+) -> Result<(Vec<Pass<N>>, Vec<Section>), AllocError>
+    requires script { IsScriptFor settings.now script }
+    requires begun { (cells : List TableId) × (old : List PassState) × (first : Fronts) × (before : List Command) × HasBegun settings.now cells old first before (fronts_in passes) setup }
+    ensures runs { (cells : List TableId) (old : List PassState) (first : Fronts) (before : List Command) → HasBegun settings.now cells old first before (fronts_in passes) setup → IfOk result (λ r. RunsOn old r.0.items (behind_setup before script) r.1.items) }
+    ensures answers { settings.now.report ≡ Report.Answers → setup.answers.are ≡ KeptAnswers → IfOk result (λ r. All (SectionAnswersAre KeptAnswers) r.1.items) }
+{
+    let Script {
+        setup: commands,
+        workers,
+    } = script;
+    let mut passes = passes;
+    let setup = do_commands(commands.as_slice(), 0, setup, &mut passes)?;
+    let setup = end_section(0, setup, &mut passes)?;
+    let answers = answers_for(settings.report);
+    let (passes, sections) = run_workers_behind(rt, alloc, passes, setup, workers, answers, gate)?;
+    Ok((close(alloc, passes)?, sections))
+}

@@ -1,0 +1,105 @@
+//! A section whose commands come in parts.
+ghost use Rattle.std.specs.Prelude.{◌≡◌, ◌++◌, [], All, IfOk, List, length};
+ghost use Rattle.thp_sections.specs.Fronts.{Fronts, Goes, HasAll, HasCaller};
+ghost use Rattle.thp_sections.specs.InParts.{DidFirst};
+ghost use Rattle.thp_sections.specs.OpenBatches.{HasNoBatch};
+ghost use Rattle.thp_sections.specs.Sections.{AnswersAre, IsCommandFor, IsDoneFor, Works};
+ghost use Rattle.thp_text.specs.declared.script.Command.{Command};
+
+use crate::answer_log::{AnswerLog, Answers};
+use crate::command::do_command;
+use crate::open_batches::{mark, none_open};
+use crate::reply::{Reply, Worked};
+use crate::scanning::first_begun;
+use crate::steps::{Steps, is_busy, lacks_memory, told};
+use crate::working::close;
+use std::alloc::{AllocError, Global};
+use thp_text::Command;
+
+/// A section whose commands come in parts: what became of those that have come.
+#[derive(Drop)]
+pub struct SectionInParts {
+    pub answers: AnswerLog,
+    /// By node, whether a batch that the section's commands opened there is open still.
+    pub opened: Vec<bool>,
+}
+
+/// Begins a section of which no command has come.
+pub fn begin_section<S: Steps>(
+    alloc: Global,
+    worker: u32,
+    answers: Answers,
+    steps: &S,
+) -> Result<SectionInParts, AllocError>
+    requires { HasNoBatch worker (S.fronts steps.now) }
+    ensures did { IfOk result (DidFirst worker (S.fronts steps.now) (S.fronts steps.now) []) }
+    ensures opened { IfOk result (λ section. length section.opened.items ≡ (S.fronts steps.now).nodes) }
+    ensures answers { IfOk result (λ section. section.answers.are ≡ answers) }
+{
+    Ok(SectionInParts {
+        answers: AnswerLog::new(alloc, 0, answers)?,
+        opened: none_open(alloc, steps.nodes())?,
+    })
+}
+
+/// Does the next commands of a section, in order, as steps of one caller, by the passes of all callers, which are never busy.
+///
+/// Without memory it stops; so it does where the section would have 2^32 commands or more.
+pub fn do_commands<S: Steps>(
+    commands: &[Command],
+    worker: u32,
+    section: SectionInParts,
+    steps: &mut S,
+) -> Result<SectionInParts, AllocError>
+    requires caller { HasCaller (S.fronts steps.old) worker }
+    requires all { HasAll (S.fronts steps.old) }
+    requires commands { All (IsCommandFor (S.fronts steps.old).nodes) commands.now }
+    requires opened { length section.opened.items ≡ (S.fronts steps.old).nodes }
+    ensures goes { Goes worker (S.fronts steps.old) (S.fronts steps.new) }
+    ensures did { (old : Fronts) (before : List Command) → DidFirst worker old (S.fronts steps.old) before section → IfOk result (DidFirst worker old (S.fronts steps.new) (before ++ commands.now)) }
+    ensures opened { IfOk result (λ done. length done.opened.items ≡ (S.fronts steps.new).nodes) }
+    ensures answers { IfOk result (λ done. done.answers.are ≡ section.answers.are) }
+{
+    let SectionInParts { answers, opened } = section;
+    let mut answers = answers;
+    let mut opened = opened;
+    let mut reply = Reply::Unit;
+    if commands.len() > u32::MAX as usize || answers.len() > u32::MAX as usize - commands.len() {
+        return Err(AllocError);
+    }
+    answers.reserve(commands.len())?;
+    let first = answers.len();
+    for index in 0..commands.len() {
+        let command = commands[index];
+        let mut begun = first_begun();
+        let called = do_command(command, worker, &mut begun, steps, &mut reply);
+        if lacks_memory(called) {
+            return Err(AllocError);
+        }
+        if is_busy(called) {
+            unreachable!();
+        }
+        let said = told(called);
+        mark(&mut opened, command, said);
+        answers.push((first + index) as u32, command.node, said, &reply);
+    }
+    Ok(SectionInParts { answers, opened })
+}
+
+/// Ends a section all of whose commands have come: puts back the batches that it left open.
+pub fn end_section<S: Steps>(
+    worker: u32,
+    section: SectionInParts,
+    steps: &mut S,
+) -> Result<Worked, AllocError>
+    requires caller { HasCaller (S.fronts steps.old) worker }
+    requires section { (old : Fronts) × (commands : List Command) × DidFirst worker old (S.fronts steps.old) commands section }
+    ensures goes { Goes worker (S.fronts steps.old) (S.fronts steps.new) }
+    ensures works { (old : Fronts) (commands : List Command) → DidFirst worker old (S.fronts steps.old) commands section → IfOk result (Works worker old (S.fronts steps.new) commands) }
+    ensures answers { IfOk result (AnswersAre section.answers.are) }
+    ensures done { HasAll (S.fronts steps.old) → IfOk result IsDoneFor }
+{
+    let SectionInParts { answers, opened } = section;
+    let count = answers.len() as u32;
+    close(count, worker, answers, opened, 0, steps)
+}

@@ -1,0 +1,10 @@
+use Rattle.std.proofs.Common.{◌≡◌, ◌<◌, ◌+◌, length, arith, sym}
+use Rattle.thp_text.specs.Words.{Text}
+use Rattle.thp_text.proofs.SetupLaws.{setup_gone}
+use Rattle.thp_text.proofs.script_reader.ScriptReader.let_setup_go.Goals as goal
+
+pub returns-clause-text : goal.returns-clause-text
+returns-clause-text c = λ more.
+    let r = c.self.inside in
+    rw (← c.self.view_is, c.clear_setup.ensures)
+    (setup_gone r.settings.now r.sections.items r.section r.text more (omega arith))
