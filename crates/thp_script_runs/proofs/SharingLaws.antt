@@ -138,7 +138,7 @@ fit_op (op.Scan n) fits = fits
 fit_op (op.Take n) fits = fits
 fit_op _ fits = tt
 
-commands_fit : (nodes : ℕ) (commands : List Command) → All (text.IsCommandFor nodes) commands → All (IsCommandFor nodes) commands
+pub commands_fit : (nodes : ℕ) (commands : List Command) → All (text.IsCommandFor nodes) commands → All (IsCommandFor nodes) commands
 commands_fit nodes commands fit = λ k d lt. let one = fit k d lt in record { node_exists = one.node_exists; fits = fit_op (get_or commands k d).op one.fits_batch }
 
 pub script_fits : (s : Settings) (script : Script) (nodes : ℕ) → IsScriptFor s script → AreFew script → nodes ≡ s.nodes → 1 ≤ s.workers → s.workers ≤ max_workers → IsFitScript nodes script

@@ -80,11 +80,10 @@ pub record RunsTo (old new : Fronts) (script : Script) (sections : List Section)
   pub workers_done : All IsDoneFor workers
   pub told : sections ≡ numbered 0 (setup ∷ workers)
 
--- On nodes on which nothing had happened, caller 0 did these commands, which are all of `setup`, and nobody else did anything; the
--- workers' sections come behind.
+-- On nodes on which nothing had happened, caller 0 did these commands, those of `setup`, all or up to where it stopped, and nobody
+-- else did anything; the workers' sections come behind.
 pub record IsSetUp (first now : Fronts) (commands : List Command) (workers : List (List Command)) (setup : Worked) : Type 0 where
   pub new : IsNew (length workers) first
   pub fits : IsFitScript first.nodes (record { setup = commands; workers = workers })
   pub goes : Goes 0 first now
   pub works : Works 0 first now commands setup
-  pub done : IsDoneFor setup

@@ -1,21 +1,22 @@
 //! Runs of a script whose `setup` comes in parts, so that its commands needn't be kept.
-ghost use Rattle.std.specs.Prelude.{◌≡◌, [], All, IfOk, List, map};
-ghost use Rattle.thp_cell.specs.Views.{HasAll, PassState};
+ghost use Rattle.std.specs.Prelude.{◌≡◌, [], All, IfOk, List};
+ghost use Rattle.thp_cell.specs.Views.{PassState};
 ghost use Rattle.thp_sections.specs.declared.answer_log.Answers.TheVariants.{Kept as KeptAnswers};
 ghost use Rattle.thp_sections.specs.Fronts.{Fronts};
 ghost use Rattle.thp_sections.specs.Passes.{fronts_in};
 ghost use Rattle.thp_text.specs.Parts.{behind_setup};
 ghost use Rattle.thp_text.specs.Scripts.{IsScriptFor};
 ghost use Rattle.thp_text.specs.declared.script.Command.{Command};
+ghost use Rattle.atomic_table.specs.Seated.{TableId};
 ghost use Rattle.thp_text.specs.declared.script.Script.{Script};
 ghost use Rattle.thp_script_runs.specs.InParts.{AreNew, HasBegun};
 ghost use Rattle.thp_script_runs.specs.NewNodes.{histories_of, shapes_of, AreNodesFor};
 ghost use Rattle.thp_script_runs.specs.Runs.{IsRun};
 ghost use Rattle.thp_script_runs.specs.Sections.{SectionAnswersAre};
-ghost use Rattle.thp_script_runs.specs.Sharing.{cell_of, RunsOn};
+ghost use Rattle.thp_script_runs.specs.Sharing.{RunsOn};
 
 use crate::nodes::new_nodes;
-use crate::running::{Ran, answers_for};
+use crate::running::{Ran, answers_for, are_few};
 use crate::sections::run_workers_behind;
 use crate::sharing::{close, finish, open, share};
 use std::alloc::{AllocError, Global};
@@ -25,7 +26,7 @@ use thp_node::Recorder;
 use thp_sections::{
     Gate, NodePasses, Passes, Section, SectionInParts, begin_section, do_commands, end_section,
 };
-use thp_text::{Script, Settings};
+use thp_text::{Report, Script, Settings};
 
 /// New nodes that record what happens in an `N`, each in a cell, and the passes that have all of their callers.
 pub fn new_cells<N: Recorder>(
@@ -69,9 +70,12 @@ pub fn end_run<'a, R: Threads + Sync, N: Recorder + Send, G: Gate + Sync>(
 ) -> Result<(Vec<Pass<N>>, Vec<Section>), AllocError>
     requires script { IsScriptFor settings.now script }
     requires begun { (cells : List TableId) × (old : List PassState) × (first : Fronts) × (before : List Command) × HasBegun settings.now cells old first before (fronts_in passes) setup }
-    ensures runs { (cells : List TableId) (old : List PassState) (first : Fronts) (before : List Command) → HasBegun settings.now cells old first before (fronts_in passes) setup → IfOk result (λ r. RunsOn old r.0.items (behind_setup before script) r.1.items) }
+    ensures runs { (cells : List TableId) (old : List PassState) (first : Fronts) (before : List Command) → HasBegun settings.now cells old first before (fronts_in passes.entry) setup → IfOk result (λ r. RunsOn old r.0.items (behind_setup before script) r.1.items) }
     ensures answers { settings.now.report ≡ Report.Answers → setup.answers.are ≡ KeptAnswers → IfOk result (λ r. All (SectionAnswersAre KeptAnswers) r.1.items) }
 {
+    if !are_few(&script) {
+        return Err(AllocError);
+    }
     let Script {
         setup: commands,
         workers,
@@ -82,4 +86,21 @@ pub fn end_run<'a, R: Threads + Sync, N: Recorder + Send, G: Gate + Sync>(
     let answers = answers_for(settings.report);
     let (passes, sections) = run_workers_behind(rt, alloc, passes, setup, workers, answers, gate)?;
     Ok((close(alloc, passes)?, sections))
+}
+
+/// Takes the cells of a run apart once it has ended, and gives the nodes back, with the answers of the sections.
+pub fn take_apart<N: Recorder>(
+    alloc: Global,
+    settings: &Settings,
+    cells: Vec<NodeCell<N>>,
+    passes: Vec<Pass<N>>,
+    sections: Vec<Section>,
+) -> Result<Ran<N>, AllocError>
+    requires ran { (old : List PassState) × (script : Script) × AreNew settings.now cells.items old × RunsOn old passes.items script sections.items }
+    ensures nodes { IfOk result (λ r. AreNodesFor settings.now r.nodes.items) }
+    ensures run { (old : List PassState) (script : Script) → AreNew settings.now cells.items old → RunsOn old passes.items script sections.items → IfOk result (λ r. IsRun settings.now.nodes (shapes_of r.nodes.items) script (histories_of r.nodes.items) r.sections.items) }
+    ensures sections { IfOk result (λ r. r.sections.items ≡ sections.items) }
+{
+    let nodes = finish(alloc, cells, passes)?;
+    Ok(Ran { nodes, sections })
 }

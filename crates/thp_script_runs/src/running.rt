@@ -120,7 +120,7 @@ fn room_of_each(script: &Script, nodes: u32) -> u32
 }
 
 /// What becomes of the answers: they are kept where the report is of them.
-fn answers_for(report: Report) -> Answers
+pub(crate) fn answers_for(report: Report) -> Answers
     ensures { (result ≡ Answers.Kept) ↔ (report ≡ Report.Answers) }
 {
     match report {
@@ -130,7 +130,7 @@ fn answers_for(report: Report) -> Answers
 }
 
 /// Each section has fewer than 2^32 commands.
-fn are_few(script: &Script) -> bool
+pub(crate) fn are_few(script: &Script) -> bool
     ensures { IsTrue result ↔ AreFew script.now }
 {
     let most = u32::MAX as usize;

@@ -53,9 +53,9 @@ pub(crate) fn run_workers_behind<
     gate: &G,
 ) -> Result<(P, Vec<Section>), AllocError>
     requires set_up { (first : Fronts) × (commands : List Command) × IsSetUp first (P.fronts passes) commands workers setup }
-    requires setup_answers { AnswersAre answers setup }
+    requires done { IsDoneFor setup }
     ensures runs { (first : Fronts) (commands : List Command) → IsSetUp first (P.fronts passes) commands workers setup → IfOk result (λ r. RunsTo first (P.fronts r.0) (record { setup = commands; workers = workers }) r.1.items) }
-    ensures answers { IfOk result (λ r. All (SectionAnswersAre answers) r.1.items) }
+    ensures answers { AnswersAre answers setup → IfOk result (λ r. All (SectionAnswersAre answers) r.1.items) }
 {
     let workers = vectors(alloc, workers)?;
     let (passes, worked) = run_range(rt, alloc, passes, 1, workers.as_slice(), answers, gate)?;

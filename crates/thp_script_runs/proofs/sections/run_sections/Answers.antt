@@ -1,4 +1,5 @@
 use Rattle.std.proofs.Common.{◌∙◌, length, subst, sym}
+use Rattle.std.specs.Prelude.{IfOk}
 use Rattle.thp_sections.specs.Fronts.{Fronts}
 use Rattle.thp_sections.specs.Sections.{Works}
 use Rattle.thp_script_runs.specs.Sections.{IsFitScript, IsNew, IsSetUp, RunsTo}
@@ -16,9 +17,14 @@ run_workers_behind-requires-clause-set_up g c κs within =
       fits = fits;
       goes = c.in_ok-setup.ensures.goes;
       works = setup;
-      done = c.in_ok-setup.ensures.done (record { low = new.first; high = new.end ∙ sym new.callers });
     } in
     (f, c.args.script.setup, all)
+
+pub run_workers_behind-requires-clause-done : goal.run_workers_behind-requires-clause-done
+run_workers_behind-requires-clause-done g c κs within =
+    let f = g.P.Steps.fronts c.keep_nodes.new.self in
+    let new : IsNew (length c.args.script.workers) f = subst (IsNew (length c.args.script.workers)) (sym c.keep_nodes.ensures) c.requires.new in
+    c.in_ok-setup.ensures.done (record { low = new.first; high = new.end ∙ sym new.callers })
 
 pub returns-clause-runs : goal.returns-clause-runs
 returns-clause-runs g c =
@@ -32,7 +38,6 @@ returns-clause-runs g c =
       fits = fits;
       goes = c.in_ok-setup.ensures.goes;
       works = setup;
-      done = c.in_ok-setup.ensures.done (record { low = new.first; high = new.end ∙ sym new.callers });
     } in
-    subst (λ k. RunsTo k (g.P.Steps.fronts c.in_ok-run_workers_behind.passes) c.args.script c.in_ok-run_workers_behind.sections.items) c.keep_nodes.ensures
-    (c.in_ok-run_workers_behind.ensures.runs f c.args.script.setup all)
+    subst (λ k. IfOk c.run_workers_behind.result (λ r. RunsTo k (g.P.Steps.fronts r.0) c.args.script r.1.items)) c.keep_nodes.ensures
+    (c.run_workers_behind.ensures.runs f c.args.script.setup all)

@@ -53,11 +53,11 @@ returns-clause-runs g c = λ first commands s.
     let all : AllWork 1 mid end vs xs = subst (λ l. AllWork 1 mid end l xs) c.as_slice-2.ensures.value (c.in_ok-done.ensures.work mid (subst (λ l. AllWork 1 mid ran l ws) (sym c.as_slice-2.ensures.value) r.work)) in
     let order : InOrder 1 ran end vs ws xs = subst (λ l. InOrder 1 ran end l ws xs) c.as_slice-2.ensures.value c.in_ok-done.ensures.ascending in
     runs_to first mid script vs s.new s.fits s.goes c.in_ok-workers.ensures ran ws r end xs c.in_ok-done.ensures.goes all order c.args.setup c.in_ok-sections.sections.items s.works
-    s.done c.in_ok-done.ensures.done c.in_ok-sections.ensures
+    c.requires.done c.in_ok-done.ensures.done c.in_ok-sections.ensures
 
 pub returns-clause-answers : goal.returns-clause-answers
-returns-clause-answers g c =
+returns-clause-answers g c = λ same.
     let are = c.args.answers in
     let setup = c.args.setup in
     let xs = c.in_ok-done.done.items in
-    rw c.in_ok-sections.ensures (answers_numbered are 0 (setup ∷ xs) (All-cons (AnswersAre are) setup xs c.requires.setup_answers (c.in_ok-done.ensures.answers are c.in_ok-passes.ensures.answers)))
+    rw c.in_ok-sections.ensures (answers_numbered are 0 (setup ∷ xs) (All-cons (AnswersAre are) setup xs same (c.in_ok-done.ensures.answers are c.in_ok-passes.ensures.answers)))
