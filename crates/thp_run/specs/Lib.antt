@@ -3,3 +3,5 @@ pub mod Choices
 pub mod Outcomes
 pub mod Listed
 pub mod Comparing
+pub mod Underway
+pub mod UnderwayLaws
