@@ -2,7 +2,7 @@ use Rattle.std.proofs.Common.{◌≡◌, [], length, false, true}
 use Rattle.thp_programs.proofs.DeviceLaws.{Written}
 use Rattle.thp_programs.specs.Calls.{Follow}
 use Rattle.thp_programs.specs.declared.calls.Call.TheVariants as call
-use Rattle.thp_programs.proofs.device.write_text.Given as goal
+use Rattle.thp_programs.proofs.device.write_all.Given as goal
 
 abbrev pub decreases-loop-rest : goal.decreases-loop-rest
 decreases-loop-rest g l = length l.rest
