@@ -3,3 +3,4 @@ pub mod Choices
 pub mod Outcomes
 pub mod Listed
 pub mod Comparing
+pub mod Written

@@ -5,6 +5,7 @@ mod choice;
 mod listed;
 mod program;
 mod running;
+mod writing;
 
 pub use listed::{Section, Worked, report_text, work, work_rest};
 pub use program::run_program;

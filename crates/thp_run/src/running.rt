@@ -1,46 +1,52 @@
 //! From the bytes of a script to the bytes of its report.
-ghost use Rattle.std.specs.Prelude.{◌≡◌, ℕ, List, IfOk, Ok, false};
+ghost use Rattle.std.specs.Prelude.{◌≡◌, ℕ, List, Ok, Some, false};
 ghost use Rattle.thp_programs.specs.Calls.{ReadsOn};
 ghost use Rattle.thp_programs.specs.Passages.{WritesAnswer};
-ghost use Rattle.thp_run.specs.Programs.{IsReport, RunEnds};
+ghost use Rattle.thp_run.specs.Programs.{RunEnds};
 ghost use Rattle.thp_text.specs.Scripts.{script_of, IsScriptFor};
 
-use std::alloc::{AllocError, Global};
+use crate::writing::{write_answers, write_whole};
+use std::alloc::Global;
 use std::io::{Read, Write};
 use std::thread::Threads;
 use thp_node::Unkept;
-use thp_programs::{RunFault, Watched, read_script_parts, write_text};
-use thp_report::{answers_text, journals_text, totals_text};
+use thp_programs::{RunFault, Watched, read_script_parts};
+use thp_report::{journals_text, totals_text};
 use thp_script_runs::{Ran, run_recorded, run_script};
 use thp_sections::{Gate, kept_sections};
 use thp_text::{Report, Script, Settings};
 
-/// The report of a run of the script. Only a report of journals has the nodes keep their events.
-fn report_of<T: Threads + Sync, G: Gate + Sync>(
+/// Runs the script and writes the report of the run. Only a report of journals has the nodes keep their events.
+fn write_report<T: Threads + Sync, W: Write, G: Gate + Sync>(
     rt: &T,
     alloc: Global,
     settings: &Settings,
     script: Script,
     gate: &G,
-) -> Result<Vec<u8>, AllocError>
-    requires { IsScriptFor settings.now script }
-    ensures { IfOk result (λ text. (input : List ℕ) → script_of settings.now input ≡ Ok script → IsReport settings.now input text.items) }
+    writer: &mut Watched<W>,
+) -> Result<(), RunFault>
+    requires script { IsScriptFor settings.now script }
+    requires writer { writer.old.failed ≡ false }
+    ensures ends { (input : List ℕ) → script_of settings.now input ≡ Ok script → RunEnds settings.now (Some input) (W.contents writer.old.device) (W.contents writer.new.device) false writer.new.failed result }
+    ensures calls { WritesAnswer result writer.new.failed writer.old.calls writer.new.calls }
 {
     match settings.report {
         Report::Totals => {
             let ran: Ran<Unkept> = run_recorded(rt, alloc, settings, script, gate)?;
-            totals_text(alloc, ran.nodes.as_slice())
+            let text = totals_text(alloc, ran.nodes.as_slice())?;
+            write_whole(writer, text.as_slice())
         }
         Report::Answers => {
             let Ran { nodes, sections }: Ran<Unkept> = run_recorded(
                 rt, alloc, settings, script, gate,
             )?;
             let kept = kept_sections(alloc, sections)?;
-            answers_text(alloc, nodes.as_slice(), kept.as_slice())
+            write_answers(alloc, nodes.as_slice(), kept.as_slice(), writer)
         }
         Report::Journal => {
             let ran = run_script(rt, alloc, settings, script, gate)?;
-            journals_text(alloc, ran.nodes.as_slice())
+            let text = journals_text(alloc, ran.nodes.as_slice())?;
+            write_whole(writer, text.as_slice())
         }
     }
 }
@@ -66,6 +72,5 @@ pub fn run<T: Threads + Sync, R: Read, W: Write, G: Gate + Sync>(
 {
     let parts = read_script_parts(alloc, settings, reader)?;
     let script = parts.finish()?;
-    let text = report_of(rt, alloc, settings, script, gate)?;
-    write_text(writer, text.as_slice()).ok_or(RunFault::Write)
+    write_report(rt, alloc, settings, script, gate, writer)
 }

@@ -1,4 +1,4 @@
-//! The report of answers to a writer, part by part.
+//! Reports to a writer: whole, or part by part.
 ghost use Rattle.std.specs.Prelude.{◌≡◌, IfSome, IfNone, map, false, true};
 ghost use Rattle.std.specs.Io.KnownBytes.{Appends};
 ghost use Rattle.thp_programs.specs.Calls.{WritesOn};
@@ -11,9 +11,18 @@ ghost use Rattle.thp_run.specs.Written.{Wrote};
 use std::alloc::Global;
 use std::io::Write;
 use thp_node::{Node, Recorder};
-use thp_programs::{RunFault, Watched, write_all};
+use thp_programs::{RunFault, Watched, write_all, write_text};
 use thp_report::AnswerParts;
 use thp_sections::KeptSection;
+
+/// Writes a report and flushes, once.
+pub(crate) fn write_whole<W: Write>(writer: &mut Watched<W>, text: &[u8]) -> Result<(), RunFault>
+    requires { writer.old.failed ≡ false }
+    ensures wrote { Wrote text.now (W.contents writer.old.device) (W.contents writer.new.device) writer.new.failed result }
+    ensures calls { WritesAnswer result writer.new.failed writer.old.calls writer.new.calls }
+{
+    write_text(writer, text).ok_or(RunFault::Write)
+}
 
 /// Writes the report of the sections' answers and flushes, once. The text is never held whole: it goes to the writer in parts of
 /// one buffer, which is taken before the first write.

@@ -1,7 +1,7 @@
 use Rattle.std.proofs.Common.{◌∙◌, ap, sym, Err}
 use Rattle.std.proofs.lemmas.Result.{err_from_is_err_and}
-use Rattle.thp_programs.proofs.PassageLaws.{none_at_fault, none_at_reading, of_answer}
-use Rattle.thp_run.proofs.PassageLaws.{run_ends, run_ends_early}
+use Rattle.thp_programs.proofs.PassageLaws.{none_at_fault}
+use Rattle.thp_run.proofs.PassageLaws.{ends_of_input, run_ends_early}
 use Rattle.thp_run.proofs.running.run.Goals as goal
 
 pub returns-in_err-script-clause-ends : goal.returns-in_err-script-clause-ends
@@ -14,15 +14,10 @@ returns-in_err-script-clause-ends g c =
 pub returns-clause-ends : goal.returns-clause-ends
 returns-clause-ends g c =
     let read = c.in_ok-parts.ensures.parts in
-    rw c.ok_or.ensures.value
-    (run_ends c.args.settings.now (g.R.Read.remaining c.args.reader.now.device) (g.W.Write.contents c.args.writer.now.device) (g.W.Write.contents c.write_text.new.writer.device) read.0 c.in_ok-text.text.items
-    c.read_script_parts.new.reader.failed c.write_text.new.writer.failed c.write_text.result read.1 (c.in_ok-text.ensures read.0 (sym read.2 ∙ c.in_ok-script.ensures.script))
-    (rw c.as_slice.ensures.value at c.write_text.ensures.written) (rw c.as_slice.ensures.value at c.write_text.ensures.cut) c.write_text.ensures.flag c.write_text.ensures.failed c.in_ok-parts.ensures.flag)
+    ends_of_input c.args.settings.now (g.R.Read.remaining c.args.reader.now.device) (g.W.Write.contents c.args.writer.now.device) (g.W.Write.contents c.write_report.new.writer.device) read.0
+    c.read_script_parts.new.reader.failed c.write_report.new.writer.failed c.write_report.result read.1 (c.write_report.ensures.ends read.0 (sym read.2 ∙ c.in_ok-script.ensures.script)) c.in_ok-parts.ensures.flag
 
 pub returns-in_err-script-clause-writes : goal.returns-in_err-script-clause-writes
 returns-in_err-script-clause-writes g c =
     let p = err_from_is_err_and c.from_residual-in_err-script.result c.from_residual-in_err-script.ensures.1 in
     none_at_fault c.from_residual-in_err-script.result c.args.writer.now.failed c.in_err-script.field-0.0 c.args.writer.now.calls (p.1 ∙ ap (λ fault. Err fault) p.2)
-
-pub returns-clause-writes : goal.returns-clause-writes
-returns-clause-writes g c = rw c.ok_or.ensures.value (of_answer c.write_text.result c.write_text.new.writer.failed c.args.writer.now.calls c.write_text.new.writer.calls c.write_text.ensures.calls)

@@ -1,0 +1,17 @@
+use Rattle.std.proofs.Common.{◌≡◌, [], length, false, true}
+use Rattle.thp_programs.proofs.DeviceLaws.{Written}
+use Rattle.thp_programs.specs.Calls.{Follow}
+use Rattle.thp_programs.specs.declared.calls.Call.TheVariants as call
+use Rattle.thp_run.proofs.writing.write_parts.Given as goal
+
+abbrev pub decreases-loop-writer : goal.decreases-loop-writer
+decreases-loop-writer g l = length l.parts.rest
+
+abbrev pub invariant-loop-writer : goal.invariant-loop-writer
+invariant-loop-writer g l =
+    let contents = g.W.Write.contents in
+    record {
+      written : Written (contents l.fn.writer.device) (contents l.writer.device) l.fn.parts.rest l.parts.rest;
+      flag : l.writer.failed ≡ false;
+      calls : Follow (call.Write true) [] l.fn.writer.calls l.writer.calls;
+    }
