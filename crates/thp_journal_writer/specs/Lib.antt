@@ -4,3 +4,4 @@ pub mod Journals
 pub mod Streams
 pub mod Histories
 pub mod Totals
+pub mod Room

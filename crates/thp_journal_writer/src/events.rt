@@ -3,6 +3,7 @@ ghost use Rattle.std.specs.Prelude.{◌≡◌, [], ◌∷◌, ◌++◌, OnOk};
 ghost use Rattle.std.specs.Fmt.{decimal};
 ghost use Rattle.thp_journal_writer.specs.EventLines.{line_of, outcome_word, page_told, what_words, event_line};
 ghost use Rattle.thp_journal_writer.specs.Journals.{ended};
+ghost use Rattle.thp_journal_writer.specs.Room.{outcome_room, Takes};
 ghost use Rattle.thp_journal_writer.specs.SetTexts.{set_text};
 
 use crate::numbers::{put, put_number};
@@ -137,7 +138,8 @@ pub fn put_outcome(
     outcome: Outcome,
     released: &SubSet,
 ) -> Result<(), AllocError>
-    ensures { OnOk result (text.new.items ≡ text.old.items ++ ended (line_of (outcome_word outcome ∷ set_text released.now ∷ []))) }
+    ensures text { OnOk result (text.new.items ≡ text.old.items ++ ended (line_of (outcome_word outcome ∷ set_text released.now ∷ []))) }
+    ensures room { Takes outcome_room text.old text.new result }
 {
     match outcome {
         Outcome::Stays => put(text, b"stays ")?,

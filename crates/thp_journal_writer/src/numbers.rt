@@ -1,6 +1,7 @@
 //! Numbers and words behind a text.
-ghost use Rattle.std.specs.Prelude.{◌≡◌, ◌+◌, ◌<◌, [], ◌∷◌, ◌++◌, OnOk};
+ghost use Rattle.std.specs.Prelude.{◌≡◌, ◌+◌, ◌<◌, [], ◌∷◌, ◌++◌, OnOk, length};
 ghost use Rattle.std.specs.Fmt.{decimal};
+ghost use Rattle.thp_journal_writer.specs.Room.{number_room, Takes};
 
 use itoa::write_digits;
 use std::alloc::AllocError;
@@ -11,7 +12,8 @@ const DIGITS: usize = 20;
 /// Writes the bytes of a word.
 #[inline(always)]
 pub fn put(text: &mut Vec<u8>, word: &[u8]) -> Result<(), AllocError>
-    ensures { OnOk result (text.new.items ≡ text.old.items ++ word.now) }
+    ensures text { OnOk result (text.new.items ≡ text.old.items ++ word.now) }
+    ensures room { Takes (length word.now) text.old text.new result }
 {
     text.extend_from_slice(word)
 }
@@ -19,7 +21,9 @@ pub fn put(text: &mut Vec<u8>, word: &[u8]) -> Result<(), AllocError>
 /// Writes a number in decimal, and the byte `after` behind it.
 #[inline]
 pub fn put_number(text: &mut Vec<u8>, number: u64, after: u8) -> Result<(), AllocError>
-    ensures { OnOk result (text.new.items ≡ text.old.items ++ decimal number ++ after ∷ []) }
+    ensures text { OnOk result (text.new.items ≡ text.old.items ++ decimal number ++ after ∷ []) }
+    ensures room { Takes number_room text.old text.new result }
+    ensures short { number < 1000 → Takes 4 text.old text.new result }
 {
     if number < 10 {
         put(text, &[digit(number), after])
@@ -53,7 +57,8 @@ fn digit(number: u64) -> u8
 // a number of any length
 #[inline(never)]
 fn put_long(text: &mut Vec<u8>, number: u64, after: u8) -> Result<(), AllocError>
-    ensures { OnOk result (text.new.items ≡ text.old.items ++ decimal number ++ after ∷ []) }
+    ensures text { OnOk result (text.new.items ≡ text.old.items ++ decimal number ++ after ∷ []) }
+    ensures room { Takes number_room text.old text.new result }
 {
     let mut digits = [after; DIGITS + 1];
     let start = write_digits(number, &mut digits, DIGITS);

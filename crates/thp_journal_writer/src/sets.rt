@@ -1,5 +1,6 @@
 //! Sets of subpages behind a text.
 ghost use Rattle.std.specs.Prelude.{◌≡◌, ◌+◌, ◌<◌, ◌≤◌, [], ◌∷◌, ◌++◌, OnOk, MatchOption, IfSome, drop};
+ghost use Rattle.thp_journal_writer.specs.Room.{set_room, Takes};
 ghost use Rattle.thp_journal_writer.specs.SetTexts.{runs_from, run_text, set_text};
 
 use crate::numbers::{put, put_number};
@@ -11,7 +12,8 @@ const SUBPAGES: u32 = 512;
 
 /// Writes the text of a set, and the byte `after` behind it.
 pub(crate) fn put_set(text: &mut Vec<u8>, set: &SubSet, after: u8) -> Result<(), AllocError>
-    ensures { OnOk result (text.new.items ≡ text.old.items ++ set_text set.now ++ after ∷ []) }
+    ensures text { OnOk result (text.new.items ≡ text.old.items ++ set_text set.now ++ after ∷ []) }
+    ensures room { Takes set_room text.old text.new result }
 {
     let Some(run) = next_run(set, 0) else {
         return put(text, &[b'-', after]);
@@ -28,6 +30,7 @@ pub(crate) fn put_set(text: &mut Vec<u8>, set: &SubSet, after: u8) -> Result<(),
 fn next_run(set: &SubSet, from: u32) -> Option<(u32, u32)>
     requires { from ≤ 512 }
     ensures ahead { IfSome result (λ run. from ≤ run.1) }
+    ensures order { IfSome result (λ run. run.0 ≤ run.1) }
     ensures within { IfSome result (λ run. run.1 < 512) }
     ensures runs { MatchOption result (runs_from from (drop from set.now) ≡ []) (λ run. runs_from from (drop from set.now) ≡ run ∷ runs_from (run.1 + 1) (drop (run.1 + 1) set.now)) }
 {
@@ -41,7 +44,10 @@ fn next_run(set: &SubSet, from: u32) -> Option<(u32, u32)>
 // a run, and the byte `after` behind it
 #[inline]
 fn put_run(text: &mut Vec<u8>, run: (u32, u32), after: u8) -> Result<(), AllocError>
-    ensures { OnOk result (text.new.items ≡ text.old.items ++ run_text run ++ after ∷ []) }
+    requires order { run.0 ≤ run.1 }
+    requires within { run.1 < 512 }
+    ensures text { OnOk result (text.new.items ≡ text.old.items ++ run_text run ++ after ∷ []) }
+    ensures room { Takes 8 text.old text.new result }
 {
     if run.0 == run.1 {
         return put_number(text, u64::from(run.0), after);

@@ -79,3 +79,24 @@ flush_ends (Some xs) None c text rest w e k = absurd w.written
 flush_ends (Some xs) (Some ys) None text rest w e k = absurd k
 flush_ends (Some xs) (Some ys) (Some zs) text [] w e k = k ∙ w.written ∙ ap (λ (t : List ℕ). xs ++ t) (sym (w.parts ∙ append-nil w.front))
 flush_ends (Some xs) (Some ys) (Some zs) text (r ∷ rest) w e k = absurd (omega arith)
+
+-- the bytes were taken, and nothing is left of them
+pub written_all : (a b : Option (List ℕ)) (text : List ℕ) → Appends a b text → Written a b text []
+written_all a b text w = record { front = text; parts = sym (append-nil text); written = w }
+
+-- a part of what was left was taken, too
+pub written_part : (a b c : Option (List ℕ)) (text rest part left : List ℕ) → Written a b text rest → part ++ left ≡ rest → Appends b c part → Written a c text left
+written_part a b c text rest part left w e k = record {
+  front = w.front ++ part;
+  parts = w.parts ∙ ap (λ r. w.front ++ r) (sym e) ∙ sym (append_assoc w.front part left);
+  written = appends_more a b c w.front part w.written k;
+}
+
+-- a front of a part of what was left was taken
+pub part_cut : (a b c : Option (List ℕ)) (text rest part left : List ℕ) → Written a b text rest → part ++ left ≡ rest → WritesFront b c part → WritesFront a c text
+part_cut a b c text rest part left w e k = record {
+  front = w.front ++ k.front;
+  back = k.back ++ left;
+  parts = w.parts ∙ ap (λ r. w.front ++ r) (sym e) ∙ ap (λ p. w.front ++ (p ++ left)) k.parts ∙ simp append_assoc;
+  written = appends_more a b c w.front k.front w.written k.written;
+}

@@ -20,6 +20,11 @@ abbrev pub ReadsOn : Bool → List Call → List Call → Type 0
 ReadsOn false = Follow (call.Read true) []
 ReadsOn true = Follow (call.Read true) (call.Read false ∷ [])
 
+-- Bytes were written; where the writer failed, the write that failed is the last.
+abbrev pub WritesAll : Bool → List Call → List Call → Type 0
+WritesAll false = Follow (call.Write true) []
+WritesAll true = Follow (call.Write true) (call.Write false ∷ [])
+
 -- A text was written and then flushed, once; where the writer failed, the call that failed is the last, and it alone failed.
 abbrev pub WritesOn : Bool → List Call → List Call → Type 0
 WritesOn false = Follow (call.Write true) (call.Flush true ∷ [])

@@ -2,7 +2,7 @@
 ghost use Rattle.std.specs.Prelude.{◌≡◌, ◌++◌, [], ℕ, List, true, false, refl, IfSome, IfNone, IfErr, IfOk};
 ghost use Rattle.std.proofs.Common.{◌∙◌, ap, append_assoc, sym};
 ghost use Rattle.std.specs.Io.KnownBytes.{Appends};
-ghost use Rattle.thp_programs.specs.Calls.{ReadsOn, WritesOn};
+ghost use Rattle.thp_programs.specs.Calls.{ReadsOn, WritesAll, WritesOn};
 ghost use Rattle.thp_programs.specs.Devices.{IsFrontOf, IsInputOf, WritesFront};
 ghost use Rattle.thp_programs.specs.RunFaults.{IsReadingFault};
 ghost use Rattle.thp_journal_reader.specs.Journals.{journals_of};
@@ -161,6 +161,25 @@ pub(crate) fn read_check_parts<R: Read>(
     read_parts(JournalCheck::new(alloc), MAX_INPUT, reader)
 }
 
+/// Writes all of a text, and doesn't flush. At `None` the writer failed, and took some front of the text; no call comes behind
+/// the one that failed.
+pub fn write_all<W: Write>(writer: &mut Watched<W>, text: &[u8]) -> Option<()>
+    requires { writer.old.failed ≡ false }
+    ensures written { IfSome result (λ _. Appends (W.contents writer.old.device) (W.contents writer.new.device) text.now) }
+    ensures cut { IfNone result (WritesFront (W.contents writer.old.device) (W.contents writer.new.device) text.now) }
+    ensures flag { IfSome result (λ _. writer.new.failed ≡ false) }
+    ensures failed { IfNone result (writer.new.failed ≡ true) }
+    ensures calls { WritesAll writer.new.failed writer.old.calls writer.new.calls }
+{
+    let mut rest = text;
+    while !rest.is_empty() {
+        let count = writer.write(rest)?;
+        let (_, after) = rest.split_at(count);
+        rest = after;
+    }
+    Some(())
+}
+
 /// Writes a text and flushes, once. At `None` the writer failed, and took some front of the text; no call comes behind the
 /// one that failed.
 pub fn write_text<W: Write>(writer: &mut Watched<W>, text: &[u8]) -> Option<()>
@@ -171,11 +190,6 @@ pub fn write_text<W: Write>(writer: &mut Watched<W>, text: &[u8]) -> Option<()>
     ensures failed { IfNone result (writer.new.failed ≡ true) }
     ensures calls { WritesOn writer.new.failed writer.old.calls writer.new.calls }
 {
-    let mut rest = text;
-    while !rest.is_empty() {
-        let count = writer.write(rest)?;
-        let (_, after) = rest.split_at(count);
-        rest = after;
-    }
+    write_all(writer, text)?;
     writer.flush()
 }

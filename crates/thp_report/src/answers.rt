@@ -1,9 +1,11 @@
 //! The answers to commands as text.
-ghost use Rattle.std.specs.Prelude.{◌≡◌, ◌+◌, ◌++◌, ◌∷◌, [], OnOk, IfOk, codes, map};
+ghost use Rattle.std.specs.Prelude.{◌≡◌, ◌+◌, ◌++◌, ◌≤◌, ◌∷◌, [], OnOk, IfOk, codes, length, map};
 ghost use Rattle.std.specs.Fmt.{decimal};
 ghost use Rattle.thp_journal_writer.specs.EventLines.{line_of};
 ghost use Rattle.thp_journal_writer.specs.Journals.{ended};
+ghost use Rattle.thp_journal_writer.specs.Room.{number_room, outcome_room, Takes};
 ghost use Rattle.thp_report.specs.Answers.{refusal_word, tried_words, back_words, scan_words, used_words, reply_words, looks, answer_line, section_text, answers_text as text_of};
+ghost use Rattle.thp_report.specs.Parts.{line_room};
 ghost use Rattle.thp_report.specs.Reports.{shape_of};
 ghost use Rattle.thp_sections.specs.Logs.{kept_log};
 
@@ -48,14 +50,15 @@ fn put_section<R: Recorder>(
     Ok(())
 }
 
-// an answer, behind its section and its place there
-fn put_answer<R: Recorder>(
+/// Writes an answer, behind its section and its place there.
+pub(crate) fn put_answer<R: Recorder>(
     text: &mut Vec<u8>,
     nodes: &[Node<R>],
     section: u32,
     answer: &Answer,
 ) -> Result<(), AllocError>
-    ensures { OnOk result (text.new.items ≡ text.old.items ++ answer_line (map shape_of nodes.now) section answer.now) }
+    ensures text { OnOk result (text.new.items ≡ text.old.items ++ answer_line (map shape_of nodes.now) section answer.now) }
+    ensures room { Takes line_room text.old text.new result }
 {
     put_number(text, u64::from(section), b' ')?;
     put_number(text, u64::from(answer.command) + 1, b' ')?;
@@ -67,7 +70,8 @@ fn put_answer<R: Recorder>(
 
 // the reply to a command that wasn't refused, on a node whose shrinker looks for underused pages or doesn't
 fn put_reply(text: &mut Vec<u8>, looks: bool, reply: &Reply) -> Result<(), AllocError>
-    ensures { OnOk result (text.new.items ≡ text.old.items ++ ended (line_of (reply_words looks reply.now))) }
+    ensures text { OnOk result (text.new.items ≡ text.old.items ++ ended (line_of (reply_words looks reply.now))) }
+    ensures room { Takes outcome_room text.old text.new result }
 {
     match reply {
         Reply::Page(page) => put_named(text, b"page ", page.0, b'\n'),
@@ -84,7 +88,8 @@ fn put_reply(text: &mut Vec<u8>, looks: bool, reply: &Reply) -> Result<(), Alloc
 
 // what a try did
 fn put_tried(text: &mut Vec<u8>, tried: Tried) -> Result<(), AllocError>
-    ensures { OnOk result (text.new.items ≡ text.old.items ++ ended (line_of (tried_words tried))) }
+    ensures text { OnOk result (text.new.items ≡ text.old.items ++ ended (line_of (tried_words tried))) }
+    ensures room { Takes 28 text.old text.new result }
 {
     match tried {
         Tried::Split(page) => put_named(text, b"split ", page.0, b'\n'),
@@ -96,7 +101,8 @@ fn put_tried(text: &mut Vec<u8>, tried: Tried) -> Result<(), AllocError>
 
 // what a scan counted
 fn put_scan(text: &mut Vec<u8>, looks: bool, counted: ScanReply) -> Result<(), AllocError>
-    ensures { OnOk result (text.new.items ≡ text.old.items ++ ended (line_of (scan_words counted ++ used_words looks counted))) }
+    ensures text { OnOk result (text.new.items ≡ text.old.items ++ ended (line_of (scan_words counted ++ used_words looks counted))) }
+    ensures room { Takes 163 text.old text.new result }
 {
     put_named(text, b"taken ", u64::from(counted.taken), b' ')?;
     put_named(text, b"split ", u64::from(counted.split), b' ')?;
@@ -112,7 +118,8 @@ fn put_scan(text: &mut Vec<u8>, looks: bool, counted: ScanReply) -> Result<(), A
 // how many pages went back and were dropped, and the byte `after`
 #[inline]
 fn put_back(text: &mut Vec<u8>, back: u32, dropped: u32, after: u8) -> Result<(), AllocError>
-    ensures { OnOk result (text.new.items ≡ text.old.items ++ (line_of (back_words back dropped) ++ after ∷ [])) }
+    ensures text { OnOk result (text.new.items ≡ text.old.items ++ (line_of (back_words back dropped) ++ after ∷ [])) }
+    ensures room { Takes 55 text.old text.new result }
 {
     put_named(text, b"back ", u64::from(back), b' ')?;
     put_named(text, b"dropped ", u64::from(dropped), after)
@@ -120,7 +127,8 @@ fn put_back(text: &mut Vec<u8>, back: u32, dropped: u32, after: u8) -> Result<()
 
 // why a command was refused
 fn put_refusal(text: &mut Vec<u8>, refusal: Refusal) -> Result<(), AllocError>
-    ensures { OnOk result (text.new.items ≡ text.old.items ++ ended (line_of (codes "refused" ∷ refusal_word refusal ∷ []))) }
+    ensures text { OnOk result (text.new.items ≡ text.old.items ++ ended (line_of (codes "refused" ∷ refusal_word refusal ∷ []))) }
+    ensures room { Takes 19 text.old text.new result }
 {
     put(text, b"refused ")?;
     put(text, word_of(refusal).as_bytes())?;
@@ -129,7 +137,8 @@ fn put_refusal(text: &mut Vec<u8>, refusal: Refusal) -> Result<(), AllocError>
 
 // the word of a refusal
 fn word_of(refusal: Refusal) -> &'static str
-    ensures { result.now ≡ refusal_word refusal }
+    ensures word { result.now ≡ refusal_word refusal }
+    ensures short { length result.now ≤ 10 }
 {
     match refusal {
         Refusal::NoPage => "no-page",
@@ -149,7 +158,8 @@ fn word_of(refusal: Refusal) -> &'static str
 // a number behind a name, and the byte `after`
 #[inline]
 fn put_named(text: &mut Vec<u8>, name: &[u8], number: u64, after: u8) -> Result<(), AllocError>
-    ensures { OnOk result (text.new.items ≡ text.old.items ++ (name.now ++ (decimal number ++ after ∷ []))) }
+    ensures text { OnOk result (text.new.items ≡ text.old.items ++ (name.now ++ (decimal number ++ after ∷ []))) }
+    ensures room { Takes (length name.now + number_room) text.old text.new result }
 {
     put(text, name)?;
     put_number(text, number, after)

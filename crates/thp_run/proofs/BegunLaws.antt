@@ -58,15 +58,3 @@ pub read_whole : (s : Settings) (script script' : ReadSoFar) (q q' : Passes) (se
     → spelled_with script' [] ≡ Ok rest → script_of s bytes ≡ Ok (behind_setup r.commands rest)
 read_whole s script script' q q' setup setup' bytes rest r begins is =
     sym begins ∙ ap (spelled_with script) (sym (append-nil bytes)) ∙ r.text [] ∙ ap (read_behind r.commands) is
-
--- the report of what was run
-pub report_from : (s : Settings) (known : Option (List ℕ)) (nodes : List NodeState) (sections : List Section) (text : List ℕ) → (ran : HasRun s known nodes sections) → text ≡ report_of s.report (map told_of nodes) sections → IsReport s ran.bytes text
-report_from s known nodes sections text ran told = record {
-  script = ran.script;
-  spelled = ran.spelled;
-  nodes = nodes;
-  nodes_are = ran.nodes_are;
-  sections = sections;
-  is_run = ran.is_run;
-  written = told;
-}

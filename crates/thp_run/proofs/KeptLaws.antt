@@ -1,8 +1,6 @@
 -- Reports of the answers that a run kept.
-use Rattle.std.proofs.Common.{◌≡◌, ℕ, List, [], ◌∷◌, ◌∙◌, ap, map, refl, Ok, Err}
-use Rattle.std.specs.Prelude.{All, IfOk, Result, Vec, filter}
-use Rattle.std.specs.declared.alloc.AllocError.{AllocError}
-use Rattle.std.specs.declared.alloc.Global.{Global}
+use Rattle.std.proofs.Common.{◌≡◌, ℕ, List, [], ◌∷◌, ◌∙◌, ap, map, refl, Ok}
+use Rattle.std.specs.Prelude.{All, filter}
 use Rattle.std.proofs.lemmas.List.Elements.{All-head, All-tail}
 use Rattle.thp_node.specs.NodeState.{NodeState}
 use Rattle.thp_report.specs.Answers.{answers_text}
@@ -34,18 +32,26 @@ kept_report report.Totals nodes sections kept = refl
 kept_report report.Journal nodes sections kept = refl
 kept_report report.Answers nodes sections kept = ap (answers_text (map shape_in (map told_of nodes))) (all_kept sections (kept refl))
 
--- what is told of the answers that a run kept is the report of the run
-pub is_report : (s : Settings) (script : Script) (nodes : List NodeState) (sections kept : List Section) (r : Result (Vec ℕ Global) AllocError) →
-    AreNodesFor s nodes → IsRun s.nodes (shapes_of nodes) script (histories_of nodes) sections → (s.report ≡ report.Answers → All (SectionAnswersAre Kept) sections) → kept ≡ filter has_kept sections →
-    IfOk r (λ text. text.items ≡ report_of s.report (map told_of nodes) kept) →
-    IfOk r (λ text. (input : List ℕ) → script_of s input ≡ Ok script → IsReport s input text.items)
-is_report s script nodes sections kept (Err e) made run all is told = tt
-is_report s script nodes sections kept (Ok text) made run all is told = λ input spelled. record {
+-- the text is the report of each input that spells the script
+abbrev pub IsReportOf : Settings → Script → List ℕ → Type 0
+IsReportOf s script text = (input : List ℕ) → script_of s input ≡ Ok script → IsReport s input text
+
+-- what is told of a run is its report
+pub is_report : (s : Settings) (script : Script) (nodes : List NodeState) (sections : List Section) (text : List ℕ) → AreNodesFor s nodes →
+    IsRun s.nodes (shapes_of nodes) script (histories_of nodes) sections → text ≡ report_of s.report (map told_of nodes) sections → IsReportOf s script text
+is_report s script nodes sections text made run told = λ input spelled. record {
   script = script;
   spelled = spelled;
   nodes = nodes;
   nodes_are = made;
   sections = sections;
   is_run = run;
-  written = told ∙ ap (report_of s.report (map told_of nodes)) is ∙ kept_report s.report nodes sections all;
+  written = told;
 }
+
+-- and so is what is told of the answers that it kept
+pub is_kept_report : (s : Settings) (script : Script) (nodes : List NodeState) (sections kept : List Section) (text : List ℕ) → AreNodesFor s nodes →
+    IsRun s.nodes (shapes_of nodes) script (histories_of nodes) sections → (s.report ≡ report.Answers → All (SectionAnswersAre Kept) sections) → kept ≡ filter has_kept sections →
+    text ≡ report_of s.report (map told_of nodes) kept → IsReportOf s script text
+is_kept_report s script nodes sections kept text made run all is told =
+    is_report s script nodes sections text made run (told ∙ ap (report_of s.report (map told_of nodes)) is ∙ kept_report s.report nodes sections all)

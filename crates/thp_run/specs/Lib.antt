@@ -5,3 +5,4 @@ pub mod Listed
 pub mod Comparing
 pub mod Underway
 pub mod UnderwayLaws
+pub mod Written

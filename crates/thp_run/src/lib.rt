@@ -6,6 +6,7 @@ mod listed;
 mod program;
 mod running;
 mod underway;
+mod writing;
 
 pub use listed::{Section, Worked, report_text, work, work_rest};
 pub use program::run_program;

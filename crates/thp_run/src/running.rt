@@ -1,55 +1,25 @@
 //! From the bytes of a script to the bytes of its report.
-ghost use Rattle.std.specs.Prelude.{◌≡◌, ℕ, List, IfOk, Ok, false};
+ghost use Rattle.std.specs.Prelude.{false};
 ghost use Rattle.thp_programs.specs.Calls.{ReadsOn};
 ghost use Rattle.thp_programs.specs.Passages.{WritesAnswer};
-ghost use Rattle.thp_run.specs.Programs.{IsReport, RunEnds};
-ghost use Rattle.thp_text.specs.Scripts.{script_of, IsScriptFor};
+ghost use Rattle.thp_run.specs.Programs.{RunEnds};
 
-use std::alloc::{AllocError, Global};
+use crate::underway::run_as_read;
+use crate::writing::{write_answers, write_journals, write_totals};
+use std::alloc::Global;
 use std::io::{Read, Write};
 use std::thread::Threads;
 use thp_node::Unkept;
-use thp_programs::{RunFault, Watched, read_script_parts, write_text};
-use thp_report::{answers_text, journals_text, totals_text};
-use thp_script_runs::{Ran, run_recorded, run_script};
-use thp_sections::{Gate, kept_sections};
-use thp_text::{Report, Script, Settings};
+use thp_programs::{RunFault, Watched};
+use thp_script_runs::Ran;
+use thp_sections::Gate;
+use thp_text::{Report, Settings};
 
-/// The report of a run of the script. Only a report of journals has the nodes keep their events.
-fn report_of<T: Threads + Sync, G: Gate + Sync>(
-    rt: &T,
-    alloc: Global,
-    settings: &Settings,
-    script: Script,
-    gate: &G,
-) -> Result<Vec<u8>, AllocError>
-    requires { IsScriptFor settings.now script }
-    ensures { IfOk result (λ text. (input : List ℕ) → script_of settings.now input ≡ Ok script → IsReport settings.now input text.items) }
-{
-    match settings.report {
-        Report::Totals => {
-            let ran: Ran<Unkept> = run_recorded(rt, alloc, settings, script, gate)?;
-            totals_text(alloc, ran.nodes.as_slice())
-        }
-        Report::Answers => {
-            let Ran { nodes, sections }: Ran<Unkept> = run_recorded(
-                rt, alloc, settings, script, gate,
-            )?;
-            let kept = kept_sections(alloc, sections)?;
-            answers_text(alloc, nodes.as_slice(), kept.as_slice())
-        }
-        Report::Journal => {
-            let ran = run_script(rt, alloc, settings, script, gate)?;
-            journals_text(alloc, ran.nodes.as_slice())
-        }
-    }
-}
-
-/// Runs the script that the reader gives, and writes the report of the run.
+/// Runs the script that the reader gives, and writes the report of the run. Only a report of journals has the nodes keep their events.
 ///
-/// It makes the nodes that the settings ask for, does the section `setup`, then the sections of the workers, each on a
-/// thread of its own. Nothing is written but the report; where the writer fails, a front of it. The gate is passed before
-/// each command of a worker.
+/// It makes the nodes that the settings ask for, does the section `setup` as it is read, then the sections of the workers, each on a
+/// thread of its own. Nothing is written but the report, and that once all is done; where the writer fails, a front of it. The gate is
+/// passed before each command of a worker.
 pub fn run<T: Threads + Sync, R: Read, W: Write, G: Gate + Sync>(
     rt: &T,
     alloc: Global,
@@ -64,8 +34,18 @@ pub fn run<T: Threads + Sync, R: Read, W: Write, G: Gate + Sync>(
     ensures reads { ReadsOn reader.new.failed reader.old.calls reader.new.calls }
     ensures writes { WritesAnswer result writer.new.failed writer.old.calls writer.new.calls }
 {
-    let parts = read_script_parts(alloc, settings, reader)?;
-    let script = parts.finish()?;
-    let text = report_of(rt, alloc, settings, script, gate)?;
-    write_text(writer, text.as_slice()).ok_or(RunFault::Write)
+    match settings.report {
+        Report::Totals => {
+            let ran: Ran<Unkept> = run_as_read(rt, alloc, settings, reader, gate)?;
+            write_totals(alloc, &ran, writer)
+        }
+        Report::Answers => {
+            let ran: Ran<Unkept> = run_as_read(rt, alloc, settings, reader, gate)?;
+            write_answers(alloc, ran, writer)
+        }
+        Report::Journal => {
+            let ran: Ran = run_as_read(rt, alloc, settings, reader, gate)?;
+            write_journals(alloc, &ran, writer)
+        }
+    }
 }

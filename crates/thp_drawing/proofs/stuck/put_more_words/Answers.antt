@@ -7,4 +7,4 @@ pub returns : goal.returns
 unfolding more_words
 returns c =
     let P : List ℕ → Type 0 = λ t. OnOk c.put_many.result (c.put_many.new.text.items ≡ t) in
-    subst P (two_behind _ _ _ c.in_ok-put.ensures) c.put_many.ensures
+    subst P (two_behind _ _ _ c.in_ok-put.ensures.text) c.put_many.ensures

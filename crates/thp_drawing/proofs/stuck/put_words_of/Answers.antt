@@ -8,5 +8,5 @@ unfolding words_of
 returns c =
     let P : List ℕ → Type 0 = λ t. OnOk c.put_decimal-2.result (c.put_decimal-2.new.text.items ≡ t) in
     subst P
-    (six_behind _ _ _ _ _ _ _ c.in_ok-put.ensures c.in_ok-put_decimal.ensures c.in_ok-put-2.ensures c.in_ok-put_many.ensures c.in_ok-put-3.ensures)
+    (six_behind _ _ _ _ _ _ _ c.in_ok-put.ensures.text c.in_ok-put_decimal.ensures c.in_ok-put-2.ensures.text c.in_ok-put_many.ensures c.in_ok-put-3.ensures.text)
     c.put_decimal-2.ensures

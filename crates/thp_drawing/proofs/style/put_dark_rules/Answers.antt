@@ -8,5 +8,5 @@ unfolding dark_rules
 returns c =
     let P : List ℕ → Type 0 = λ t. OnOk c.put-2.result (c.put-2.new.text.items ≡ t) in
     subst P
-    (four_behind _ _ _ _ _ c.in_ok-put.ensures c.in_ok-put_dark_inks.ensures c.in_ok-put_dark_stages.ensures)
-    c.put-2.ensures
+    (four_behind _ _ _ _ _ c.in_ok-put.ensures.text c.in_ok-put_dark_inks.ensures c.in_ok-put_dark_stages.ensures)
+    c.put-2.ensures.text

@@ -7,4 +7,4 @@ pub returns : goal.returns
 unfolding letter_rules
 returns c =
     let P : List ℕ → Type 0 = λ t. OnOk c.put-2.result (c.put-2.new.text.items ≡ t) in
-    subst P (two_behind _ _ _ c.in_ok-put.ensures) c.put-2.ensures
+    subst P (two_behind _ _ _ c.in_ok-put.ensures.text) c.put-2.ensures.text

@@ -7,4 +7,4 @@ pub returns : goal.returns
 unfolding size_rules
 returns c =
     let P : List ℕ → Type 0 = λ t. OnOk c.put-3.result (c.put-3.new.text.items ≡ t) in
-    subst P (three_behind _ _ _ _ c.in_ok-put.ensures c.in_ok-put-2.ensures) c.put-3.ensures
+    subst P (three_behind _ _ _ _ c.in_ok-put.ensures.text c.in_ok-put-2.ensures.text) c.put-3.ensures.text

@@ -8,5 +8,5 @@ unfolding illegal_words
 returns c =
     let P : List ℕ → Type 0 = λ t. OnOk c.put_event_words.result (c.put_event_words.new.text.items ≡ t) in
     subst P
-    (four_behind _ _ _ _ _ c.in_ok-put.ensures c.in_ok-put_decimal.ensures c.in_ok-put-2.ensures)
+    (four_behind _ _ _ _ _ c.in_ok-put.ensures.text c.in_ok-put_decimal.ensures c.in_ok-put-2.ensures.text)
     c.put_event_words.ensures

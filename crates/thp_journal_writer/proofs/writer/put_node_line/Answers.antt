@@ -7,17 +7,17 @@ pub returns-in-Plain : goal.returns-in-Plain
 returns-in-Plain c =
     let P : List ℕ → Type 0 = λ t. OnOk c.put_number-in-Plain.result (c.put_number-in-Plain.new.text.items ≡ t) in
     let is : c.args.version ≡ Plain = cc in
-    subst P (plain_node c.args.text.now.items c.put.new.text.items c.put_number.new.text.items c.put-2.new.text.items c.args.version c.args.n c.from.result c.args.shape.now is (cc) c.in_ok-put.ensures c.in_ok-put_number.ensures c.in_ok-put-2.ensures) c.put_number-in-Plain.ensures
+    subst P (plain_node c.args.text.now.items c.put.new.text.items c.put_number.new.text.items c.put-2.new.text.items c.args.version c.args.n c.from.result c.args.shape.now is (cc) c.in_ok-put.ensures.text c.in_ok-put_number.ensures.text c.in_ok-put-2.ensures.text) c.put_number-in-Plain.ensures.text
 
 pub returns-in-Orders : goal.returns-in-Orders
 returns-in-Orders c =
     let P : List ℕ → Type 0 = λ t. OnOk c.put_order.result (c.put_order.new.text.items ≡ t) in
     let is : c.args.version ≡ Orders = cc in
-    subst P (orders_node c.args.text.now.items c.put.new.text.items c.put_number.new.text.items c.put-2.new.text.items c.args.version c.args.n c.args.shape.now is c.in_ok-put.ensures c.in_ok-put_number.ensures c.in_ok-put-2.ensures) c.put_order.ensures
+    subst P (orders_node c.args.text.now.items c.put.new.text.items c.put_number.new.text.items c.put-2.new.text.items c.args.version c.args.n c.args.shape.now is c.in_ok-put.ensures.text c.in_ok-put_number.ensures.text c.in_ok-put-2.ensures.text) c.put_order.ensures
 
 pub returns-in_ok-put_order-in-Underused : goal.returns-in_ok-put_order-in-Underused
 returns-in_ok-put_order-in-Underused c =
     let P : List ℕ → Type 0 = λ t. OnOk c.put_underused.result (c.put_underused.new.text.items ≡ t) in
     let is : c.args.version ≡ Underused = cc in
-    subst P (underused_node c.args.text.now.items c.put.new.text.items c.put_number.new.text.items c.put-2.new.text.items c.put_order-in-Underused.new.text.items c.args.version c.args.n c.args.shape.now is c.in_ok-put.ensures c.in_ok-put_number.ensures c.in_ok-put-2.ensures c.in_ok-put_order-in-Underused.ensures)
+    subst P (underused_node c.args.text.now.items c.put.new.text.items c.put_number.new.text.items c.put-2.new.text.items c.put_order-in-Underused.new.text.items c.args.version c.args.n c.args.shape.now is c.in_ok-put.ensures.text c.in_ok-put_number.ensures.text c.in_ok-put-2.ensures.text c.in_ok-put_order-in-Underused.ensures)
     c.put_underused.ensures

@@ -11,7 +11,7 @@ loop-place-preserved g c =
     let place = c.loop-place.place in
     let answer = c.in-Some.answer in
     let line = answer_line (map shape_of c.args.nodes.now) c.args.worker in
-    rw (c.in_ok-put_answer.ensures)
+    rw (c.in_ok-put_answer.ensures.text)
     (append_assoc c.loop-place.text.items (line answer) (flat_map line (drop (place + 1) items))
     ∙ ap (λ left. c.loop-place.text.items ++ flat_map line left) (sym (drop_at_get items place answer c.in-Some.ensures))
     ∙ c.loop-place.invariant)

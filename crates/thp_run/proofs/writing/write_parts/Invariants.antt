@@ -2,16 +2,16 @@ use Rattle.std.proofs.Common.{◌≡◌, [], length, false, true}
 use Rattle.thp_programs.proofs.DeviceLaws.{Written}
 use Rattle.thp_programs.specs.Calls.{Follow}
 use Rattle.thp_programs.specs.declared.calls.Call.TheVariants as call
-use Rattle.thp_programs.proofs.device.write_text.Given as goal
+use Rattle.thp_run.proofs.writing.write_parts.Given as goal
 
-abbrev pub decreases-loop-rest : goal.decreases-loop-rest
-decreases-loop-rest g l = length l.rest
+abbrev pub decreases-loop-writer : goal.decreases-loop-writer
+decreases-loop-writer g l = length l.parts.rest
 
-abbrev pub invariant-loop-rest : goal.invariant-loop-rest
-invariant-loop-rest g l =
+abbrev pub invariant-loop-writer : goal.invariant-loop-writer
+invariant-loop-writer g l =
     let contents = g.W.Write.contents in
     record {
-      written : Written (contents l.fn.writer.device) (contents l.writer.device) l.text l.rest;
+      written : Written (contents l.fn.writer.device) (contents l.writer.device) l.fn.parts.rest l.parts.rest;
       flag : l.writer.failed ≡ false;
       calls : Follow (call.Write true) [] l.fn.writer.calls l.writer.calls;
     }

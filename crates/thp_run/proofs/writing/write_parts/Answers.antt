@@ -1,0 +1,35 @@
+use Rattle.std.proofs.Common.{◌∙◌, ◌++◌, ap}
+use Rattle.thp_programs.proofs.CallLaws.{flushes_by, part_failed, part_written}
+use Rattle.thp_programs.proofs.DeviceLaws.{part_cut, written_part}
+use Rattle.thp_run.proofs.PassageLaws.{none_has}
+use Rattle.thp_run.proofs.writing.write_parts.Goals as goal
+
+pub returns-then-is_empty-clause-calls : goal.returns-then-is_empty-clause-calls
+returns-then-is_empty-clause-calls g c =
+    flushes_by c.flush.new.self.failed c.loop-writer.writer.failed c.flush.result c.args.writer.now.calls c.loop-writer.writer.calls c.flush.new.self.calls c.loop-writer.invariant.calls c.loop-writer.invariant.flag
+    c.flush.ensures.calls c.flush.ensures.failed c.flush.ensures.flag_stays
+
+pub loop-writer-preserved : goal.loop-writer-preserved
+loop-writer-preserved g c =
+    let contents = g.W.Write.contents in
+    let part = c.part-in-loop-writer in
+    let rest = c.fill.new.self.rest in
+    record {
+      written = written_part (contents c.args.writer.now.device) (contents c.loop-writer.writer.device) (contents c.write_all.new.writer.device) c.args.parts.now.rest c.loop-writer.parts.rest part.result.now rest
+          c.loop-writer.invariant.written (ap (λ p. p ++ rest) part.ensures ∙ c.fill.ensures.text) c.in_ok-write_all.ensures.written;
+      flag = c.in_ok-write_all.ensures.flag;
+      calls = part_written c.write_all.new.writer.failed c.args.writer.now.calls c.loop-writer.writer.calls c.write_all.new.writer.calls c.loop-writer.invariant.calls c.in_ok-write_all.ensures.flag c.in_ok-write_all.ensures.calls;
+    }
+
+pub returns-in_err-write_all-clause-cut : goal.returns-in_err-write_all-clause-cut
+returns-in_err-write_all-clause-cut g c =
+    let contents = g.W.Write.contents in
+    let part = c.part-in-loop-writer in
+    let rest = c.fill.new.self.rest in
+    none_has c.from_residual.result _
+    (part_cut (contents c.args.writer.now.device) (contents c.loop-writer.writer.device) (contents c.write_all.new.writer.device) c.args.parts.now.rest c.loop-writer.parts.rest part.result.now rest
+    c.loop-writer.invariant.written (ap (λ p. p ++ rest) part.ensures ∙ c.fill.ensures.text) c.in_err-write_all.ensures.cut)
+
+pub returns-in_err-write_all-clause-calls : goal.returns-in_err-write_all-clause-calls
+returns-in_err-write_all-clause-calls g c =
+    part_failed c.write_all.new.writer.failed c.args.writer.now.calls c.loop-writer.writer.calls c.write_all.new.writer.calls c.loop-writer.invariant.calls c.in_err-write_all.ensures.failed c.in_err-write_all.ensures.calls
