@@ -1,5 +1,5 @@
 //! From the bytes of a script to the bytes of its report.
-ghost use Rattle.std.specs.Prelude.{false};
+ghost use Rattle.std.specs.Prelude.{◌≡◌, false};
 ghost use Rattle.thp_programs.specs.Calls.{ReadsOn};
 ghost use Rattle.thp_programs.specs.Passages.{WritesAnswer};
 ghost use Rattle.thp_run.specs.Programs.{RunEnds};

@@ -1,0 +1,56 @@
+use Rattle.std.proofs.Common.{◌≡◌, ◌∙◌, ap, map, refl, sym, Err}
+use Rattle.std.specs.Prelude.{filter}
+use Rattle.std.proofs.lemmas.Result.{err_from_is_err_and}
+use Rattle.thp_journal_writer.specs.Journals.{journal_text}
+use Rattle.thp_journal_writer.specs.Totals.{totals_text}
+use Rattle.thp_report.specs.Answers.{answers_text}
+use Rattle.thp_report.specs.Reports.{report_of, shape_of, told_of}
+use Rattle.thp_report.proofs.ReportLaws.{shapes_told}
+use Rattle.thp_sections.specs.KeptSections.{has_kept}
+use Rattle.thp_run.proofs.PassageLaws.{not_run_ends, not_run_writes, run_wrote, run_wrote_kept}
+use Rattle.thp_run.proofs.running.run.Goals as goal
+
+pub returns-in_err-ran-in-Totals-clause-ends : goal.returns-in_err-ran-in-Totals-clause-ends
+returns-in_err-ran-in-Totals-clause-ends g c =
+    let p = err_from_is_err_and c.from_residual.result c.from_residual.ensures.1 in
+    not_run_ends c.args.settings.now (g.R.Read.remaining c.args.reader.now.device) (g.W.Write.contents c.args.writer.now.device) c.run_as_read.new.reader.failed c.args.writer.now.failed
+    c.in_err-ran-in-Totals.field-0.0 c.from_residual.result c.in_err-ran-in-Totals.ensures.fault c.requires.writer (p.1 ∙ ap (λ fault. Err fault) p.2)
+
+pub returns-in_err-ran-in-Answers-clause-ends : goal.returns-in_err-ran-in-Answers-clause-ends
+returns-in_err-ran-in-Answers-clause-ends g c =
+    let p = err_from_is_err_and c.from_residual-in_err-ran-in-Answers.result c.from_residual-in_err-ran-in-Answers.ensures.1 in
+    not_run_ends c.args.settings.now (g.R.Read.remaining c.args.reader.now.device) (g.W.Write.contents c.args.writer.now.device) c.run_as_read-in-Answers.new.reader.failed c.args.writer.now.failed
+    c.in_err-ran-in-Answers.field-0.0 c.from_residual-in_err-ran-in-Answers.result c.in_err-ran-in-Answers.ensures.fault c.requires.writer (p.1 ∙ ap (λ fault. Err fault) p.2)
+
+pub returns-in_err-ran-in-Journal-clause-ends : goal.returns-in_err-ran-in-Journal-clause-ends
+returns-in_err-ran-in-Journal-clause-ends g c =
+    let p = err_from_is_err_and c.from_residual-in_err-ran-in-Journal.result c.from_residual-in_err-ran-in-Journal.ensures.1 in
+    not_run_ends c.args.settings.now (g.R.Read.remaining c.args.reader.now.device) (g.W.Write.contents c.args.writer.now.device) c.run_as_read-in-Journal.new.reader.failed c.args.writer.now.failed
+    c.in_err-ran-in-Journal.field-0.0 c.from_residual-in_err-ran-in-Journal.result c.in_err-ran-in-Journal.ensures.fault c.requires.writer (p.1 ∙ ap (λ fault. Err fault) p.2)
+
+pub returns-in_ok-ran-in-Totals-clause-ends : goal.returns-in_ok-ran-in-Totals-clause-ends
+returns-in_ok-ran-in-Totals-clause-ends g c =
+    let s = c.args.settings.now in
+    let ran = c.in_ok-ran-in-Totals in
+    let text = totals_text (map told_of ran.ran.nodes.items) in
+    let told : text ≡ report_of s.report (map told_of ran.ran.nodes.items) ran.ran.sections.items = rw c.in-Totals.is refl in
+    run_wrote s (g.R.Read.remaining c.args.reader.now.device) ran.ran.nodes.items ran.ran.sections.items text (g.W.Write.contents c.args.writer.now.device) (g.W.Write.contents c.write_totals.new.writer.device)
+    c.run_as_read.new.reader.failed c.write_totals.new.writer.failed c.write_totals.result ran.ensures.ran told c.write_totals.ensures.wrote ran.ensures.flag
+
+pub returns-in_ok-ran-in-Journal-clause-ends : goal.returns-in_ok-ran-in-Journal-clause-ends
+returns-in_ok-ran-in-Journal-clause-ends g c =
+    let s = c.args.settings.now in
+    let ran = c.in_ok-ran-in-Journal in
+    let text = journal_text (map told_of ran.ran.nodes.items) in
+    let told : text ≡ report_of s.report (map told_of ran.ran.nodes.items) ran.ran.sections.items = rw c.in-Journal.is refl in
+    run_wrote s (g.R.Read.remaining c.args.reader.now.device) ran.ran.nodes.items ran.ran.sections.items text (g.W.Write.contents c.args.writer.now.device) (g.W.Write.contents c.write_journals.new.writer.device)
+    c.run_as_read-in-Journal.new.reader.failed c.write_journals.new.writer.failed c.write_journals.result ran.ensures.ran told c.write_journals.ensures.wrote ran.ensures.flag
+
+pub returns-in_ok-ran-in-Answers-clause-ends : goal.returns-in_ok-ran-in-Answers-clause-ends
+returns-in_ok-ran-in-Answers-clause-ends g c =
+    let s = c.args.settings.now in
+    let ran = c.in_ok-ran-in-Answers in
+    let text = answers_text (map shape_of ran.ran.nodes.items) (filter has_kept ran.ran.sections.items) in
+    let told : text ≡ report_of s.report (map told_of ran.ran.nodes.items) (filter has_kept ran.ran.sections.items) = rw (c.in-Answers.is, shapes_told ran.ran.nodes.items) refl in
+    run_wrote_kept s (g.R.Read.remaining c.args.reader.now.device) ran.ran.nodes.items ran.ran.sections.items text (g.W.Write.contents c.args.writer.now.device) (g.W.Write.contents c.write_answers.new.writer.device)
+    c.run_as_read-in-Answers.new.reader.failed c.write_answers.new.writer.failed c.write_answers.result ran.ensures.ran told c.write_answers.ensures.wrote ran.ensures.flag
