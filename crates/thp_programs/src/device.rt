@@ -7,8 +7,6 @@ ghost use Rattle.thp_programs.specs.Devices.{IsFrontOf, IsInputOf, WritesFront};
 ghost use Rattle.thp_programs.specs.RunFaults.{IsReadingFault};
 ghost use Rattle.thp_journal_reader.specs.Journals.{journals_of};
 ghost use Rattle.thp_journal_reader.specs.Parts.{told_with};
-ghost use Rattle.thp_text.specs.Parts.{spelled_with};
-ghost use Rattle.thp_text.specs.Scripts.{script_of};
 ghost use Rattle.thp_text.specs.declared.fault.ReadFault.TheVariants.{OutOfMemory};
 
 use crate::fault::RunFault;
@@ -16,7 +14,7 @@ use crate::watched::Watched;
 use std::alloc::Global;
 use std::io::{Read, Write};
 use thp_journal_reader::{JournalCheck, LongCheck, SeriesCheck, SummedCheck};
-use thp_text::{MAX_INPUT, ReadFault, ScriptReader, Settings};
+use thp_text::{MAX_INPUT, ReadFault};
 
 /// How many bytes one read may give.
 const PART: usize = 65_536;
@@ -36,18 +34,6 @@ pub trait ReadsParts: Sized {
 
     /// Bytes come one behind the other.
     ghost more_read: { (a b c : Self) (first more : List ℕ) → has_read a first b → has_read b more c → has_read a (first ++ more) c };
-}
-
-impl<'a> ReadsParts for ScriptReader<'a> {
-    ghost has_read = { λ old bytes new. ((more : List ℕ) → spelled_with new more ≡ spelled_with old (bytes ++ more)) × (new.settings ≡ old.settings) };
-
-    fn read_part(self, part: &[u8]) -> Result<Self, ReadFault> {
-        ScriptReader::read_part(self, part)
-    }
-
-    ghost nothing_read = { λ r. (λ more. refl, refl) };
-
-    ghost more_read = { λ a b c first more old new. (λ rest. new.0 rest ∙ old.0 (more ++ rest) ∙ ap (spelled_with a) (sym (append_assoc first more rest)), new.1 ∙ old.1) };
 }
 
 impl ReadsParts for JournalCheck {
@@ -128,23 +114,6 @@ pub fn read_parts<R: Read, P: ReadsParts + Drop>(
         }
         left -= count;
     }
-}
-
-/// The script whose text a reader gives, part by part: all of its bytes, or more of them than an input may have.
-pub fn read_script_parts<'a, R: Read>(
-    alloc: Global,
-    settings: &'a Settings,
-    reader: &mut Watched<R>,
-) -> Result<ScriptReader<'a>, RunFault>
-    requires { reader.old.failed ≡ false }
-    ensures parts { IfOk result (λ script. (bytes : List ℕ) × IfSome (R.remaining reader.old.device) (IsInputOf bytes) × (spelled_with script [] ≡ script_of settings.now bytes)) }
-    ensures settings { IfOk result (λ script. script.settings ≡ settings.now) }
-    ensures flag { IfOk result (λ _. reader.new.failed ≡ false) }
-    ensures fault { IfErr result (IsReadingFault reader.new.failed) }
-    ensures calls { ReadsOn reader.new.failed reader.old.calls reader.new.calls }
-{
-    let script = ScriptReader::new(alloc, settings)?;
-    read_parts(script, MAX_INPUT, reader)
 }
 
 /// The check of the journals whose text a reader gives, part by part: all of its bytes, or more of them than an input may have.

@@ -21,7 +21,7 @@ mod words;
 
 pub use answering::{WordsAnswer, answer};
 pub use checking::{check_run, verdict};
-pub use device::{ReadsParts, read_parts, read_script_parts, write_all, write_text};
+pub use device::{ReadsParts, read_parts, write_all, write_text};
 pub use ending::{Ending, Program, ProgramFault, WordsFault};
 pub use fault::RunFault;
 pub use flags::flag;
