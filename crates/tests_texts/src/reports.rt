@@ -3,4 +3,5 @@
 mod answers;
 mod journals;
 mod nodes;
+mod parts;
 mod totals;

@@ -8,7 +8,7 @@ use thp_sections::{KeptAnswers, KeptSection, Reply};
 use thp_text::Report;
 
 // The answers to the commands of a section, all on one node.
-fn section(
+pub(crate) fn section(
     rt: &impl Abort,
     alloc: Global,
     worker: u32,
@@ -26,7 +26,7 @@ fn section(
     KeptSection { worker, answers }
 }
 
-fn done(outcome: Outcome, released: SubSet) -> Result<Reply, Refusal> {
+pub(crate) fn done(outcome: Outcome, released: SubSet) -> Result<Reply, Refusal> {
     Ok(Reply::Done(Done { outcome, released }))
 }
 
