@@ -1,7 +1,6 @@
 -- From what each part of the program did to what the whole of it did.
-use Rattle.std.proofs.Common.{◌≡◌, ℕ, List, Ok, Err, inl, inr}
+use Rattle.std.proofs.Common.{ℕ, List, Ok, Err, inl, inr}
 use Rattle.std.specs.Prelude.{Result}
-use Rattle.clap.specs.declared.error.Error.{Error}
 use Rattle.thp_programs.specs.CommandLine.{FailsAsWords}
 use Rattle.thp_programs.specs.declared.line.Line.{Line}
 use Rattle.thp_text.specs.declared.fault.TextKind.{TextKind}

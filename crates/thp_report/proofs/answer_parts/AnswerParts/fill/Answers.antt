@@ -1,4 +1,4 @@
-use Rattle.std.proofs.Common.{◌∙◌, ◌≡◌, ◌+◌, arith, drop, get_or, map}
+use Rattle.std.proofs.Common.{◌∙◌, drop, map}
 use Rattle.thp_report.specs.Parts.{text_from}
 use Rattle.thp_report.specs.Reports.{shape_of}
 use Rattle.thp_sections.specs.declared.reply.Section.{Section}
