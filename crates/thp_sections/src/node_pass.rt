@@ -189,6 +189,7 @@ impl<'a, R: Recorder> NodePass<'a, R> {
         }
     }
 
+    #[inline(never)]
     fn take(&mut self, caller: u32, count: u32, reply: &mut Reply) -> Result<(), CellFault>
         requires caller { HasCaller self.old.pass caller }
         requires step { IsStep (Step.Take count) }
@@ -210,6 +211,7 @@ impl<'a, R: Recorder> NodePass<'a, R> {
         }
     }
 
+    #[inline(never)]
     fn split_next(&mut self, caller: u32, reply: &mut Reply) -> Result<(), CellFault>
         requires caller { HasCaller self.old.pass caller }
         ensures { HeldDone caller Step.SplitNext self.old self.new (answer_of result reply.new) }
@@ -229,6 +231,7 @@ impl<'a, R: Recorder> NodePass<'a, R> {
         }
     }
 
+    #[inline(never)]
     fn put_back(&mut self, caller: u32, reply: &mut Reply) -> Result<(), CellFault>
         requires caller { HasCaller self.old.pass caller }
         ensures { HeldDone caller Step.PutBack self.old self.new (answer_of result reply.new) }
@@ -303,6 +306,11 @@ fn unit(called: Result<(), CellFault>, reply: &mut Reply) -> Result<(), CellFaul
 fn loss(called: Result<Done, CellFault>, reply: &mut Reply) -> Result<(), CellFault>
     ensures { answer_of result reply.new ≡ loss_reply called }
 {
-    *reply = Reply::Done(called?);
+    // Field by field: a copy of the whole would take the padding along, by loads that wait for its stores.
+    let done = called?;
+    *reply = Reply::Done(Done {
+        outcome: done.outcome,
+        released: done.released,
+    });
     Ok(())
 }
