@@ -92,9 +92,9 @@ impl<'a, R: Recorder> NodePass<'a, R> {
     {
         match step {
             Step::One(call) => self.call(caller, call, reply),
-            Step::Take(count) => self.take(caller, count, reply),
-            Step::SplitNext => self.split_next(caller, reply),
-            Step::PutBack => self.put_back(caller, reply),
+            Step::Take(count) => apart(self.take(caller, count, reply)),
+            Step::SplitNext => apart(self.split_next(caller, reply)),
+            Step::PutBack => apart(self.put_back(caller, reply)),
         }
     }
 
@@ -252,6 +252,19 @@ impl<'a, R: Recorder> NodePass<'a, R> {
                 Err(fault)
             }
         }
+    }
+}
+
+/// What a step in a function of its own answered, byte for byte: where the answer of the others would be built in its place in
+/// memory, each step would wait for the bytes that it wrote there itself.
+#[inline(always)]
+fn apart(called: Result<(), CellFault>) -> Result<(), CellFault>
+    ensures { result ≡ called }
+{
+    match called {
+        Ok(()) => Ok(()),
+        Err(CellFault::Busy) => Err(CellFault::Busy),
+        Err(CellFault::Refused(refusal)) => Err(CellFault::Refused(refusal)),
     }
 }
 
