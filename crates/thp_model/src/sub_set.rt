@@ -94,7 +94,6 @@ impl SubSet {
     }
 
     /// Whether the set has no subpage.
-    #[inline(always)]
     pub fn is_empty(&self) -> bool
         ensures empty { IsTrue result ↔ (self.now ≡ set_of (λ i. false)) }
         ensures none { result ≡ not (some_below max_subpages (has self.now)) }

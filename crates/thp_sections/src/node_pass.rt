@@ -1,6 +1,7 @@
 //! A pass of one node, with the open batches of its callers there.
-ghost use Rattle.std.specs.Prelude.{◌≡◌, ◌<◌, ◌≤◌, ℕ, length, slice_get, slice_set, IfOk, MatchBool, None, Ok, Some};
+ghost use Rattle.std.specs.Prelude.{◌≡◌, ◌<◌, ◌≤◌, ℕ, length, slice_get, slice_set, IfOk, MatchBool, MatchOption, None, Ok, Some};
 ghost use Rattle.thp_model.specs.Legal.{IsLegal};
+ghost use Rattle.thp_node.specs.Batches.{no_batch};
 ghost use Rattle.thp_cell.specs.Calls.{IsJoined, PartsStay};
 ghost use Rattle.thp_cell.specs.Views.{HasAll, HasCaller};
 ghost use Rattle.thp_sections.specs.Does.{answer_of, IsStep};
@@ -200,14 +201,19 @@ impl<'a, R: Recorder> NodePass<'a, R> {
         if is_open(&self.batches, place) {
             return Err(CellFault::Refused(Refusal::HasBatch));
         }
-        match self.cell.take(&mut self.pass, caller, count) {
-            Ok(batch) => {
-                let taken = batch.pages().len() as u32;
-                put_at(&mut self.batches, place, batch);
-                *reply = Reply::Taken(taken);
+        open_at(&mut self.batches, place);
+        let Some(batch) = &mut self.batches[place] else {
+            unreachable!();
+        };
+        match self.cell.take_into(&mut self.pass, caller, count, batch) {
+            Ok(()) => {
+                *reply = Reply::Taken(batch.pages().len() as u32);
                 Ok(())
             }
-            Err(fault) => Err(fault),
+            Err(fault) => {
+                shut_at(&mut self.batches, place);
+                Err(fault)
+            }
         }
     }
 
@@ -238,19 +244,17 @@ impl<'a, R: Recorder> NodePass<'a, R> {
     {
         let (first, _) = self.pass.callers();
         let place = (caller - first) as usize;
-        let Some(batch) = take_at(&mut self.batches, place) else {
+        let Some(batch) = batch_at(&self.batches, place) else {
             *reply = Reply::NoBatch;
             return Ok(());
         };
-        match self.cell.put_back(&mut self.pass, batch) {
+        match self.cell.put_back_all(&mut self.pass, batch) {
             Ok(back) => {
+                shut_at(&mut self.batches, place);
                 *reply = Reply::Back(back);
                 Ok(())
             }
-            Err((batch, fault)) => {
-                put_at(&mut self.batches, place, batch);
-                Err(fault)
-            }
+            Err(fault) => Err(fault),
         }
     }
 }
@@ -276,21 +280,31 @@ fn is_open(batches: &Vec<Option<Batch>>, place: usize) -> bool
     batches[place].is_some()
 }
 
-/// Takes the open batch at this place out.
-fn take_at(batches: &mut Vec<Option<Batch>>, place: usize) -> Option<Batch>
-    requires { place < length batches.old.items }
-    ensures was { slice_get batches.old.items place ≡ Some result }
-    ensures now { batches.new.items ≡ slice_set batches.old.items place None }
+/// The open batch at this place.
+fn batch_at(batches: &Vec<Option<Batch>>, place: usize) -> Option<&Batch>
+    requires { place < length batches.now.items }
+    ensures { MatchOption result (slice_get batches.now.items place ≡ Some None) (λ b. slice_get batches.now.items place ≡ Some (Some b.now)) }
 {
-    batches[place].take()
+    match &batches[place] {
+        Some(batch) => Some(batch),
+        None => None,
+    }
 }
 
-/// Puts an open batch to this place.
-fn put_at(batches: &mut Vec<Option<Batch>>, place: usize, batch: Batch)
+/// Opens a batch without a page at this place.
+fn open_at(batches: &mut Vec<Option<Batch>>, place: usize)
     requires { place < length batches.old.items }
-    ensures { batches.new.items ≡ slice_set batches.old.items place (Some batch) }
+    ensures { batches.new.items ≡ slice_set batches.old.items place (Some no_batch) }
 {
-    batches[place] = Some(batch);
+    batches[place] = Some(Batch::none());
+}
+
+/// Forgets the open batch at this place.
+fn shut_at(batches: &mut Vec<Option<Batch>>, place: usize)
+    requires { place < length batches.old.items }
+    ensures { batches.new.items ≡ slice_set batches.old.items place None }
+{
+    batches[place] = None;
 }
 
 // What calls are replied, each kind in a function of its own, so that no step makes room for another's.
