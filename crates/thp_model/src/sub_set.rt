@@ -71,6 +71,12 @@ impl SubSet {
         if count == 0 {
             return SubSet::empty();
         }
+        if count == MAX_SUBPAGES as u32 {
+            // All subpages of a page of the greatest order, the most frequent of long ranges: no word is cut.
+            return SubSet {
+                words: [u64::MAX; 8],
+            };
+        }
         let end = first + count;
         let (start, last) = (first / 64, (end - 1) / 64);
         // Long ranges are those of whole pages most often, so it is words that are taken out.

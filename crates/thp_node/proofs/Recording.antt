@@ -5,11 +5,16 @@ use Rattle.std.proofs.lemmas.List.{length_push}
 use Rattle.thp_model.specs.declared.events.Event.{Event}
 use Rattle.thp_model.specs.declared.events.What.{What}
 use Rattle.thp_model.specs.declared.events.What.TheVariants.{UnmapWhole, UnmapSub, SplitPmd, Unpin, Taken, Split, Used, Back, Dropped}
+use Rattle.thp_model.specs.declared.events.Outcome.{Outcome}
+use Rattle.thp_model.specs.declared.page_call.Loss.{Loss}
+use Rattle.thp_model.specs.declared.page_call.Loss.TheVariants as loss
+use Rattle.thp_model.specs.PageCalls.{loss_what}
+use Rattle.thp_model.specs.Sets.{set_size}
 use Rattle.thp_model.specs.declared.shape.Shape.{Shape}
 use Rattle.thp_model.specs.History.{History, by, count_of, some_event}
 use Rattle.thp_model.specs.Shapes.{IsShape}
 use Rattle.thp_model.specs.Underused.{is_partly_mapped}
-use Rattle.thp_model.specs.Counts.{is_alloc, closes}
+use Rattle.thp_model.specs.Counts.{is_alloc, closes, is_queued}
 use Rattle.thp_model.specs.Counters.{splits_pmds, is_page_split, is_failed_try, queues, thp_split_pmd, splits_underused, thp_underused_split_page}
 use Rattle.thp_model.specs.Frames.{given, frames_given, gives_back}
 use Rattle.thp_model.specs.Places.{flights, flight}
@@ -20,7 +25,8 @@ use Rattle.thp_model.proofs.Pushes.{count_of_push, some_event_push, thp_split_pm
 use Rattle.thp_node.specs.declared.answers.Counters.{Counters}
 use Rattle.thp_node.specs.declared.journal.Tally.{Tally}
 use Rattle.thp_node.specs.declared.journal.Unsaid.{Unsaid}
-use Rattle.thp_node.specs.Journals.{HasFlightRoom, IsJournal, leaves_of, unsaid_of, leaves_by, pmds_by, splits_as_underused, joins_of, one_for, frames_of, CanJoin, CanLeave, HasCountRoom, Counts}
+use Rattle.thp_node.specs.declared.journal.Unsaid.TheVariants.{FreedFrom}
+use Rattle.thp_node.specs.Journals.{HasFlightRoom, IsJournal, leaves_of, unsaid_of, leaves_by, pmds_by, splits_as_underused, joins_of, freed_from, one_for, frames_of, CanJoin, CanLeave, HasCountRoom, Moves, Counts}
 use Rattle.thp_node.proofs.JournalLemmas.{few_frames_given, flight_moves, leaves_one}
 use Rattle.thp_live_pages.proofs.Starting.{few_events}
 
@@ -157,3 +163,45 @@ journal_push shape h c w u old new j f said a =
       few_split_pmds = omega (arith, j.few_split_pmds, a.few_split_pmds, pmds, thp_split_pmd_push h e, length_push h e);
       few_underused = omega (arith, j.few_underused, under, few_one (splits_as_underused w u), thp_underused_split_page_push shape h e, length_push h e);
     }
+
+-- ---- an unmap or an unpin
+
+-- what adds frames and queued pages alone
+lost : (old new : Tally) (c : ℕ) (w : What) (o : Outcome) (set : List Bool) (u : Unsaid) → Moves old.flying new.flying None (freed_from u) →
+    new ≡ record old { flying = new.flying; frames_given = old.frames_given + set_size set; counters = record old.counters { deferred_split_page = old.counters.deferred_split_page + from_bool (is_queued o) } } →
+    is_alloc w ≡ false → closes w ≡ false → joins_of c w ≡ None → leaves_by c w u ≡ freed_from u → frames_of w ≡ set_size set →
+    is_page_split w ≡ false → is_failed_try w ≡ false → queues w ≡ is_queued o → splits_as_underused w u ≡ false → pmds_by w u ≡ 0 →
+    Counts old new c w u
+lost old new c w o set u moves e new_page closing joins leaves frames splits fails queued under pmds = record {
+  next = ap (λ (t : Tally). t.next) e ∙ none old.next (is_alloc w) new_page;
+  closed = ap (λ (t : Tally). t.closed) e ∙ or_none old.closed (closes w) closing;
+  flying = λ d. omega (arith, moves d, ap (λ o. one_for o d) leaves, ap (λ o. one_for o d) joins);
+  frames_given = ap (λ (t : Tally). t.frames_given) e ∙ ap (λ n. old.frames_given + n) (sym frames);
+  split_page = ap (λ (t : Tally). t.counters.split_page) e ∙ none old.counters.split_page (is_page_split w) splits;
+  split_page_failed = ap (λ (t : Tally). t.counters.split_page_failed) e ∙ none old.counters.split_page_failed (is_failed_try w) fails;
+  deferred_split_page = ap (λ (t : Tally). t.counters.deferred_split_page) e ∙ ap (λ b. old.counters.deferred_split_page + from_bool b) (sym queued);
+  underused_split_page = ap (λ (t : Tally). t.counters.underused_split_page) e ∙ none old.counters.underused_split_page (splits_as_underused w u) under;
+  split_pmd = omega (arith, ap (λ (t : Tally). t.counters.split_pmd) e, pmds);
+  few_split_pmds = omega (arith, pmds);
+} where
+  none : (n : ℕ) (b : Bool) → b ≡ false → n ≡ n + from_bool b
+  none n b e = omega (arith, ap from_bool e)
+
+  or_none : (a b : Bool) → b ≡ false → a ≡ (a || b)
+  or_none true b e = refl
+  or_none false b e = sym e
+
+-- out of whose flight its page goes
+pub left_told : (s : Shape) (h : History) (c p : ℕ) (l : Loss) (o : Outcome) (set : List Bool) (left : Option ℕ) → FreedFrom left ≡ unsaid_of s h (loss_what l p o set) →
+    left ≡ leaves_of h c (loss_what l p o set)
+left_told s h c p loss.UnmapWhole o set left e = ap freed_from e
+left_told s h c p (loss.UnmapSub a n) o set left e = ap freed_from e
+left_told s h c p loss.Unpin o set left e = ap freed_from e
+
+-- what it adds to the numbers
+pub counts_lost : (old new : Tally) (c p : ℕ) (l : Loss) (o : Outcome) (set : List Bool) (u : Unsaid) → Moves old.flying new.flying None (freed_from u) →
+    new ≡ record old { flying = new.flying; frames_given = old.frames_given + set_size set; counters = record old.counters { deferred_split_page = old.counters.deferred_split_page + from_bool (is_queued o) } } →
+    Counts old new c (loss_what l p o set) u
+counts_lost old new c p loss.UnmapWhole o set u moves e = lost old new c (UnmapWhole o p set) o set u moves e refl refl refl refl refl refl refl refl refl refl
+counts_lost old new c p (loss.UnmapSub a n) o set u moves e = lost old new c (UnmapSub o p a n set) o set u moves e refl refl refl refl refl refl refl refl refl refl
+counts_lost old new c p loss.Unpin o set u moves e = lost old new c (Unpin o p set) o set u moves e refl refl refl refl refl refl refl refl refl refl

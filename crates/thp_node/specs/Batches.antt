@@ -1,5 +1,5 @@
 -- What contracts see of a batch, what a try and a put-back answer, and what a scan counts.
-use Rattle.std.specs.Prelude.{◌≡◌, ◌≢◌, ℕ, ◌≤◌, ◌<◌, length, count_by, nat_eq, if◌then◌else◌, Bool, true, false, List, ◌++◌, drop, Option, Some, None}
+use Rattle.std.specs.Prelude.{◌≡◌, ◌≢◌, ℕ, ◌≤◌, ◌<◌, length, count_by, nat_eq, if◌then◌else◌, Bool, true, false, List, [], ◌++◌, drop, Option, Some, None}
 use Rattle.std.specs.List.{All}
 use Rattle.thp_model.specs.Limits.{max_batch, max_callers}
 use Rattle.thp_model.specs.declared.events.Event.{Event}
@@ -22,6 +22,10 @@ pub record BatchState : Type 0 where
   pub caller : ℕ
   pub pages : List ℕ
   pub place : ℕ
+
+-- a batch without a page, of nobody in particular
+abbrev pub no_batch : BatchState
+no_batch = record { caller = 0; pages = []; place = 0 }
 
 -- the pages still to be tried
 abbrev pub rest : BatchState → List ℕ

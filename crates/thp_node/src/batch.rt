@@ -1,7 +1,7 @@
 //! Pages that a caller took from the queue together.
 ghost use Rattle.thp_model.specs.Limits.{max_batch, max_callers};
 ghost use Rattle.std.specs.Prelude.{◌≡◌, ◌+◌, ◌<◌, ◌≤◌, [], ◌∷◌, ◌++◌, drop, length, slice_get, Option};
-ghost use Rattle.thp_node.specs.Batches.{rest, IsBatch};
+ghost use Rattle.thp_node.specs.Batches.{no_batch, rest, IsBatch};
 
 use arrayvec::ArrayVec;
 use std::marker::Model;
@@ -46,22 +46,31 @@ impl Batch {
         &self.pages
     }
 
+    /// A batch without a page, to be taken into.
+    pub fn none() -> Batch
+        ensures { result ≡ no_batch }
+    {
+        Batch {
+            caller: 0,
+            pages: ArrayVec::new(),
+            place: 0,
+        }
+    }
+
     /// Lets the batch go, which always works. No node takes part, so nothing is recorded and nothing else changes: the pages
     /// stay in the caller's flight, out of the queue, and the caller has a batch that it can't put back any more.
     pub fn abandon(self)
         ensures { result ≡ tt }
     {}
 
-    // A caller's batch with no page yet.
-    pub(crate) fn new(caller: u32) -> Batch
+    // Makes it a caller's batch with no page yet.
+    pub(crate) fn clear(&mut self, caller: u32)
         requires { caller < max_callers }
-        ensures { result ≡ record { caller = caller; pages = []; place = 0 } }
+        ensures { self.new ≡ record { caller = caller; pages = []; place = 0 } }
     {
-        Batch {
-            caller,
-            pages: ArrayVec::new(),
-            place: 0,
-        }
+        self.caller = caller;
+        self.pages.clear();
+        self.place = 0;
     }
 
     // One page more.

@@ -9,13 +9,14 @@ ghost use Rattle.thp_model.specs.Counts.{allocations, is_closed, is_queued};
 ghost use Rattle.thp_model.specs.Frames.{frames_given, frames_held};
 ghost use Rattle.thp_model.specs.Places.{flight};
 ghost use Rattle.thp_model.specs.Legal.{IsLegal, Fits};
+ghost use Rattle.thp_model.specs.PageCalls.{loss_what};
 ghost use Rattle.thp_node.specs.Journals.{HasFlightRoom, unsaid_of, leaves_by, joins_of, counters_of, HasCountRoom, CanJoin, CanLeave, Moves, Counts, freed_from, mappings_of, is_underused};
 
 use crate::answers::Counters;
 use crate::recorder::{Kept, Recorder};
 use std::alloc::{AllocError, Global};
 use std::marker::Model;
-use thp_model::{Event, MAX_CALLERS, Outcome, Shape, SubSet, What};
+use thp_model::{Done, Event, Loss, MAX_CALLERS, Outcome, PageId, Shape, SubSet, What};
 
 // What an event does that it doesn't say itself.
 #[derive(Clone, Copy)]
@@ -127,6 +128,32 @@ impl<R: Recorder> Journal<R> {
         self.tally.count(caller, &what, unsaid);
     }
 
+    // Records an unmap or an unpin, as `record` does. The numbers are told by `done`: a node that keeps no events makes none.
+    #[inline(always)]
+    pub(crate) fn record_loss(
+        &mut self,
+        caller: u32,
+        page: PageId,
+        loss: Loss,
+        done: &Done,
+        left: Option<u32>,
+    )
+        requires caller { caller < max_callers }
+        requires room { 0 < self.old.room }
+        requires fits { Fits self.old.shape self.old.events (by caller (loss_what loss page done.now.outcome done.now.released)) }
+        requires unsaid { Unsaid.FreedFrom left ≡ unsaid_of self.old.shape self.old.events (loss_what loss page done.now.outcome done.now.released) }
+        ensures shape { self.new.shape ≡ self.old.shape }
+        ensures events { self.new.events ≡ self.old.events ++ by caller (loss_what loss page done.now.outcome done.now.released) ∷ [] }
+        ensures room { self.new.room + 1 ≡ self.old.room }
+        ensures legal { IsLegal self.new.shape self.new.events }
+    {
+        self.events.record(caller, loss.what(page, done));
+        // Tells the proof that the number of events, and with it each of the numbers of the tally, is bounded.
+        let _events = self.events.count();
+        self.tally
+            .count_loss(done.outcome, &done.released, Unsaid::FreedFrom(left));
+    }
+
     // The shape of the node.
     pub(crate) fn shape(&self) -> Shape
         ensures value { result ≡ self.now.shape }
@@ -234,6 +261,7 @@ impl Tally {
     }
 
     // Counts an unmap or an unpin.
+    #[inline(always)]
     fn count_loss(&mut self, outcome: Outcome, released: &SubSet, unsaid: Unsaid)
         requires room { HasCountRoom self.old }
         requires leaves { IfSome (freed_from unsaid) (CanLeave self.old.flying) }

@@ -97,11 +97,3 @@ mapped_any mapped false n old new some e g = or_false mapped ∙ e ∙ ap (λ m.
 
   same : (old new : ℕ) → new ≡ old + 0 → old ≡ new
   same old new h = omega arith
-
-pub mapped_same : (mapped chosen : Bool) (n old new : ℕ) → n ≡ 0 → mapped ≡ nat_lt 0 old → new ≡ old + cond chosen n 0 → mapped ≡ nat_lt 0 new
-mapped_same mapped true n old new none e g = e ∙ ap (λ m. nat_lt 0 m) (same old new n g none) where
-  same : (old new n : ℕ) → new ≡ old + n → n ≡ 0 → old ≡ new
-  same old new n h k = omega arith
-mapped_same mapped false n old new none e g = e ∙ ap (λ m. nat_lt 0 m) (same old new g) where
-  same : (old new : ℕ) → new ≡ old + 0 → old ≡ new
-  same old new h = omega arith

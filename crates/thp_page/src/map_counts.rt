@@ -118,8 +118,8 @@ impl MapCounts {
         requires { (i : ℕ) → i < max_subpages → has subpages i ≡ true → slice_index self.old i + n ≤ 65535 }
         ensures { (i : ℕ) → i < max_subpages → slice_index self.new i ≡ slice_index self.old i + cond (has subpages i) n 0 }
     {
-        self.planes.add_number(subpages, n);
         if n > 0 {
+            self.planes.add_number(subpages, n);
             self.mapped = self.mapped.union(subpages);
         }
     }

@@ -158,6 +158,7 @@ impl Page {
     }
 
     /// Whether some subpage is in use.
+    #[inline(always)]
     pub fn has_use(&self) -> bool
         ensures { result ≡ has_use self.now }
     {

@@ -436,11 +436,14 @@ module _ (p q : PassState) (bs new : List (Option BatchState)) (c place : ℕ) (
       subst (λ (x : List (Option BatchState)). HeldDone c SplitNext (record { pass = p; batches = bs }) (record { pass = q; batches = x }) (Err fault)) (sym (put_again b b' is e now))
       (held_failed p q bs c same SplitNext fault (rw (found, ← caller) failed) (λ h why f. absurd (cc)))
 
-  pub back_failed : (b b' : BatchState) (fault : CellFault) → b.caller ≡ c → slice_get bs place ≡ Some (Some b) → b' ≡ b → new ≡ set (set bs place None) place (Some b') → Failed p q None (length (put_back_events q.shape q.front b.caller b.pages)) fault → HeldDone c PutBack (record { pass = p; batches = bs }) (record { pass = q; batches = new }) (Err fault)
-  back_failed b b' fault caller is e now failed =
+  pub back_failed : (b : BatchState) (fault : CellFault) → b.caller ≡ c → slice_get bs place ≡ Some (Some b) → Failed p q None (length (put_back_events q.shape q.front b.caller b.pages)) fault → HeldDone c PutBack (record { pass = p; batches = bs }) (record { pass = q; batches = bs }) (Err fault)
+  back_failed b fault caller is failed =
       let found : batch_of (record { pass = p; batches = bs }) c ≡ Some (open_of b) = batch_old p q bs c place same at lt ∙ ap open_in is in
-      subst (λ (x : List (Option BatchState)). HeldDone c PutBack (record { pass = p; batches = bs }) (record { pass = q; batches = x }) (Err fault)) (sym (put_again b b' is e now))
-      (held_failed p q bs c same PutBack fault (rw (found, ← caller) failed) (λ h why f. absurd (cc)))
+      held_failed p q bs c same PutBack fault (rw (found, ← caller) failed) (λ h why f. absurd (cc))
+
+-- a place that was shut is so again
+pub shut_again : (bs : List (Option BatchState)) (place : ℕ) (x y : Option BatchState) → slice_get bs place ≡ Some None → set (set (set bs place x) place y) place None ≡ bs
+shut_again bs place x y is = set_twice (set bs place x) place y None ∙ set_twice bs place x None ∙ set_same bs place None is
 
 -- batches that stay in front do so whoever's they are
 pub others_stay : (p q : PassState) (c : ℕ) → BatchesStay p q → OtherBatchesStay c p q
@@ -450,10 +453,6 @@ others_stay p q c stay b has other front = stay b has front
 pub held_again : (cell : TableId) (p q : PassState) (bs new : List (Option BatchState)) (c place : ℕ) (b : BatchState) → IsHeld cell p bs → q ≡ at_front p q.front → BatchesStay p q → place + p.first ≡ c → place < length bs → new ≡ set (set bs place None) place (Some b) → b.caller ≡ c → IsInFront q.front b → IsHeld cell q new
 held_again cell p q bs new c place b held same stay at lt now caller front =
     rw (now, set_twice bs place None (Some b)) (held_set cell p q bs c place (Some b) held same (others_stay p q c stay) at lt (caller, front))
-
--- the invariant where no batch was there to be taken out
-pub held_none : (cell : TableId) (p : PassState) (bs new : List (Option BatchState)) (place : ℕ) → IsHeld cell p bs → slice_get bs place ≡ Some None → new ≡ set bs place None → IsHeld cell p new
-held_none cell p bs new place held is now = rw (now, set_same bs place None is) held
 
 -- the invariant after a batch went back
 pub held_gone : (cell : TableId) (p q : PassState) (bs new : List (Option BatchState)) (c place : ℕ) → IsHeld cell p bs → q ≡ at_front p q.front → BatchesStay p q → place + p.first ≡ c → place < length bs → new ≡ set bs place None → IsHeld cell q new

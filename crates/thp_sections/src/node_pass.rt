@@ -1,6 +1,7 @@
 //! A pass of one node, with the open batches of its callers there.
-ghost use Rattle.std.specs.Prelude.{◌≡◌, ◌<◌, ◌≤◌, ℕ, length, slice_get, slice_set, IfOk, MatchBool, None, Ok, Some};
+ghost use Rattle.std.specs.Prelude.{◌≡◌, ◌<◌, ◌≤◌, ℕ, length, slice_get, slice_set, IfOk, MatchBool, MatchOption, None, Ok, Some};
 ghost use Rattle.thp_model.specs.Legal.{IsLegal};
+ghost use Rattle.thp_node.specs.Batches.{no_batch};
 ghost use Rattle.thp_cell.specs.Calls.{IsJoined, PartsStay};
 ghost use Rattle.thp_cell.specs.Views.{HasAll, HasCaller};
 ghost use Rattle.thp_sections.specs.Does.{answer_of, IsStep};
@@ -92,9 +93,9 @@ impl<'a, R: Recorder> NodePass<'a, R> {
     {
         match step {
             Step::One(call) => self.call(caller, call, reply),
-            Step::Take(count) => self.take(caller, count, reply),
-            Step::SplitNext => self.split_next(caller, reply),
-            Step::PutBack => self.put_back(caller, reply),
+            Step::Take(count) => apart(self.take(caller, count, reply)),
+            Step::SplitNext => apart(self.split_next(caller, reply)),
+            Step::PutBack => apart(self.put_back(caller, reply)),
         }
     }
 
@@ -189,6 +190,7 @@ impl<'a, R: Recorder> NodePass<'a, R> {
         }
     }
 
+    #[inline(never)]
     fn take(&mut self, caller: u32, count: u32, reply: &mut Reply) -> Result<(), CellFault>
         requires caller { HasCaller self.old.pass caller }
         requires step { IsStep (Step.Take count) }
@@ -199,17 +201,23 @@ impl<'a, R: Recorder> NodePass<'a, R> {
         if is_open(&self.batches, place) {
             return Err(CellFault::Refused(Refusal::HasBatch));
         }
-        match self.cell.take(&mut self.pass, caller, count) {
-            Ok(batch) => {
-                let taken = batch.pages().len() as u32;
-                put_at(&mut self.batches, place, batch);
-                *reply = Reply::Taken(taken);
+        open_at(&mut self.batches, place);
+        let Some(batch) = &mut self.batches[place] else {
+            unreachable!();
+        };
+        match self.cell.take_into(&mut self.pass, caller, count, batch) {
+            Ok(()) => {
+                *reply = Reply::Taken(batch.pages().len() as u32);
                 Ok(())
             }
-            Err(fault) => Err(fault),
+            Err(fault) => {
+                shut_at(&mut self.batches, place);
+                Err(fault)
+            }
         }
     }
 
+    #[inline(never)]
     fn split_next(&mut self, caller: u32, reply: &mut Reply) -> Result<(), CellFault>
         requires caller { HasCaller self.old.pass caller }
         ensures { HeldDone caller Step.SplitNext self.old self.new (answer_of result reply.new) }
@@ -229,26 +237,38 @@ impl<'a, R: Recorder> NodePass<'a, R> {
         }
     }
 
+    #[inline(never)]
     fn put_back(&mut self, caller: u32, reply: &mut Reply) -> Result<(), CellFault>
         requires caller { HasCaller self.old.pass caller }
         ensures { HeldDone caller Step.PutBack self.old self.new (answer_of result reply.new) }
     {
         let (first, _) = self.pass.callers();
         let place = (caller - first) as usize;
-        let Some(batch) = take_at(&mut self.batches, place) else {
+        let Some(batch) = batch_at(&self.batches, place) else {
             *reply = Reply::NoBatch;
             return Ok(());
         };
-        match self.cell.put_back(&mut self.pass, batch) {
+        match self.cell.put_back_all(&mut self.pass, batch) {
             Ok(back) => {
+                shut_at(&mut self.batches, place);
                 *reply = Reply::Back(back);
                 Ok(())
             }
-            Err((batch, fault)) => {
-                put_at(&mut self.batches, place, batch);
-                Err(fault)
-            }
+            Err(fault) => Err(fault),
         }
+    }
+}
+
+/// What a step in a function of its own answered, byte for byte: where the answer of the others would be built in its place in
+/// memory, each step would wait for the bytes that it wrote there itself.
+#[inline(always)]
+fn apart(called: Result<(), CellFault>) -> Result<(), CellFault>
+    ensures { result ≡ called }
+{
+    match called {
+        Ok(()) => Ok(()),
+        Err(CellFault::Busy) => Err(CellFault::Busy),
+        Err(CellFault::Refused(refusal)) => Err(CellFault::Refused(refusal)),
     }
 }
 
@@ -260,21 +280,31 @@ fn is_open(batches: &Vec<Option<Batch>>, place: usize) -> bool
     batches[place].is_some()
 }
 
-/// Takes the open batch at this place out.
-fn take_at(batches: &mut Vec<Option<Batch>>, place: usize) -> Option<Batch>
-    requires { place < length batches.old.items }
-    ensures was { slice_get batches.old.items place ≡ Some result }
-    ensures now { batches.new.items ≡ slice_set batches.old.items place None }
+/// The open batch at this place.
+fn batch_at(batches: &Vec<Option<Batch>>, place: usize) -> Option<&Batch>
+    requires { place < length batches.now.items }
+    ensures { MatchOption result (slice_get batches.now.items place ≡ Some None) (λ b. slice_get batches.now.items place ≡ Some (Some b.now)) }
 {
-    batches[place].take()
+    match &batches[place] {
+        Some(batch) => Some(batch),
+        None => None,
+    }
 }
 
-/// Puts an open batch to this place.
-fn put_at(batches: &mut Vec<Option<Batch>>, place: usize, batch: Batch)
+/// Opens a batch without a page at this place.
+fn open_at(batches: &mut Vec<Option<Batch>>, place: usize)
     requires { place < length batches.old.items }
-    ensures { batches.new.items ≡ slice_set batches.old.items place (Some batch) }
+    ensures { batches.new.items ≡ slice_set batches.old.items place (Some no_batch) }
 {
-    batches[place] = Some(batch);
+    batches[place] = Some(Batch::none());
+}
+
+/// Forgets the open batch at this place.
+fn shut_at(batches: &mut Vec<Option<Batch>>, place: usize)
+    requires { place < length batches.old.items }
+    ensures { batches.new.items ≡ slice_set batches.old.items place None }
+{
+    batches[place] = None;
 }
 
 // What calls are replied, each kind in a function of its own, so that no step makes room for another's.
@@ -303,6 +333,11 @@ fn unit(called: Result<(), CellFault>, reply: &mut Reply) -> Result<(), CellFaul
 fn loss(called: Result<Done, CellFault>, reply: &mut Reply) -> Result<(), CellFault>
     ensures { answer_of result reply.new ≡ loss_reply called }
 {
-    *reply = Reply::Done(called?);
+    // Field by field: a copy of the whole would take the padding along, by loads that wait for its stores.
+    let done = called?;
+    *reply = Reply::Done(Done {
+        outcome: done.outcome,
+        released: done.released,
+    });
     Ok(())
 }

@@ -39,8 +39,30 @@ impl<R: Recorder> Node<R> {
         // a batch that the caller took before, as long as this take brought back none of its pages
         ensures older { IfOk result (λ b. OlderAreInFront caller b.pages self.new.journal) }
     {
+        let mut batch = Batch::none();
+        match self.take_into(caller, n, &mut batch) {
+            Ok(()) => Ok(batch),
+            Err(refusal) => Err(refusal),
+        }
+    }
+
+    /// A take, as `take` makes it, into a batch that lies somewhere already. What was in that is forgotten; after a refusal it
+    /// is as it was.
+    pub fn take_into(&mut self, caller: u32, n: u32, batch: &mut Batch) -> Result<(), Refusal>
+        requires caller { caller < max_callers }
+        requires count { n ≤ max_batch }
+        ensures allowed { OnOk result (refusal self.old.shape self.old.journal (call.take caller) ≡ None) }
+        ensures batch { OnOk result (batch.new ≡ record { caller = caller; pages = take n (queue self.old.shape self.old.journal); place = 0 }) }
+        ensures recorded { OnOk result (Did self.old self.new caller (take_events self.old.shape self.old.journal caller n)) }
+        ensures refused { IfErr result (Refused self.old self.new (refusal self.old.shape self.old.journal (call.take caller)) (length (take_events self.old.shape self.old.journal caller n))) }
+        ensures kept { OnErr result (batch.new ≡ batch.old) }
+        ensures front { OnOk result (IsInFront self.new.journal batch.new) }
+        ensures fronts { OtherFrontsStay caller self.old.journal self.new.journal }
+        ensures older { OnOk result (OlderAreInFront caller batch.new.pages self.new.journal) }
+    {
         let count = self.admit_take(caller, n, 1)?;
-        Ok(self.take_oldest(caller, count))
+        self.take_oldest(caller, count, batch);
+        Ok(())
     }
 
     // How many pages a take of up to `n` gets, with room in the journal for `each` events of each of them; or why it is
@@ -69,22 +91,21 @@ impl<R: Recorder> Node<R> {
     }
 
     // Takes the `count` oldest pages, for which there is room.
-    pub(super) fn take_oldest(&mut self, caller: u32, count: u32) -> Batch
+    pub(super) fn take_oldest(&mut self, caller: u32, count: u32, batch: &mut Batch)
         requires caller { caller < max_callers }
         requires few { count ≤ max_batch }
         requires queued { count ≤ length (queue self.old.shape self.old.journal) }
         requires room { count ≤ self.old.room }
         requires may_take { no_pages (flight self.old.journal caller) ≡ true }
         requires legal { IsLegal self.old.shape self.old.journal }
-        ensures batch { result ≡ record { caller = caller; pages = take count (queue self.old.shape self.old.journal); place = 0 } }
+        ensures batch { batch.new ≡ record { caller = caller; pages = take count (queue self.old.shape self.old.journal); place = 0 } }
         ensures did { Did self.old self.new caller (take_events self.old.shape self.old.journal caller count) }
     {
-        let mut batch = Batch::new(caller);
+        batch.clear(caller);
         for _taken in 0..count {
             let page = self.take_one(caller);
             batch.push(page);
         }
-        batch
     }
 
     // Takes the oldest page of the queue.

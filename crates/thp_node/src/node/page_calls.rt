@@ -188,8 +188,7 @@ impl<R: Recorder> Node<R> {
             Ok(left) => left,
             Err(refusal) => return Err(refusal),
         };
-        self.journal
-            .record(caller, loss.what(page, &done), Unsaid::FreedFrom(left));
+        self.journal.record_loss(caller, page, loss, &done, left);
         Ok(done)
     }
 

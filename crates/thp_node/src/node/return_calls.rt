@@ -38,9 +38,23 @@ impl<R: Recorder> Node<R> {
         ensures handed_back { IfErr result (λ e. e.0 ≡ batch) }
         ensures fronts { FrontsStay self.old.journal self.new.journal }
     {
+        match self.put_back_all(&batch) {
+            Ok(reply) => Ok(reply),
+            Err(refusal) => Err((batch, refusal)),
+        }
+    }
+
+    /// A put-back, as `put_back` makes it, of a batch that stays where it lies. Behind it no page of that is in the flight.
+    pub fn put_back_all(&mut self, batch: &Batch) -> Result<BackReply, Refusal>
+        requires front { IsInFront self.old.journal batch.now }
+        ensures reply { IfOk result (λ r. r ≡ back_reply self.old.shape self.old.journal (still_flying self.old.journal batch.now.caller batch.now.pages)) }
+        ensures recorded { OnOk result (Did self.old self.new batch.now.caller (put_back_events self.old.shape self.old.journal batch.now.caller batch.now.pages)) }
+        ensures refused { IfErr result (Refused self.old self.new None (length (put_back_events self.old.shape self.old.journal batch.now.caller batch.now.pages))) }
+        ensures fronts { FrontsStay self.old.journal self.new.journal }
+    {
         let blocks = self.flying_blocks(batch.caller(), batch.pages());
         if let Err(_) = self.journal.reserve(blocks.len()) {
-            return Err((batch, Refusal::OutOfMemory));
+            return Err(Refusal::OutOfMemory);
         }
         let count = blocks.len() as u32;
         let back = self.return_all(batch.caller(), &blocks);
@@ -134,7 +148,8 @@ impl<R: Recorder> Node<R> {
         ensures fronts { FrontsStay self.old.journal self.new.journal }
     {
         let count = self.admit_take(caller, n, 3)?;
-        let batch = self.take_oldest(caller, count);
+        let mut batch = Batch::none();
+        self.take_oldest(caller, count, &mut batch);
         Ok(self.scan_batch(batch))
     }
 
@@ -150,7 +165,7 @@ impl<R: Recorder> Node<R> {
         let mut batch = batch;
         let taken = batch.pages().len() as u32;
         let used = self.try_all(&mut batch);
-        match self.put_back(batch) {
+        match self.put_back_all(&batch) {
             Ok(BackReply { back, dropped }) => {
                 // those that are still there are the pinned ones
                 let pinned = back + dropped;

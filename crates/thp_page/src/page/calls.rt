@@ -340,12 +340,13 @@ impl Page {
         ensures change { IsChange self.old self.new result }
     {
         let (first, count) = (first as usize, count as usize);
+        let mapped = self.own.mapped();
         let unmapped = self.own.unmap(first, count);
         let unused = self.whole == 0 && unmapped;
         let used_left = self.has_use();
         let released = if self.split {
-            let range = SubSet::range(first as u32, count as u32);
-            self.without_given(range.difference(self.own.mapped()))
+            // those of the range that aren't mapped any more
+            self.without_given(mapped.difference(self.own.mapped()))
         } else {
             SubSet::empty()
         };

@@ -3,7 +3,6 @@ use Rattle.thp_model.specs.declared.shape.Shape.{Shape}
 use Rattle.thp_model.specs.declared.events.What.{What}
 use Rattle.thp_model.specs.History.{History, by}
 use Rattle.thp_model.specs.Frames.{outcome, released}
-use Rattle.thp_model.specs.Legal.{Fits}
 use Rattle.thp_model.specs.Refusals.{refusal}
 use Rattle.thp_model.specs.declared.page_call.PageCall.TheVariants as either
 use Rattle.thp_live_pages.specs.Holding.{IsNode}
@@ -11,7 +10,6 @@ use Rattle.thp_live_pages.specs.Homes.{block_of}
 use Rattle.thp_live_pages.specs.PlacesState.{PlacesState, AtSlot}
 use Rattle.thp_model.specs.Pages.{page_refusal}
 use Rattle.thp_model.specs.declared.page_call.Loss.{Loss}
-use Rattle.thp_node.specs.Journals.{unsaid_of}
 use Rattle.thp_node.specs.NodeState.{NodeState}
 use Rattle.thp_model.specs.PageCalls.{loss_call, loss_what}
 use Rattle.thp_live_pages.proofs.Admitting.{Found, at_home, refused_by_page}
@@ -27,19 +25,8 @@ allowed s h n p b l m home told =
     let w : Found s h n.table p b = at_home s h n.table n.queue p b m home in
     refused_by_page s h n.table p b (either.Loss l) w ∙ sym (told w.slot w.at p)
 
--- what the page lost, before and after it is recorded
-before : (g : Over) (c : goal.After-what g) → Losing c.self.inside.journal.shape c.self.inside.journal.events c.args.caller c.args.page c.args.loss c.self.inside.blocks c.lose.new.self c.lose.new.done c.in-Ok.left
-before g c =
-    let j = c.self.inside.journal in
-    let b = c.self.inside.blocks in
-    let is = c.self.view_is ∙ c.in_ok-block.ensures.same in
-    losing j.shape j.events c.args.caller c.args.page c.in_ok-block.block c.args.loss c.is_closed-closed.result b c.lose.new.self c.lose.new.done c.in-Ok.left c.self.invariant
-    (ap (λ (n : NodeState). block_of n.journal c.args.page) is ∙ c.in_ok-block.ensures.block)
-    c.is_closed-closed.ensures
-    (allowed j.shape j.events b c.args.page c.in_ok-block.block c.args.loss c.self.invariant (ap (λ (n : NodeState). block_of n.journal c.args.page) is ∙ c.in_ok-block.ensures.block) c.in-Ok.ensures.refusal)
-    c.in-Ok.ensures.lost
-
-after : (g : Over) (c : goal.After-record g) → Losing c.self.inside.journal.shape c.self.inside.journal.events c.args.caller c.args.page c.args.loss c.self.inside.blocks c.lose.new.self c.lose.new.done c.in-Ok.left
+-- what the page lost
+after : (g : Over) (c : goal.After-record_loss g) → Losing c.self.inside.journal.shape c.self.inside.journal.events c.args.caller c.args.page c.args.loss c.self.inside.blocks c.lose.new.self c.lose.new.done c.in-Ok.left
 after g c =
     let j = c.self.inside.journal in
     let b = c.self.inside.blocks in
@@ -50,24 +37,37 @@ after g c =
     (allowed j.shape j.events b c.args.page c.in_ok-block.block c.args.loss c.self.invariant (ap (λ (n : NodeState). block_of n.journal c.args.page) is ∙ c.in_ok-block.ensures.block) c.in-Ok.ensures.refusal)
     c.in-Ok.ensures.lost
 
-pub record-requires-clause-fits : goal.record-requires-clause-fits
-record-requires-clause-fits g c =
+pub record_loss-requires-clause-fits : goal.record_loss-requires-clause-fits
+record_loss-requires-clause-fits g c =
     let j = c.self.inside.journal in
-    let P : What → Type 0 = λ w. Fits j.shape j.events (by c.args.caller w) in
-    subst P (sym c.what.ensures) (before g c).fits
+    let b = c.self.inside.blocks in
+    let is = c.self.view_is ∙ c.in_ok-block.ensures.same in
+    (losing j.shape j.events c.args.caller c.args.page c.in_ok-block.block c.args.loss c.is_closed-closed.result b c.lose.new.self c.lose.new.done c.in-Ok.left c.self.invariant
+    (ap (λ (n : NodeState). block_of n.journal c.args.page) is ∙ c.in_ok-block.ensures.block)
+    c.is_closed-closed.ensures
+    (allowed j.shape j.events b c.args.page c.in_ok-block.block c.args.loss c.self.invariant (ap (λ (n : NodeState). block_of n.journal c.args.page) is ∙ c.in_ok-block.ensures.block) c.in-Ok.ensures.refusal)
+    c.in-Ok.ensures.lost).fits
 
-pub record-requires-clause-unsaid : goal.record-requires-clause-unsaid
-record-requires-clause-unsaid g c = (before g c).unsaid_is ∙ ap (unsaid_of c.self.inside.journal.shape c.self.inside.journal.events) (sym c.what.ensures)
+pub record_loss-requires-clause-unsaid : goal.record_loss-requires-clause-unsaid
+record_loss-requires-clause-unsaid g c =
+    let j = c.self.inside.journal in
+    let b = c.self.inside.blocks in
+    let is = c.self.view_is ∙ c.in_ok-block.ensures.same in
+    (losing j.shape j.events c.args.caller c.args.page c.in_ok-block.block c.args.loss c.is_closed-closed.result b c.lose.new.self c.lose.new.done c.in-Ok.left c.self.invariant
+    (ap (λ (n : NodeState). block_of n.journal c.args.page) is ∙ c.in_ok-block.ensures.block)
+    c.is_closed-closed.ensures
+    (allowed j.shape j.events b c.args.page c.in_ok-block.block c.args.loss c.self.invariant (ap (λ (n : NodeState). block_of n.journal c.args.page) is ∙ c.in_ok-block.ensures.block) c.in-Ok.ensures.refusal)
+    c.in-Ok.ensures.lost).unsaid_is
 
-events : (g : Over) (c : goal.After-record g) → c.record.new.self.events ≡ c.self.inside.journal.events ++ by c.args.caller (loss_what c.args.loss c.args.page c.lose.new.done.outcome c.lose.new.done.released) ∷ []
-events g c = c.record.ensures.events ∙ ap (λ v. c.self.inside.journal.events ++ by c.args.caller v ∷ []) c.what.ensures
+events : (g : Over) (c : goal.After-record_loss g) → c.record_loss.new.self.events ≡ c.self.inside.journal.events ++ by c.args.caller (loss_what c.args.loss c.args.page c.lose.new.done.outcome c.lose.new.done.released) ∷ []
+events g c = c.record_loss.ensures.events
 
 pub invariant_of-self-2 : goal.invariant_of-self-2
 invariant_of-self-2 g c =
     let j = c.self.inside.journal in
     let w : What = loss_what c.args.loss c.args.page c.lose.new.done.outcome c.lose.new.done.released in
     let P : Shape → History → Type 0 = λ s h. IsNode s h c.lose.new.self.table c.lose.new.self.queue in
-    subst (λ h. P c.record.new.self.shape h) (sym (events g c)) (subst (λ s. P s (j.events ++ by c.args.caller w ∷ [])) (sym c.record.ensures.shape) (after g c).node)
+    subst (λ h. P c.record_loss.new.self.shape h) (sym (events g c)) (subst (λ s. P s (j.events ++ by c.args.caller w ∷ [])) (sym c.record_loss.ensures.shape) (after g c).node)
 
 pub returns-clause-recorded : goal.returns-clause-recorded
 returns-clause-recorded g c =
@@ -75,11 +75,11 @@ returns-clause-recorded g c =
     let is = c.self.view_is ∙ c.in_ok-block.ensures.same in
     let w : What = loss_what c.args.loss c.args.page c.lose.new.done.outcome c.lose.new.done.released in
     did_one c.args.self.now _ c.args.caller w j.room 8
-    (c.record.ensures.shape ∙ ap (λ (n : NodeState). n.shape) is)
+    (c.record_loss.ensures.shape ∙ ap (λ (n : NodeState). n.shape) is)
     (events g c ∙ ap (λ h. h ++ by c.args.caller w ∷ []) (ap (λ (n : NodeState). n.journal) is))
-    c.record.ensures.legal
+    c.record_loss.ensures.legal
     (omega (arith, c.in_ok-block.ensures.more, ap (λ (n : NodeState). n.room) c.self.view_is))
-    c.record.ensures.room
+    c.record_loss.ensures.room
     (omega (arith, (after g c).work, ap (λ (n : NodeState). n.table.accesses) is))
     (omega arith)
 

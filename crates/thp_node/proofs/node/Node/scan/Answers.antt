@@ -25,20 +25,20 @@ scan_batch-requires-clause-flies g c =
     let e = c.in_ok-count.ensures in
     let a : NodeState = c.args.self.now in
     let m : NodeState = c.admit_take.new.self in
-    let b : NodeState = c.take_oldest-batch.new.self in
-    scan_flies a b c.take_oldest-batch.result c.args.caller c.args.n e.legal (none_length (flight a.journal c.args.caller) e.free)
-    (took_admitted a m b c.args.caller c.args.n c.in_ok-count.count e.same e.count e.more c.take_oldest-batch.ensures.did)
-    (batch_admitted a m b c.args.caller c.args.n c.in_ok-count.count e.same e.count c.take_oldest-batch.result c.take_oldest-batch.ensures.batch)
+    let b : NodeState = c.take_oldest.new.self in
+    scan_flies a b c.take_oldest.new.batch c.args.caller c.args.n e.legal (none_length (flight a.journal c.args.caller) e.free)
+    (took_admitted a m b c.args.caller c.args.n c.in_ok-count.count e.same e.count e.more c.take_oldest.ensures.did)
+    (batch_admitted a m b c.args.caller c.args.n c.in_ok-count.count e.same e.count c.take_oldest.new.batch c.take_oldest.ensures.batch)
 
 pub returns-clause-recorded : goal.returns-clause-recorded
 returns-clause-recorded g c =
     let e = c.in_ok-count.ensures in
     let a : NodeState = c.args.self.now in
     let m : NodeState = c.admit_take.new.self in
-    let b : NodeState = c.take_oldest-batch.new.self in
-    scan_recorded a b c.take_oldest-batch.result c.args.caller c.args.n e.legal (none_length (flight a.journal c.args.caller) e.free)
-    (took_admitted a m b c.args.caller c.args.n c.in_ok-count.count e.same e.count e.more c.take_oldest-batch.ensures.did)
-    (batch_admitted a m b c.args.caller c.args.n c.in_ok-count.count e.same e.count c.take_oldest-batch.result c.take_oldest-batch.ensures.batch)
+    let b : NodeState = c.take_oldest.new.self in
+    scan_recorded a b c.take_oldest.new.batch c.args.caller c.args.n e.legal (none_length (flight a.journal c.args.caller) e.free)
+    (took_admitted a m b c.args.caller c.args.n c.in_ok-count.count e.same e.count e.more c.take_oldest.ensures.did)
+    (batch_admitted a m b c.args.caller c.args.n c.in_ok-count.count e.same e.count c.take_oldest.new.batch c.take_oldest.ensures.batch)
     c.scan_batch.new.self c.scan_batch.ensures.did
 
 pub returns-clause-reply : goal.returns-clause-reply
@@ -46,10 +46,10 @@ returns-clause-reply g c =
     let e = c.in_ok-count.ensures in
     let a : NodeState = c.args.self.now in
     let m : NodeState = c.admit_take.new.self in
-    let b : NodeState = c.take_oldest-batch.new.self in
-    scan_replied a b c.take_oldest-batch.result c.args.caller c.args.n e.legal (none_length (flight a.journal c.args.caller) e.free)
-    (took_admitted a m b c.args.caller c.args.n c.in_ok-count.count e.same e.count e.more c.take_oldest-batch.ensures.did)
-    (batch_admitted a m b c.args.caller c.args.n c.in_ok-count.count e.same e.count c.take_oldest-batch.result c.take_oldest-batch.ensures.batch)
+    let b : NodeState = c.take_oldest.new.self in
+    scan_replied a b c.take_oldest.new.batch c.args.caller c.args.n e.legal (none_length (flight a.journal c.args.caller) e.free)
+    (took_admitted a m b c.args.caller c.args.n c.in_ok-count.count e.same e.count e.more c.take_oldest.ensures.did)
+    (batch_admitted a m b c.args.caller c.args.n c.in_ok-count.count e.same e.count c.take_oldest.new.batch c.take_oldest.ensures.batch)
     c.scan_batch.result c.scan_batch.ensures.reply
 
 pub returns-clause-fronts : goal.returns-clause-fronts

@@ -2,8 +2,8 @@ use Rattle.std.proofs.Common.{length, ap, arith}
 use Rattle.thp_node.proofs.ScanLemmas.{no_refusal, tried_front, tried_room, tried_returned, tried_reply}
 use Rattle.thp_node.proofs.node.Node.scan_batch.Goals as goal
 
-pub put_back-requires : goal.put_back-requires
-put_back-requires g c = record {
+pub put_back_all-requires : goal.put_back_all-requires
+put_back_all-requires g c = record {
   front = tried_front c.args.self.now c.try_all-used.new.self c.try_all-used.new.batch c.args.batch.caller c.args.batch.pages c.requires.legal c.requires.flies
       c.try_all-used.ensures.did c.try_all-used.ensures.same_caller c.try_all-used.ensures.same_pages;
 }
@@ -39,7 +39,7 @@ overflow_add-pinned g c =
 
 pub unreachable-requires : goal.unreachable-requires
 unreachable-requires g c =
-    no_refusal c.try_all-used.new.self c.put_back.new.self _ _ c.in-Err.ensures.refused
+    no_refusal c.try_all-used.new.self c.put_back_all.new.self _ _ c.in-Err.ensures.refused
     (tried_room c.args.self.now c.try_all-used.new.self c.try_all-used.new.batch c.args.batch.caller c.args.batch.pages c.requires.legal c.requires.flies
     c.try_all-used.ensures.did c.try_all-used.ensures.same_caller c.try_all-used.ensures.same_pages c.requires.room)
 
@@ -52,4 +52,4 @@ returns-clause-reply g c =
 pub returns-clause-did : goal.returns-clause-did
 returns-clause-did g c =
     tried_returned c.args.self.now c.try_all-used.new.self c.try_all-used.new.batch c.args.batch.caller c.args.batch.pages c.requires.legal c.requires.flies
-    c.try_all-used.ensures.did c.try_all-used.ensures.same_caller c.try_all-used.ensures.same_pages c.put_back.new.self c.in-Ok.ensures.recorded
+    c.try_all-used.ensures.did c.try_all-used.ensures.same_caller c.try_all-used.ensures.same_pages c.put_back_all.new.self c.in-Ok.ensures.recorded

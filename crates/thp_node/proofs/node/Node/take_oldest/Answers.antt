@@ -14,7 +14,7 @@ none_long (p ∷ ps) e = absurd (true≢false (sym e))
 pub loop-taken-init : goal.loop-taken-init
 loop-taken-init g c = record {
   took = took_none c.args.self.now c.args.self.now c.args.caller refl c.requires.legal c.requires.may_take;
-  batch = c.new-batch.ensures;
+  batch = c.clear.ensures;
   room = omega (arith, c.requires.room);
   flying = none_long (flight c.args.self.now.journal c.args.caller) c.requires.may_take;
 }

@@ -1,7 +1,7 @@
-use Rattle.std.proofs.Common.{refl, ◌∙◌, ◌+◌, ap, sym, arith, cond}
+use Rattle.std.proofs.Common.{◌≡◌, ℕ, ◌+◌, Bool, true, false, ◌∙◌, ap, sym, arith, cond}
 use Rattle.thp_model.specs.Sets.{has}
 use Rattle.thp_model.proofs.WordLemmas.{set_of-ext}
-use Rattle.thp_page.proofs.Seen.{seen_at, count_at, mapped_at, mapped_any, mapped_same}
+use Rattle.thp_page.proofs.Seen.{seen_at, count_at, mapped_at, mapped_any}
 use Rattle.thp_page.proofs.map_counts.MapCounts.add.Goals as goal
 
 pub add_number-requires-clause-small : goal.add_number-requires-clause-small
@@ -20,22 +20,15 @@ invariant_of-self c = record {
       (c.add_number.ensures.counts i below));
 }
 
-pub invariant_of-self-else-n-gt0 : goal.invariant_of-self-else-n-gt0
-invariant_of-self-else-n-gt0 c = record {
-  most = c.add_number.ensures.most;
-  mapped =
-      c.self.invariant.mapped
-      ∙ set_of-ext _ _
-      (λ i below.
-      mapped_same _ (has c.args.subpages i) c.args.n _ _ (omega arith) refl (c.add_number.ensures.counts i below));
-}
-
 pub returns-then-n-gt0 : goal.returns-then-n-gt0
 returns-then-n-gt0 c = λ i below.
     count_at c.add_number.new.self.sets c.add_number.new.self.used i below ∙ c.add_number.ensures.counts i below
     ∙ ap (λ m. m + cond (has c.args.subpages i) c.args.n 0) (sym (seen_at c.self.inside.planes.sets c.self.inside.planes.used i c.args.self.now c.self.view_is below))
 
+-- no more of each
+none_more : (b : Bool) (n m : ℕ) → n ≡ 0 → m ≡ m + cond b n 0
+none_more true n m none = omega (arith, none)
+none_more false n m none = omega arith
+
 pub returns-else-n-gt0 : goal.returns-else-n-gt0
-returns-else-n-gt0 c = λ i below.
-    count_at c.add_number.new.self.sets c.add_number.new.self.used i below ∙ c.add_number.ensures.counts i below
-    ∙ ap (λ m. m + cond (has c.args.subpages i) c.args.n 0) (sym (seen_at c.self.inside.planes.sets c.self.inside.planes.used i c.args.self.now c.self.view_is below))
+returns-else-n-gt0 c = λ i below. none_more (has c.args.subpages i) c.args.n _ (omega arith)

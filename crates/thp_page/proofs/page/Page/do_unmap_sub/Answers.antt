@@ -1,6 +1,8 @@
-use Rattle.std.proofs.Common.{◌≡◌, ◌+◌, ◌<◌, ◌≤◌, ◌&&◌, ◌||◌, ℕ, Bool, false, List, cond, get_or, length, None, refl, ap, ap₂, sym, ◌∙◌, arith, subst, ne_eqb}
-use Rattle.thp_model.specs.Sets.{covers}
-use Rattle.thp_model.specs.Words.{length-set_of}
+use Rattle.std.proofs.Common.{◌≡◌, ◌+◌, ◌<◌, ◌≤◌, ◌&&◌, ◌||◌, not, nat_lt, ℕ, Bool, true, false, List, cond, get_or, length, None, refl, ap, ap₂, sym, ◌∙◌, arith, subst, ne_eqb}
+use Rattle.std.proofs.lemmas.Bool.Decides.{nat_tests}
+use Rattle.thp_model.specs.Sets.{covers, has, set_of}
+use Rattle.thp_model.specs.Words.{get_or-set_of, length-set_of}
+use Rattle.thp_model.proofs.WordLemmas.{set_of-ext}
 use Rattle.thp_model.specs.Refusals as call
 use Rattle.thp_model.specs.Pages.{PageState, own_at, has_use, drops_use, partly_after, page_refusal, RangeUnmapped, IsPage}
 use Rattle.thp_page.specs.declared.page.Page.TheInside.{Inside}
@@ -51,11 +53,6 @@ unmap-unmapped-requires-clause-positive c =
 pub without_given-released-requires : goal.without_given-released-requires
 without_given-released-requires c = ap length c.difference.ensures ∙ length-set_of _
 
-pub range-range-requires : goal.range-range-requires
-range-range-requires c =
-    let s : PageState = state_of c.self.inside in
-    inside s c.args.first c.args.count c.self.invariant.page (allowed_as s _ (call.unmap_sub 0 c.args.first c.args.count) c.self.view_is c.requires)
-
 kept : (p : Inside) (own : List ℕ) (first count : ℕ) → IsKept p → page_refusal (state_of p) (call.unmap_sub 0 first count) ≡ None →
     ((i : ℕ) → i < 512 → own_at (state_of p) i ≡ get_or own i 0 + cond (covers first count i) 1 0) → IsKept (record p { own = own })
 unfolding with_own after
@@ -91,6 +88,22 @@ not_both a b e = cc
 told : (s : PageState) (own : List ℕ) (unused left joined : Bool) → unused ≡ drops_use s (with_own s own) → left ≡ has_use (with_own s own) → joined ≡ (unused && left) →
     (s.partly || joined) ≡ partly_after s (with_own s own)
 told s own unused left joined e f g = ap (λ b. s.partly || b) (g ∙ ap₂ (λ a b. a && b) e f)
+
+-- what was mapped and isn't any more is what the range took out
+gone : (old own : List ℕ) (first count : ℕ) (was now : List Bool) → was ≡ set_of (λ i. nat_lt 0 (get_or old i 0)) → now ≡ set_of (λ i. nat_lt 0 (get_or own i 0)) →
+    ((i : ℕ) → i < 512 → get_or old i 0 ≡ get_or own i 0 + cond (covers first count i) 1 0) →
+    set_of (λ i. has was i && not (has now i)) ≡ set_of (λ i. has (set_of (covers first count)) i && not (has now i))
+gone old own first count was now e f taken =
+    set_of-ext _ _
+    (λ i below.
+    let w : has was i ≡ nat_lt 0 (get_or old i 0) = ap (λ t. has t i) e ∙ get_or-set_of (λ j. nat_lt 0 (get_or old j 0)) i below in
+    let n : has now i ≡ nat_lt 0 (get_or own i 0) = ap (λ t. has t i) f ∙ get_or-set_of (λ j. nat_lt 0 (get_or own j 0)) i below in
+    ap₂ (λ a b. a && not b) w n ∙ one (covers first count i) (get_or old i 0) (get_or own i 0) (taken i below)
+    ∙ ap₂ (λ a b. a && not b) (sym (get_or-set_of (covers first count) i below)) (sym n))
+  where
+    one : (c : Bool) (o n : ℕ) → o ≡ n + cond c 1 0 → (nat_lt 0 o && not (nat_lt 0 n)) ≡ (c && not (nat_lt 0 n))
+    one true o n e = grind (arith, nat_tests)
+    one false o n e = grind (arith, nat_tests)
 
 pub returns : goal.returns
 unfolding with_own after
@@ -128,7 +141,8 @@ returns c =
               | then-self w ↦
                   w.released-is ∙ w.without_given-released.ensures
                   ∙ sym (gives_frames-range s (after s own partly) first count _ r inside w.if-self.true (c.self.invariant.page.no_whole w.if-self.true)
-                  (w.difference.ensures ∙ bare_set (after s own partly) first count w.range-range.result w.mapped.result w.range-range.ensures w.mapped.ensures))
+                  (w.difference.ensures ∙ gone s.own own first count c.mapped-mapped.result w.mapped.result c.mapped-mapped.ensures w.mapped.ensures c.unmap-unmapped.ensures.taken
+                  ∙ bare_set (after s own partly) first count (set_of (covers first count)) w.mapped.result refl w.mapped.ensures))
               | else-self w ↦ w.released-is ∙ w.empty-released.ensures ∙ sym (gives_frames-unsplit s (after s own partly) refl w.if-self.false w.if-self.false)
             ];
       });

@@ -1,0 +1,49 @@
+use Rattle.std.proofs.Common.{◌≡◌, ℕ, [], ◌∷◌, ◌++◌, length, ap, sym, ◌∙◌, subst, arith}
+use Rattle.std.proofs.lemmas.List.{length_push}
+use Rattle.thp_model.specs.declared.events.What.{What}
+use Rattle.thp_model.specs.History.{History, by}
+use Rattle.thp_model.specs.Legal.{Fits}
+use Rattle.thp_model.specs.PageCalls.{loss_what}
+use Rattle.thp_node.specs.declared.journal.Unsaid.{Unsaid}
+use Rattle.thp_node.specs.declared.journal.Unsaid.TheVariants.{FreedFrom}
+use Rattle.thp_node.specs.Journals.{JournalState, IsJournal, unsaid_of}
+use Rattle.thp_node.proofs.Recording.{count_room, may_leave, journal_push, left_told, counts_lost}
+use Rattle.thp_node.proofs.journal.Journal.record_loss.Goals as goal
+
+-- what is required of the journal's value, of its fields
+fits_inside : (v u : JournalState) (c : ℕ) (w : What) → v ≡ u → Fits u.shape u.events (by c w) → Fits v.shape v.events (by c w)
+fits_inside v u c w e f = let F : JournalState → Type 0 = λ s. Fits s.shape s.events (by c w) in subst F (sym e) f
+
+unsaid_inside : (v u : JournalState) (w : What) (o : Unsaid) → v ≡ u → o ≡ unsaid_of u.shape u.events w → o ≡ unsaid_of v.shape v.events w
+unsaid_inside v u w o e f = f ∙ ap (λ (s : JournalState). unsaid_of s.shape s.events w) (sym e)
+
+pub count_loss-requires-clause-room : goal.count_loss-requires-clause-room
+count_loss-requires-clause-room g c =
+    let h : History = g.R.Recorder.history c.self.inside.events in
+    let k = c.record.ensures.history in
+    count_room c.self.inside.shape h c.self.inside.tally c.self.invariant (omega (arith, c.count-events.ensures, ap length k, length_push h (by c.args.caller c.what.result)))
+
+pub count_loss-requires-clause-leaves : goal.count_loss-requires-clause-leaves
+count_loss-requires-clause-leaves g c =
+    let h : History = g.R.Recorder.history c.self.inside.events in
+    let done = c.args.done.now in
+    let w : What = loss_what c.args.loss c.args.page done.outcome done.released in
+    let said = unsaid_inside _ _ w (FreedFrom c.args.left) c.self.view_is c.requires.unsaid in
+    may_leave c.self.inside.shape h c.args.caller w c.self.inside.tally.flying c.args.left c.self.invariant.legal
+    (fits_inside _ _ c.args.caller w c.self.view_is c.requires.fits)
+    (left_told c.self.inside.shape h c.args.caller c.args.page c.args.loss done.outcome done.released c.args.left said) c.self.invariant.flying_are
+
+pub invariant_of-self : goal.invariant_of-self
+invariant_of-self g c =
+    let j = c.self.invariant in
+    let h : History = g.R.Recorder.history c.self.inside.events in
+    let done = c.args.done.now in
+    let w : What = loss_what c.args.loss c.args.page done.outcome done.released in
+    let P : History → Type 0 = λ k. IsJournal c.self.inside.shape k c.count_loss.new.self in
+    subst P (sym (c.record.ensures.history ∙ ap (λ v. h ++ by c.args.caller v ∷ []) c.what.ensures))
+    (journal_push c.self.inside.shape h c.args.caller w (FreedFrom c.args.left) _ _ j (fits_inside _ _ c.args.caller w c.self.view_is c.requires.fits)
+    (unsaid_inside _ _ w (FreedFrom c.args.left) c.self.view_is c.requires.unsaid)
+    (counts_lost _ _ c.args.caller c.args.page c.args.loss done.outcome done.released (FreedFrom c.args.left) c.count_loss.ensures.flying c.count_loss.ensures.numbers))
+
+pub returns-clause-legal : goal.returns-clause-legal
+returns-clause-legal g c = (invariant_of-self g c).legal
