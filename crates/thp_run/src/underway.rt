@@ -91,8 +91,8 @@ impl<'a, N: Recorder> Underway<'a, N> {
         settings: &Settings,
         gate: &G,
     ) -> Result<(Vec<Pass<N>>, Vec<Section>), ReadFault>
-        where
-            N: Send,
+    where
+        N: Send,
         requires begun { (cells : List TableId) × (old : List PassState) × (first : Fronts) × (before : List Command) × HasBegun settings.now cells old first before (fronts_in self.passes) self.setup }
         requires settings { self.script.settings ≡ settings.now }
         ensures runs { (cells : List TableId) (old : List PassState) (first : Fronts) (before : List Command) → HasBegun settings.now cells old first before (fronts_in self.entry.passes) self.entry.setup → IfOk result (λ r. RunsOnRest old (spelled_with self.entry.script []) before r.0.items r.1.items) }

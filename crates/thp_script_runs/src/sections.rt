@@ -39,11 +39,7 @@ pub(crate) fn run_sections<R: Threads + Sync, P: Passes + Send + Drop, G: Gate +
 }
 
 /// Does the sections of the workers behind `setup`, each on a thread of its own, and then, workers ascending, what they postponed.
-pub(crate) fn run_workers_behind<
-    R: Threads + Sync,
-    P: Passes + Send + Drop,
-    G: Gate + Sync,
->(
+pub(crate) fn run_workers_behind<R: Threads + Sync, P: Passes + Send + Drop, G: Gate + Sync>(
     rt: &R,
     alloc: Global,
     passes: P,

@@ -37,9 +37,12 @@ run_workers_behind-requires-clause-set_up g c κs within =
     let before = c.requires.begun.3 in
     let b = c.requires.begun.4 in
     let few : AreFew c.args.script = search (rules, c.are_few.ensures, c.if-not-are_few.false) in
-    let did : DidFirst 0 first (fronts_in c.do_commands.new.steps) (before ++ c.args.script.setup) c.in_ok-setup.setup = subst (λ cs. DidFirst 0 first (fronts_in c.do_commands.new.steps) (before ++ cs) c.in_ok-setup.setup) c.as_slice.ensures (c.in_ok-setup.ensures.did first before b.did) in
-    (first, before ++ c.args.script.setup, begun_set_up s cells old first before (fronts_in c.args.passes) c.args.setup b c.args.script c.requires.script few (fronts_in c.do_commands.new.steps) (fronts_in c.end_section.new.steps) c.in_ok-setup.setup c.in_ok-setup-2.setup
-    c.in_ok-setup.ensures.goes c.in_ok-setup-2.ensures.goes did (c.in_ok-setup-2.ensures.works first (before ++ c.args.script.setup) did))
+    let did : DidFirst 0 first (fronts_in c.do_commands.new.steps) (before ++ c.args.script.setup) c.in_ok-setup.setup = subst (λ cs. DidFirst 0 first (fronts_in c.do_commands.new.steps) (before ++ cs) c.in_ok-setup.setup) c.as_slice.ensures (c.in_ok-setup.ensures.did first before b.did) in (
+      first,
+      before ++ c.args.script.setup,
+      begun_set_up s cells old first before (fronts_in c.args.passes) c.args.setup b c.args.script c.requires.script few (fronts_in c.do_commands.new.steps) (fronts_in c.end_section.new.steps) c.in_ok-setup.setup c.in_ok-setup-2.setup
+          c.in_ok-setup.ensures.goes c.in_ok-setup-2.ensures.goes did (c.in_ok-setup-2.ensures.works first (before ++ c.args.script.setup) did),
+    )
 
 pub run_workers_behind-requires-clause-done : goal.run_workers_behind-requires-clause-done
 run_workers_behind-requires-clause-done g c κs within =
