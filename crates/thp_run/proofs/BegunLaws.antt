@@ -1,32 +1,20 @@
 -- Scripts that are run as they are read: how such a run begins and ends.
-use Rattle.std.proofs.Common.{◌≡◌, ◌∙◌, ◌+◌, ◌++◌, ◌<◌, ◌≤◌, ℕ, Bool, false, List, [], Ok, Err, Option, ap, arith, length, map, refl, subst, sym}
-use Rattle.std.specs.Prelude.{All, IfSome, Result}
+use Rattle.std.proofs.Common.{◌≡◌, ◌∙◌, ℕ, Bool, false, List, [], Ok, ap, arith, refl, sym}
 use Rattle.std.proofs.lemmas.List.{append-nil}
 use Rattle.atomic_table.specs.Seated.{TableId}
 use Rattle.thp_cell.specs.Views.{PassState}
-use Rattle.thp_node.specs.NodeState.{NodeState}
 use Rattle.thp_programs.specs.Calls.{ReadsOn}
 use Rattle.thp_programs.specs.declared.calls.Call.{Call}
-use Rattle.thp_programs.specs.Devices.{IsInputOf}
-use Rattle.thp_report.specs.Reports.{report_of, told_of}
-use Rattle.thp_script_runs.specs.InParts.{AreNew, HasBegun}
-use Rattle.thp_script_runs.specs.NewNodes.{histories_of, shapes_of, AreNodesFor}
-use Rattle.thp_script_runs.specs.Runs.{IsRun}
-use Rattle.thp_script_runs.specs.Sections.{SectionAnswersAre}
+use Rattle.thp_script_runs.specs.InParts.{HasBegun}
 use Rattle.thp_script_runs.proofs.BegunLaws.{begun_all, begun_nodes, starts_new}
-use Rattle.thp_sections.specs.declared.answer_log.Answers.TheVariants.{Kept}
 use Rattle.thp_sections.specs.declared.in_parts.SectionInParts.{SectionInParts}
-use Rattle.thp_sections.specs.declared.reply.Section.{Section}
-use Rattle.thp_sections.specs.Fronts.{Fronts}
 use Rattle.thp_sections.specs.Passes.{fronts_in, Passes}
 use Rattle.thp_sections.proofs.StepLaws.{goes_trans}
 use Rattle.thp_text.specs.declared.script.Script.{Script}
-use Rattle.thp_text.specs.declared.settings.Report.TheVariants.{Answers}
 use Rattle.thp_text.specs.declared.settings.Settings.{Settings}
 use Rattle.thp_text.specs.Parts.{behind_setup, read_behind, spelled_with, ReadSoFar}
 use Rattle.thp_text.specs.Scripts.{script_of}
-use Rattle.thp_run.specs.Programs.{IsReport}
-use Rattle.thp_run.specs.Underway.{HasRead, HasRun, IsUnderway, RunsOnRest}
+use Rattle.thp_run.specs.Underway.{HasRead, IsUnderway}
 
 -- a run that has just begun, and a script of which nothing has come
 pub is_underway : (s : Settings) (cells : List TableId) (old : List PassState) (q : Passes) (setup : SectionInParts) (script : ReadSoFar) → HasBegun s cells old (fronts_in q) [] (fronts_in q) setup → script.settings ≡ s → IsUnderway script q setup

@@ -1,5 +1,5 @@
 -- A script that is run as it is read.
-use Rattle.std.specs.Prelude.{◌≡◌, ℕ, Bool, true, false, List, [], ◌++◌, All, IfSome, Option, Result, Ok, length}
+use Rattle.std.specs.Prelude.{◌≡◌, ℕ, Bool, true, false, List, ◌++◌, All, IfSome, Option, Result, Ok, length}
 use Rattle.thp_cell.specs.Views.{PassState}
 use Rattle.thp_node.specs.NodeState.{NodeState}
 use Rattle.thp_programs.specs.declared.fault.RunFault.{RunFault}

@@ -1,15 +1,14 @@
 -- Scripts that are run as they are read.
-use Rattle.std.proofs.Common.{◌≡◌, ◌∙◌, ℕ, List, [], ◌∷◌, ◌++◌, Ok, Err, ap, append_assoc, refl, subst, sym}
+use Rattle.std.proofs.Common.{◌≡◌, ◌∙◌, ℕ, List, [], ◌++◌, Ok, Err, ap, append_assoc, refl, subst, sym}
 use Rattle.std.specs.Prelude.{Result}
 use Rattle.std.proofs.lemmas.List.{append-nil}
 use Rattle.thp_sections.specs.declared.in_parts.SectionInParts.{SectionInParts}
-use Rattle.thp_sections.specs.Fronts.{Fronts}
 use Rattle.thp_sections.specs.InParts.{DidFirst}
 use Rattle.thp_sections.specs.Passes.{fronts_in, Passes}
 use Rattle.thp_sections.proofs.StepLaws.{goes_refl, goes_trans}
 use Rattle.thp_text.specs.declared.script.Command.{Command}
 use Rattle.thp_text.specs.declared.script.Script.{Script}
-use Rattle.thp_text.specs.Parts.{behind_setup, read_behind, spelled_with, ReadSoFar}
+use Rattle.thp_text.specs.Parts.{read_behind, spelled_with, ReadSoFar}
 use Rattle.thp_text.specs.Scripts.{Fault}
 use Rattle.thp_run.specs.Underway.{HasRead}
 

@@ -1,5 +1,5 @@
 //! A script that is run as it is read: of its `setup` no command is kept.
-ghost use Rattle.std.specs.Prelude.{◌≡◌, [], All, IfOk, IfErr, IfSome, List, ℕ, false};
+ghost use Rattle.std.specs.Prelude.{◌≡◌, [], All, IfOk, IfErr, List, ℕ, false};
 ghost use Rattle.atomic_table.specs.Seated.{TableId};
 ghost use Rattle.thp_cell.specs.Views.{PassState};
 ghost use Rattle.thp_programs.specs.Calls.{ReadsOn};

@@ -1,7 +1,6 @@
 -- Runs whose `setup` comes in parts.
-use Rattle.std.proofs.Common.{◌≡◌, ◌∙◌, ◌+◌, ◌++◌, ◌<◌, ◌≤◌, ◌^◌, ap, ℕ, List, [], length, length-append, map, refl, sym, subst, arith}
+use Rattle.std.proofs.Common.{◌≡◌, ◌∙◌, ◌+◌, ◌++◌, ◌≤◌, ap, ℕ, List, length, map, refl, sym, subst, arith}
 use Rattle.std.specs.Prelude.{All}
-use Rattle.std.proofs.lemmas.List.Elements.{All-append}
 use Rattle.atomic_table.specs.Seated.{TableId}
 use Rattle.thp_cell.specs.Views.{PassState}
 use Rattle.thp_text.specs.declared.script.Command.{Command}
@@ -19,7 +18,7 @@ use Rattle.thp_sections.specs.Sections.{Works}
 use Rattle.thp_sections.proofs.StepLaws.{goes_trans}
 use Rattle.thp_text.specs.Limits.{max_nodes}
 use Rattle.thp_script_runs.specs.InParts.{AreNew, HasBegun, StartsOn}
-use Rattle.thp_script_runs.specs.Sections.{IsFitScript, IsNew, IsSetUp, RunsTo}
+use Rattle.thp_script_runs.specs.Sections.{IsNew, IsSetUp, RunsTo}
 use Rattle.thp_script_runs.specs.Sharing.{pass_of, AreFew, IsFresh, IsRoot, IsUnused, RunsOn}
 use Rattle.thp_script_runs.proofs.NodeLaws.{pairs_length}
 use Rattle.thp_script_runs.proofs.SharingLaws.{is_new, roots_fresh, runs_on, script_fits}

@@ -1,5 +1,5 @@
 -- Runs of a script whose `setup` comes in parts.
-use Rattle.std.specs.Prelude.{◌≡◌, ℕ, ◌+◌, List, [], All, map}
+use Rattle.std.specs.Prelude.{◌≡◌, ◌+◌, List, [], All, map}
 use Rattle.atomic_table.specs.Seated.{TableId}
 use Rattle.thp_node.specs.NodeState.{NodeState}
 use Rattle.thp_cell.specs.Views.{PassState}
@@ -9,7 +9,7 @@ use Rattle.thp_sections.specs.declared.in_parts.SectionInParts.{SectionInParts}
 use Rattle.thp_sections.specs.Fronts.{Fronts, Goes}
 use Rattle.thp_sections.specs.Holdings.{Held}
 use Rattle.thp_sections.specs.InParts.{DidFirst}
-use Rattle.thp_sections.specs.Passes.{fronts_in, Passes}
+use Rattle.thp_sections.specs.Passes.{fronts_in}
 use Rattle.thp_script_runs.specs.NewNodes.{AreNodesFor}
 use Rattle.thp_script_runs.specs.Sharing.{cell_of, IsRoot, IsUnused, Pairs}
 

@@ -1,14 +1,14 @@
 -- The commands of `setup` that are let go while a script is read stand at the front of what is read.
 use Rattle.std.proofs.Common.{◌≡◌, ◌∙◌, ◌+◌, ◌<◌, ℕ, zero, suc, List, [], ◌∷◌, ◌++◌, length, get_or, set, Option, Some, None, Result, Ok, Err, refl, sym, ap, append_assoc, arith}
-use Rattle.std.specs.Prelude.{All, slice_set}
+use Rattle.std.specs.Prelude.{slice_set}
 use Rattle.std.proofs.lemmas.List.{append-nil}
 use Rattle.thp_text.specs.declared.script.Command.{Command}
 use Rattle.thp_text.specs.declared.script.Script.{Script}
 use Rattle.thp_text.specs.declared.settings.Settings.{Settings}
-use Rattle.thp_text.specs.Parts.{behind_setup, lines_spell, read_behind, script_in, setup_of, spelled_with, with_commands, ReadSoFar}
+use Rattle.thp_text.specs.Parts.{behind_setup, lines_spell, read_behind, script_in, setup_of, spelled_with, with_commands}
 use Rattle.thp_text.specs.Readings.{◌>>=◌}
 use Rattle.thp_text.specs.Scripts.{commands_from, Fault, Placed}
-use Rattle.thp_text.specs.TextInParts.{fault_with, told_behind, unless, TextSoFar}
+use Rattle.thp_text.specs.TextInParts.{fault_with, unless, TextSoFar}
 use Rattle.thp_text.specs.Words.{Text, lines_of}
 
 -- the commands of sections whose first begins with `front`

@@ -1,4 +1,4 @@
-use Rattle.std.proofs.Common.{◌≡◌, ◌∙◌, ap, map, refl, sym, Err}
+use Rattle.std.proofs.Common.{◌≡◌, ◌∙◌, ap, map, refl, Err}
 use Rattle.std.specs.Prelude.{filter}
 use Rattle.std.proofs.lemmas.Result.{err_from_is_err_and}
 use Rattle.thp_journal_writer.specs.Journals.{journal_text}
@@ -7,7 +7,7 @@ use Rattle.thp_report.specs.Answers.{answers_text}
 use Rattle.thp_report.specs.Reports.{report_of, shape_of, told_of}
 use Rattle.thp_report.proofs.ReportLaws.{shapes_told}
 use Rattle.thp_sections.specs.KeptSections.{has_kept}
-use Rattle.thp_run.proofs.PassageLaws.{not_run_ends, not_run_writes, run_wrote, run_wrote_kept}
+use Rattle.thp_run.proofs.PassageLaws.{not_run_ends, run_wrote, run_wrote_kept}
 use Rattle.thp_run.proofs.running.run.Goals as goal
 
 pub returns-in_err-ran-in-Totals-clause-ends : goal.returns-in_err-ran-in-Totals-clause-ends

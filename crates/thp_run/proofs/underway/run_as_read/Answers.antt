@@ -1,13 +1,10 @@
-use Rattle.std.proofs.Common.{◌≡◌, ◌∙◌, List, Ok, subst, sym}
+use Rattle.std.proofs.Common.{◌∙◌, subst, sym}
 use Rattle.std.specs.Prelude.{All}
-use Rattle.atomic_table.specs.Seated.{TableId}
 use Rattle.thp_sections.specs.declared.answer_log.Answers.TheVariants.{Kept}
 use Rattle.thp_sections.specs.Passes.{fronts_in}
-use Rattle.thp_script_runs.specs.InParts.{HasBegun}
 use Rattle.thp_script_runs.specs.Sections.{SectionAnswersAre}
-use Rattle.thp_text.specs.Parts.{behind_setup, spelled_with}
+use Rattle.thp_text.specs.Parts.{behind_setup}
 use Rattle.thp_run.proofs.BegunLaws.{begun_read, read_whole, reads_none}
-use Rattle.thp_run.specs.Underway.{HasRead, RunsOnRest}
 use Rattle.thp_run.proofs.underway.run_as_read.Goals as goal
 
 pub returns-in_err-cells-clause-calls : goal.returns-in_err-cells-clause-calls

@@ -1,6 +1,6 @@
-use Rattle.std.proofs.Common.{◌≡◌, ◌∙◌, ◌+◌, ap, refl, arith, subst, sym, None, ℕ}
+use Rattle.std.proofs.Common.{◌≡◌, ◌∙◌, ◌+◌, ap, arith, subst, sym, None, ℕ}
 use Rattle.thp_sections.specs.Fronts.{Fronts}
-use Rattle.thp_sections.specs.Passes.{fronts_in, Passes}
+use Rattle.thp_sections.specs.Passes.{fronts_in}
 use Rattle.thp_script_runs.proofs.BegunLaws.{new_few, new_fresh}
 use Rattle.thp_script_runs.proofs.SharingLaws.{agree_new, fresh_some, is_new}
 use Rattle.thp_script_runs.proofs.in_parts.begin_run.Goals as goal

@@ -1,13 +1,11 @@
-use Rattle.std.proofs.Common.{◌≡◌, ◌∙◌, ◌+◌, ◌++◌, ap, length, map, rules, subst, sym}
-use Rattle.std.specs.Prelude.{All, IfOk}
+use Rattle.std.proofs.Common.{◌∙◌, ◌+◌, ◌++◌, rules, subst, sym}
+use Rattle.std.specs.Prelude.{All}
 use denote.Param.Send.{param_send, arg_send}
-use Rattle.thp_text.specs.Parts.{behind_setup}
 use Rattle.thp_sections.specs.InParts.{DidFirst}
 use Rattle.thp_sections.specs.Passes.{fronts_in}
 use Rattle.thp_sections.specs.Sections.{IsCommandFor}
 use Rattle.thp_sections.proofs.Crosses.{node_passes_send}
-use Rattle.thp_script_runs.specs.InParts.{HasBegun}
-use Rattle.thp_script_runs.specs.Sharing.{pass_of, AreFew, RunsOn}
+use Rattle.thp_script_runs.specs.Sharing.{AreFew}
 use Rattle.thp_script_runs.proofs.BegunLaws.{begun_all, begun_nodes, begun_runs, begun_set_up}
 use Rattle.thp_script_runs.proofs.SharingLaws.{commands_fit}
 use Rattle.thp_script_runs.proofs.in_parts.end_run.Goals as goal

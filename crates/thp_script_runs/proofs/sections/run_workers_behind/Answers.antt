@@ -1,10 +1,9 @@
-use Rattle.std.proofs.Common.{◌∙◌, ◌∷◌, length, subst, sym}
+use Rattle.std.proofs.Common.{◌∷◌, subst, sym}
 use Rattle.std.proofs.lemmas.List.Elements.{All-cons}
 use Rattle.thp_text.specs.declared.script.Script.{Script}
-use Rattle.thp_sections.specs.Fronts.{Fronts}
 use Rattle.thp_sections.specs.Halves.{AllWork, Ran}
 use Rattle.thp_sections.specs.Sections.{AnswersAre}
-use Rattle.thp_script_runs.specs.Sections.{InOrder, RunsTo}
+use Rattle.thp_script_runs.specs.Sections.{InOrder}
 use Rattle.thp_script_runs.proofs.RestLaws.{can_run, few_done, answers_numbered, ran_fit, runs_to}
 use Rattle.thp_script_runs.proofs.sections.run_workers_behind.Goals as goal
 

@@ -1,13 +1,10 @@
-use Rattle.std.proofs.Common.{◌≡◌, ◌<◌, ◌≤◌, ◌∙◌, ◌+◌, ◌^◌, ◌++◌, ◌∷◌, [], ℕ, Bool, List, ap, arith, inl, sym, subst, get_or, length, length-append, refl, rules, Some}
+use Rattle.std.proofs.Common.{◌≡◌, ◌<◌, ◌∙◌, ◌+◌, ◌++◌, ◌∷◌, [], ℕ, Bool, List, ap, arith, inl, sym, subst, get_or, length, length-append, refl, rules, Some}
 use Rattle.std.specs.Prelude.{slice_get, All}
 use Rattle.std.proofs.lemmas.List.{length-set}
 use Rattle.std.proofs.lemmas.List.Elements.{All-append}
 use Rattle.std.proofs.lemmas.Option.{slice_get-get_or}
-use Rattle.thp_text.specs.declared.script.Command.{Command}
 use Rattle.thp_text.specs.declared.script.Op.TheVariants.{Alloc}
 use Rattle.thp_sections.specs.Does.{Reaction, answer_of}
-use Rattle.thp_sections.specs.Fronts.{Fronts, HasAll}
-use Rattle.thp_sections.specs.InParts.{DidFirst}
 use Rattle.thp_sections.specs.OpenBatches.{marked}
 use Rattle.thp_sections.specs.Turns.{first_begun, Ended}
 use Rattle.thp_sections.specs.Sections.{Begins, IsCommandFor, Proceeds}

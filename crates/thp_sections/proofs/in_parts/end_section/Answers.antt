@@ -1,4 +1,4 @@
-use Rattle.std.proofs.Common.{◌≡◌, ◌∙◌, ◌<◌, ◌≤◌, arith, length, sym}
+use Rattle.std.proofs.Common.{arith}
 use Rattle.thp_sections.specs.Turns.{first_begun}
 use Rattle.thp_sections.proofs.SectionLaws.{ends_first}
 use Rattle.thp_sections.proofs.in_parts.end_section.Goals as goal

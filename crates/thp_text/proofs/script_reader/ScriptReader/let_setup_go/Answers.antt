@@ -1,5 +1,4 @@
-use Rattle.std.proofs.Common.{◌≡◌, ◌<◌, ◌+◌, length, arith, sym}
-use Rattle.thp_text.specs.Words.{Text}
+use Rattle.std.proofs.Common.{arith}
 use Rattle.thp_text.proofs.SetupLaws.{setup_gone}
 use Rattle.thp_text.proofs.script_reader.ScriptReader.let_setup_go.Goals as goal
 
