@@ -40,8 +40,14 @@ NO_MEMORY = Ended(3, b"", b"thpsplit: out of memory\n")
 BAD_ORDERS = Ended(2, b"", b"thpsplit: bad orders\n")
 BAD_UNDERUSED = Ended(2, b"", b"thpsplit: bad underused\n")
 TOO_LONG = Ended(2, b"", b"thpsplit: line 0: too-long\n")
+NOTHING_DONE = (
+    b"node 0\npages 0\nqueue 0\nframes_held 0\nframes_given 0\n"
+    b"thp_split_page 0\nthp_split_page_failed 0\nthp_deferred_split_page 0\nthp_split_pmd 0\n"
+)
+"""The totals of a node on which nothing was done."""
+
 FEW_BYTES = 48 * 2**20
-"""So much address space that the program starts, and can't hold a script of two million commands."""
+"""So much address space that the program starts, and can't hold two million commands or answers."""
 
 
 @dataclass(frozen=True)
@@ -73,16 +79,14 @@ def words(text: str) -> tuple[str, ...]:
 
 def reports() -> Iterator[Row]:
     """Each report of the first script, the totals of nothing, and a journal's verdict."""
-    totals = b"node 0\npages 0\nqueue 0\nframes_held 0\nframes_given 0\n"
-    totals += b"thp_split_page 0\nthp_split_page_failed 0\nthp_deferred_split_page 0\nthp_split_pmd 0\n"
     outputs = {"": FIRST_TOTALS, "--report totals": FIRST_TOTALS, "--": FIRST_TOTALS}
     outputs.update({"--report journal": FIRST_JOURNAL, "--report=answers": FIRST_ANSWERS})
     for line, output in outputs.items():
         for source in (Source.FILE, Source.PIPE):
             name = f"{line or 'no words'}, from a {source.name.lower()}"
             yield Row("reports", name, Call(words(line), FIRST, source), Ended(0, output))
-    yield Row("reports", "an empty script", Call(), Ended(0, totals))
-    yield Row("reports", "a script of a comment alone", Call((), b"# nothing\n\n"), Ended(0, totals))
+    yield Row("reports", "an empty script", Call(), Ended(0, NOTHING_DONE))
+    yield Row("reports", "a script of a comment alone", Call((), b"# nothing\n\n"), Ended(0, NOTHING_DONE))
     yield Row("reports", "an empty script, answers", Call(words("--report answers")), Ended(0, b""))
     journal = b"thp-journal 1\nnode 0 blocks 16\nend\n"
     yield Row("reports", "an empty script, journal", Call(words("--report journal")), Ended(0, journal))
@@ -286,9 +290,11 @@ def limits() -> Iterator[Row]:
 
 
 def little_memory() -> Iterator[Row]:
-    """Memory that doesn't suffice is told, and a check doesn't need more for more events."""
-    script = b"setup\n" + b"count 0\n" * 2_000_000
-    yield Row("memory", "two million commands", Call((), script, memory=FEW_BYTES), NO_MEMORY)
+    """Memory that doesn't suffice is told, and neither `setup` nor a check needs more for more commands or events."""
+    commands = b"count 0\n" * 2_000_000
+    yield Row("memory", "two million commands", Call((), b"worker 1\n" + commands, memory=FEW_BYTES), NO_MEMORY)
+    yield Row("memory", "two million commands of setup", Call((), b"setup\n" + commands, memory=FEW_BYTES), Ended(0, NOTHING_DONE))
+    yield Row("memory", "two million answers", Call(words("--report answers"), b"setup\n" + commands, memory=FEW_BYTES), NO_MEMORY)
     journal = b"thp-journal 1\nnode 0 blocks 1\n0 alloc 0\n" + b"0 pin 0\n" * 2_000_000 + b"end\n"
     # the 65,536th pin is refused
     illegal = Ended(1, b"illegal line 65539\n")
