@@ -1,5 +1,5 @@
 //! The text of answers, part by part, from one buffer.
-ghost use Rattle.std.specs.Prelude.{◌≡◌, ◌≤◌, ◌+◌, ◌++◌, [], IfOk, IfSome, MatchOption, drop, map, vec_capacity, vec_len};
+ghost use Rattle.std.specs.Prelude.{◌≡◌, ◌<◌, ◌≤◌, ◌+◌, ◌++◌, [], IfOk, IfSome, MatchOption, drop, length, map, vec_capacity, vec_len};
 ghost use Rattle.std.specs.List.{flat_map};
 ghost use Rattle.thp_report.specs.Answers.{answer_line, answers_text};
 ghost use Rattle.thp_report.specs.Parts.{full_part, line_room};
@@ -60,10 +60,11 @@ impl<'a, R: Recorder> AnswerParts<'a, R> {
         })
     }
 
-    /// Makes the next part, in the place of the last one. It is empty only where nothing was left.
+    /// Makes the next part, in the place of the last one. It is empty only where nothing was left, and full unless it is the last.
     pub fn fill(&mut self)
         ensures text { self.new.part ++ self.new.rest ≡ self.old.rest }
         ensures end { self.new.part ≡ [] → self.old.rest ≡ [] }
+        ensures full { length self.new.part < full_part → self.new.rest ≡ [] }
     {
         self.part.clear();
         while let Some(section) = self.sections.get(self.section) {

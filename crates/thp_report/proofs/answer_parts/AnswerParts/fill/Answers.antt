@@ -30,3 +30,8 @@ returns-clause-end g c =
     let inside = c.loop-section.self-inside in
     nothing_was inside.part.items (text_from (map shape_of inside.nodes.now) inside.place (drop inside.section inside.sections.now)) _
     c.loop-section.invariant.text (none_left (map shape_of inside.nodes.now) inside.place inside.section inside.sections.now c.in_default.ensures.lookup.3)
+
+pub returns-clause-full : goal.returns-clause-full
+returns-clause-full g c h =
+    let inside = c.loop-section.self-inside in
+    none_left (map shape_of inside.nodes.now) inside.place inside.section inside.sections.now c.in_default.ensures.lookup.3
