@@ -60,11 +60,13 @@ impl<'a, R: Recorder> AnswerParts<'a, R> {
         })
     }
 
-    /// Makes the next part, in the place of the last one. It is empty only where nothing was left, and full unless it is the last.
+    /// Makes the next part, in the place of the last one. It is empty only where nothing was left, full unless it is the last, and at most
+    /// a line longer than that.
     pub fn fill(&mut self)
         ensures text { self.new.part ++ self.new.rest ≡ self.old.rest }
         ensures end { self.new.part ≡ [] → self.old.rest ≡ [] }
         ensures full { length self.new.part < full_part → self.new.rest ≡ [] }
+        ensures most { length self.new.part < full_part + line_room }
     {
         self.part.clear();
         while let Some(section) = self.sections.get(self.section) {
@@ -100,9 +102,11 @@ fn put_from<R: Recorder>(
     answers: &KeptAnswers,
     from: usize,
 ) -> Option<usize>
-    requires { full_part + line_room ≤ vec_capacity part.old }
+    requires room { full_part + line_room ≤ vec_capacity part.old }
+    requires most { vec_len part.old < full_part + line_room }
     ensures text { let line = answer_line (map shape_of nodes.now) worker in MatchOption result (part.new.items ≡ part.old.items ++ flat_map line (drop from answers.now.items)) (λ place. part.new.items ++ flat_map line (drop place answers.now.items) ≡ part.old.items ++ flat_map line (drop from answers.now.items)) }
     ensures full { IfSome result (λ _. full_part ≤ vec_len part.new) }
+    ensures most { vec_len part.new < full_part + line_room }
     ensures room { full_part + line_room ≤ vec_capacity part.new }
 {
     for place in from..answers.len() {

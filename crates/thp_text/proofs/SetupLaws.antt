@@ -38,3 +38,8 @@ setup_gone s (setup ∷ workers) section t more some =
     front_told setup (fault_with t more) _ _
     (ap (λ first. commands_from s t.line section (lines_of (t.begun ++ more)) >>= λ ps. Ok (script_in (with_commands (first ∷ workers) ps))) (sym (append-nil setup))
     ∙ front_read setup [] workers (commands_from s t.line section (lines_of (t.begun ++ more))))
+
+-- no command of `setup` is left then
+pub none_left : (sections : List (List Command)) → setup_of (slice_set sections 0 []) ≡ []
+none_left [] = refl
+none_left (setup ∷ workers) = refl

@@ -194,6 +194,7 @@ impl<'a> ScriptReader<'a> {
     /// told from then on, with these commands at the front of its `setup`. No memory is given back before the reader is.
     pub fn let_setup_go(&mut self)
         ensures text { (more : Text) → spelled_with self.old more ≡ read_behind (setup_of self.old.sections) (spelled_with self.new more) }
+        ensures gone { setup_of self.new.sections ≡ [] }
         ensures settings { self.new.settings ≡ self.old.settings }
     {
         clear_setup(&mut self.sections);

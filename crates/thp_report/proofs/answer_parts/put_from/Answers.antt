@@ -12,4 +12,5 @@ loop-place-preserved g c =
     record {
       text = one_put line items c.loop-place.place c.in-Some.answer c.loop-place.part.items c.put_answer.new.text.items (c.args.part.now.items ++ flat_map line (drop c.args.from items)) c.in-Some.ensures c.in-Ok.ensures.text c.loop-place.invariant.text;
       room = omega (arith, c.in-Ok.ensures.room);
+      most = omega (arith, c.in-Ok.ensures.room);
     }

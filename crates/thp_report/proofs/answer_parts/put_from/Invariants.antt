@@ -1,4 +1,4 @@
-use Rattle.std.proofs.Common.{◌≡◌, ◌≤◌, ◌+◌, ◌++◌, drop, map, vec_capacity}
+use Rattle.std.proofs.Common.{◌≡◌, ◌<◌, ◌≤◌, ◌+◌, ◌++◌, drop, map, vec_capacity, vec_len}
 use Rattle.std.specs.List.{flat_map}
 use Rattle.thp_report.specs.Answers.{answer_line}
 use Rattle.thp_report.specs.Parts.{full_part, line_room}
@@ -11,4 +11,5 @@ invariant-loop-place g l =
     record {
       text : l.part.items ++ flat_map line (drop l.place l.answers.items) ≡ l.fn.part.items ++ flat_map line (drop l.from l.answers.items);
       room : full_part + line_room ≤ vec_capacity l.part;
+      most : vec_len l.part < full_part + line_room;
     }

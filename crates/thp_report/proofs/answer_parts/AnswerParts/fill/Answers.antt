@@ -23,6 +23,7 @@ loop-section-preserved g c =
       text = all_put (map shape_of inside.nodes.now) inside.place inside.section inside.sections.now s inside.part.items c.put_from.new.part.items _
           found.0 (c.section.view_is ∙ found.1 s) c.in_default-put_from.ensures.text c.loop-section.invariant.text;
       room = c.put_from.ensures.room;
+      most = c.put_from.ensures.most;
     }
 
 pub returns-clause-end : goal.returns-clause-end

@@ -1,4 +1,4 @@
-use Rattle.std.proofs.Common.{◌≡◌, ◌≤◌, ◌-◌, ◌+◌, ◌++◌, drop, length, map, vec_capacity}
+use Rattle.std.proofs.Common.{◌≡◌, ◌<◌, ◌≤◌, ◌-◌, ◌+◌, ◌++◌, drop, length, map, vec_capacity, vec_len}
 use Rattle.thp_report.specs.Parts.{full_part, line_room, text_from}
 use Rattle.thp_report.specs.Reports.{shape_of}
 use Rattle.thp_report.proofs.answer_parts.AnswerParts.fill.Given as goal
@@ -9,6 +9,7 @@ invariant-loop-section g l =
     record {
       text : inside.part.items ++ text_from (map shape_of inside.nodes.now) inside.place (drop inside.section inside.sections.now) ≡ l.fn.self.rest;
       room : full_part + line_room ≤ vec_capacity inside.part;
+      most : vec_len inside.part < full_part + line_room;
     }
 
 abbrev pub decreases-loop-section : goal.decreases-loop-section

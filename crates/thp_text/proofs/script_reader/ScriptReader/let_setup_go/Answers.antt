@@ -1,5 +1,5 @@
 use Rattle.std.proofs.Common.{arith}
-use Rattle.thp_text.proofs.SetupLaws.{setup_gone}
+use Rattle.thp_text.proofs.SetupLaws.{none_left, setup_gone}
 use Rattle.thp_text.proofs.script_reader.ScriptReader.let_setup_go.Goals as goal
 
 pub returns-clause-text : goal.returns-clause-text
@@ -7,3 +7,6 @@ returns-clause-text c = λ more.
     let r = c.self.inside in
     rw (← c.self.view_is, c.clear_setup.ensures)
     (setup_gone r.settings.now r.sections.items r.section r.text more (omega arith))
+
+pub returns-clause-gone : goal.returns-clause-gone
+returns-clause-gone c = rw c.clear_setup.ensures (none_left c.self.inside.sections.items)
