@@ -136,6 +136,10 @@ Comes begun (Err Busy) P = P (On begun)
 Comes begun (Err (Refused OutOfMemory)) P = ⊤
 Comes begun (Err (Refused why)) P = P (Ended (Err why))
 
+-- the same of a command that wasn't begun, wherever it stopped
+abbrev pub WholeComes : Result Reply CellFault → (Progress → Type 0) → Type 0
+WholeComes answer P = (begun : Begun) × Comes begun answer P
+
 -- how many pages a scan has tried
 abbrev pub tries_of : ScanReply → ℕ
 tries_of r = r.split + r.pinned + r.used

@@ -7,10 +7,9 @@ ghost use Rattle.thp_sections.specs.Sections.{AnswersAre, IsCommandFor, IsDoneFo
 ghost use Rattle.thp_text.specs.declared.script.Command.{Command};
 
 use crate::answer_log::{AnswerLog, Answers};
-use crate::command::do_command;
+use crate::command::do_whole_command;
 use crate::open_batches::{mark, none_open};
 use crate::reply::{Reply, Worked};
-use crate::scanning::first_begun;
 use crate::steps::{Steps, is_busy, lacks_memory, told};
 use crate::working::close;
 use std::alloc::{AllocError, Global};
@@ -70,9 +69,8 @@ pub fn do_commands<S: Steps>(
     answers.reserve(commands.len())?;
     let first = answers.len();
     for index in 0..commands.len() {
-        let command = commands[index];
-        let mut begun = first_begun();
-        let called = do_command(command, worker, &mut begun, steps, &mut reply);
+        let command = &commands[index];
+        let called = do_whole_command(command, worker, steps, &mut reply);
         if lacks_memory(called) {
             return Err(AllocError);
         }
@@ -80,7 +78,7 @@ pub fn do_commands<S: Steps>(
             unreachable!();
         }
         let said = told(called);
-        mark(&mut opened, command, said);
+        mark(&mut opened, *command, said);
         answers.push((first + index) as u32, command.node, said, &reply);
     }
     Ok(SectionInParts { answers, opened })

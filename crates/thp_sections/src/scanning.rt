@@ -1,6 +1,7 @@
 //! How far the steps of a command are.
 ghost use Rattle.std.specs.Prelude.{◌≡◌, ◌+◌, ◌≤◌, Ok, MatchOption};
 ghost use Rattle.thp_model.specs.Limits.{max_batch};
+ghost use Rattle.thp_text.specs.declared.script.Op.TheVariants.{Scan};
 ghost use Rattle.thp_sections.specs.Turns.{On, Ended, first_begun, is_scan, next_step, scan_goes_on, tries_of};
 
 use crate::reply::Reply;
@@ -45,18 +46,25 @@ pub(crate) fn next_step(op: Op, begun: Begun) -> Step
         Op::Alloc => Step::One(NodeCall::Alloc),
         Op::Close => Step::One(NodeCall::Close),
         Op::Count => Step::One(NodeCall::Count),
-        Op::Scan { count } => {
-            if begun.steps == 0 {
-                Step::Take(u32::from(count))
-            } else if begun.steps == 1 + tries(&begun.so_far) {
-                Step::SplitNext
-            } else {
-                Step::PutBack
-            }
-        }
+        Op::Scan { count } => scan_step(count, begun),
         Op::Take { count } => Step::Take(u32::from(count)),
         Op::SplitNext => Step::SplitNext,
         _ => Step::PutBack,
+    }
+}
+
+/// The next step of a scan of up to so many pages.
+#[inline(always)]
+pub(crate) fn scan_step(count: u16, begun: Begun) -> Step
+    requires { tries_of begun.so_far ≤ max_batch }
+    ensures { result ≡ next_step (Scan count) begun }
+{
+    if begun.steps == 0 {
+        Step::Take(u32::from(count))
+    } else if begun.steps == 1 + tries(&begun.so_far) {
+        Step::SplitNext
+    } else {
+        Step::PutBack
     }
 }
 

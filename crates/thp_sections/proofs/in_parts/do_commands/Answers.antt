@@ -30,7 +30,7 @@ loop-index-init g c =
 pub returns-then-lacks_memory-clause-goes : goal.returns-then-lacks_memory-clause-goes
 returns-then-lacks_memory-clause-goes g c =
     let fronts = g.S.Steps.fronts in
-    goes_trans c.args.worker (fronts c.args.steps.now) (fronts c.loop-index.steps) (fronts c.do_command-called.new.steps) c.loop-index.invariant.goes c.do_command-called.ensures.goes
+    goes_trans c.args.worker (fronts c.args.steps.now) (fronts c.loop-index.steps) (fronts c.do_whole_command-called.new.steps) c.loop-index.invariant.goes c.do_whole_command-called.ensures.goes
 
 pub returns-clause-did : goal.returns-clause-did
 returns-clause-did g c = λ old before d.
@@ -43,30 +43,28 @@ returns-clause-did g c = λ old before d.
       room = omega (arith, inv.room, d.each, length-append before c.args.commands.now);
     }
 
-pub do_command-called-requires-clause-ready : goal.do_command-called-requires-clause-ready
-do_command-called-requires-clause-ready g c = rw c.first_begun-begun.ensures (inl refl)
-
 pub loop-index-preserved : goal.loop-index-preserved
 loop-index-preserved g c =
     let fronts = g.S.Steps.fronts in
     let inv = c.loop-index.invariant in
     let f0 = fronts c.args.steps.now in
     let mid = fronts c.loop-index.steps in
-    let new = fronts c.do_command-called.new.steps in
+    let new = fronts c.do_whole_command-called.new.steps in
     let commands = c.args.commands.now in
     let answers = c.loop-index.answers.items in
     let i = c.loop-index.index in
     let command = get_or commands i (record { node = 0; op = Alloc }) in
     let here : slice_get commands i ≡ Some command = slice_get-get_or commands i (record { node = 0; op = Alloc }) c.loop-index-test.true in
-    let p : Proceeds c.args.worker command first_begun mid new (Ended (answer_of c.told-said.result c.do_command-called.new.reply)) = subst (λ b. Proceeds c.args.worker command b mid new (Ended (answer_of c.told-said.result c.do_command-called.new.reply))) c.first_begun-begun.ensures (cell_comes c.do_command-called.new.begun (Proceeds c.args.worker command c.first_begun-begun.result mid new) c.do_command-called.result c.told-said.result c.do_command-called.new.reply c.told-said.ensures c.if-lacks_memory.ensures.some c.do_command-called.ensures.proceeds) in
-    let answer : Reaction = answer_of c.told-said.result c.do_command-called.new.reply in
+    let whole = c.do_whole_command-called.ensures.proceeds in
+    let p = cell_comes whole.0 (Proceeds c.args.worker command first_begun mid new) c.do_whole_command-called.result c.told-said.result c.do_whole_command-called.new.reply c.told-said.ensures c.if-lacks_memory.ensures.some whole.1 in
+    let answer : Reaction = answer_of c.told-said.result c.do_whole_command-called.new.reply in
     let opened = c.loop-index.opened.items in
     let now : List Bool = marked opened command answer in
     let many : length c.mark.new.opened.items ≡ length opened = ap length c.mark.ensures ∙ length-set opened command.node _ in
-    let told : c.mark.new.opened.items ≡ now = c.mark.ensures ∙ marked_alike opened command c.told-said.result c.do_command-called.new.reply in
+    let told : c.mark.new.opened.items ≡ now = c.mark.ensures ∙ marked_alike opened command c.told-said.result c.do_whole_command-called.new.reply in
     let number : length answers ≡ c.len-first.result + i = omega (arith, inv.count, inv.first) in
     record {
-      goes = goes_trans c.args.worker f0 mid new inv.goes c.do_command-called.ensures.goes;
+      goes = goes_trans c.args.worker f0 mid new inv.goes c.do_whole_command-called.ensures.goes;
       begins = λ old before d.
           let was = inv.begins old before d in
           let at : slice_get (before ++ commands) (length answers) ≡ Some command =
@@ -75,7 +73,7 @@ loop-index-preserved g c =
           let lt : command.node < mid.nodes = rw inv.goes.same.nodes exists in
           rw (c.push.ensures.items, told)
           (subst (λ (k : ℕ). Begins c.args.worker old new (before ++ commands) (answers ++ record { command = k; node = command.node; reply = answer } ∷ []) now first_begun) number
-          (begins_more c.args.worker old mid new (before ++ commands) answers opened first_begun command at was c.do_command-called.ensures.goes answer lt p));
+          (begins_more c.args.worker old mid new (before ++ commands) answers opened first_begun command at was c.do_whole_command-called.ensures.goes answer lt p));
       nodes = many ∙ inv.nodes;
       count = omega (arith, c.push.ensures.count, inv.count);
       first = inv.first;
