@@ -32,8 +32,7 @@ second : (a b : Bool) → a ≡ true → (a && b) ≡ false → b ≡ false
 second true b e f = f
 second false b e f = absurd (cc)
 
--- a range that isn't bad stands in the page
-pub good_range : (n first count : ℕ) → (nat_eq count 0 || nat_lt n (first + count)) ≡ false → first + count ≤ n
+good_range : (n first count : ℕ) → (nat_eq count 0 || nat_lt n (first + count)) ≡ false → first + count ≤ n
 good_range n first count e = grind (arith, nat_tests)
 
 covered_below : (n first count i : ℕ) → first + count ≤ n → covers first count i ≡ true → i < n

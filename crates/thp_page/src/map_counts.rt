@@ -94,18 +94,14 @@ impl MapCounts {
         ensures { result ≡ some_count self.now first count (λ n. nat_eq n 0) }
     {
         if OneWord::holds(first, count) {
-            self.has_unmapped_of(OneWord::range(first, count))
+            !OneWord::range(first, count)
+                .outside(&self.mapped)
+                .is_empty()
         } else {
-            self.has_unmapped_of(SubSet::range(first as u32, count as u32))
+            !SubSet::range(first as u32, count as u32)
+                .outside(&self.mapped)
+                .is_empty()
         }
-    }
-
-    // The same of any subpages.
-    #[inline(always)]
-    pub(crate) fn has_unmapped_of<S: Subpages>(&self, subpages: S) -> bool
-        ensures { result ≡ some_below max_subpages (λ i. S.chosen subpages i && nat_eq (slice_index self.now i) 0) }
-    {
-        !subpages.outside(&self.mapped).is_empty()
     }
 
     /// Whether a count of the range is `n`.
@@ -152,9 +148,24 @@ impl MapCounts {
         subpages.outside(&self.mapped).turn(&mut self.mapped);
     }
 
-    /// One mapping of each of the subpages less, and whether one of them isn't mapped any more.
+    /// One mapping of each subpage of the range less, and whether one of them isn't mapped any more.
     #[inline(always)]
-    pub(crate) fn unmap<S: Subpages>(&mut self, subpages: S) -> bool
+    pub fn unmap(&mut self, first: usize, count: usize) -> bool
+        requires inside { first + count ≤ max_subpages }
+        requires positive { (i : ℕ) → covers first count i ≡ true → 1 ≤ slice_index self.old i }
+        ensures taken { (i : ℕ) → i < max_subpages → slice_index self.old i ≡ slice_index self.new i + cond (covers first count i) 1 0 }
+        ensures unmapped { result ≡ some_count self.old first count (λ n. nat_eq n 1) }
+    {
+        if OneWord::holds(first, count) {
+            self.unmap_each(OneWord::range(first, count))
+        } else {
+            self.unmap_each(SubSet::range(first as u32, count as u32))
+        }
+    }
+
+    // The same of any subpages.
+    #[inline(always)]
+    fn unmap_each<S: Subpages>(&mut self, subpages: S) -> bool
         requires { (i : ℕ) → i < max_subpages → S.chosen subpages i ≡ true → 1 ≤ slice_index self.old i }
         ensures taken { (i : ℕ) → i < max_subpages → slice_index self.old i ≡ slice_index self.new i + cond (S.chosen subpages i) 1 0 }
         ensures unmapped { result ≡ some_below max_subpages (λ i. S.chosen subpages i && nat_eq (slice_index self.old i) 1) }

@@ -1,15 +1,12 @@
 //! The calls of a page: as a value, by name, and each by itself with its test, its change, and the two in turn.
-ghost use Rattle.std.specs.Prelude.{◌≡◌, ℕ, ◌+◌, ◌<◌, ◌≤◌, ◌||◌, false, min, nat_eq, nat_lt, OnOk, OnErr, IfOk, None};
+ghost use Rattle.std.specs.Prelude.{◌≡◌, ℕ, ◌≤◌, min, OnOk, OnErr, IfOk, None};
 ghost use Rattle.std.specs.Result.{result_err};
 ghost use Rattle.thp_model.specs.Limits.{max_subpages};
-ghost use Rattle.thp_model.specs.Sets.{covers};
-ghost use Rattle.thp_model.specs.Pages.{size, own_at, some_in_range, page_refusal, WholeMapped, WholeUnmapped, RangeMapped, RangeUnmapped, PmdSplit, Pinned, RangeWritten, RangeZeroed};
+ghost use Rattle.thp_model.specs.Pages.{size, page_refusal, WholeMapped, WholeUnmapped, RangeMapped, RangeUnmapped, PmdSplit, Pinned, RangeWritten, RangeZeroed};
 ghost use Rattle.thp_model.specs.PageCalls.{gain_call, Gains, loss_call, Loses, page_call};
 ghost use Rattle.thp_model.specs.Refusals as call;
 
 use super::{Change, Page};
-use crate::one_word::OneWord;
-use crate::subpages::Subpages;
 use thp_model::{Gain, Loss, PageCall, Refusal, SubSet, narrowed};
 
 impl Page {
@@ -303,8 +300,7 @@ impl Page {
         self.own.map(first as usize, count as usize);
     }
 
-    // `unmap_sub`, or why it is refused. The subpages of the range are put together once, for the test and the change.
-    #[tactic(auto, unfolding(thp_model::specs::Pages::page_refusal))]
+    // `unmap_sub`, or why it is refused.
     #[inline(always)]
     fn try_unmap_sub(&mut self, first: u16, count: u16, change: &mut Change) -> Result<(), Refusal>
         ensures refusal { (p : ℕ) → result_err result ≡ page_refusal self.old (call.unmap_sub p first count) }
@@ -312,52 +308,13 @@ impl Page {
         ensures change { OnOk result (IsChange self.old self.new change.new) }
         ensures kept { OnErr result (self.new ≡ self.old) }
     {
-        if self.is_bad_range(first, count) {
-            return Err(Refusal::BadRange);
+        match self.refusal_unmap_sub(first, count) {
+            Some(refusal) => Err(refusal),
+            None => {
+                *change = self.do_unmap_sub(first, count);
+                Ok(())
+            }
         }
-        // Tells the proof how many subpages the page has at most.
-        let _ = self.subpages();
-        let (start, length) = (first as usize, count as usize);
-        if OneWord::holds(start, length) {
-            self.try_unmap_each(OneWord::range(start, length), first, count, change)
-        } else {
-            let subpages = SubSet::range(start as u32, length as u32);
-            self.try_unmap_each(subpages, first, count, change)
-        }
-    }
-
-    // The same of the subpages of a range, whose numbers are there for the proof alone.
-    #[tactic(auto, unfolding(thp_model::specs::Pages::page_refusal))]
-    #[inline(always)]
-    fn try_unmap_each<S: Subpages>(
-        &mut self,
-        subpages: S,
-        first: u16,
-        count: u16,
-        change: &mut Change,
-    ) -> Result<(), Refusal>
-        requires good { (nat_eq count 0 || nat_lt (size self.old) (first + count)) ≡ false }
-        requires subpages { (i : ℕ) → i < max_subpages → S.chosen subpages i ≡ covers first count i }
-        ensures refusal { (p : ℕ) → result_err result ≡ page_refusal self.old (call.unmap_sub p first count) }
-        ensures counts { OnOk result (RangeUnmapped first count self.old self.new) }
-        ensures change { OnOk result (IsChange self.old self.new change.new) }
-        ensures kept { OnErr result (self.new ≡ self.old) }
-    {
-        if self.lacks_mapping(subpages, first, count) {
-            return Err(Refusal::NotMapped);
-        }
-        *change = self.do_unmap_each(subpages, first, count);
-        Ok(())
-    }
-
-    // Whether one of the subpages of a range has no mapping of its own.
-    #[inline(always)]
-    fn lacks_mapping<S: Subpages>(&self, subpages: S, first: u16, count: u16) -> bool
-        requires good { (nat_eq count 0 || nat_lt (size self.now) (first + count)) ≡ false }
-        requires subpages { (i : ℕ) → i < max_subpages → S.chosen subpages i ≡ covers first count i }
-        ensures { result ≡ some_in_range self.now first count (λ i. nat_eq (own_at self.now i) 0) }
-    {
-        self.own.has_unmapped_of(subpages)
     }
 
     // Why `unmap_sub` would be refused, if it would.
@@ -375,16 +332,16 @@ impl Page {
         }
     }
 
-    // `unmap_sub` of the subpages of a range, where it isn't refused.
+    // `unmap_sub`, where it isn't refused.
     #[inline(always)]
-    fn do_unmap_each<S: Subpages>(&mut self, subpages: S, first: u16, count: u16) -> Change
-        requires allowed { page_refusal self.old (call.unmap_sub 0 first count) ≡ None }
-        requires subpages { (i : ℕ) → i < max_subpages → S.chosen subpages i ≡ covers first count i }
+    fn do_unmap_sub(&mut self, first: u16, count: u16) -> Change
+        requires { page_refusal self.old (call.unmap_sub 0 first count) ≡ None }
         ensures counts { RangeUnmapped first count self.old self.new }
         ensures change { IsChange self.old self.new result }
     {
+        let (first, count) = (first as usize, count as usize);
         let mapped = self.own.mapped();
-        let unmapped = self.own.unmap(subpages);
+        let unmapped = self.own.unmap(first, count);
         let unused = self.whole == 0 && unmapped;
         let used_left = self.has_use();
         let released = if self.split {

@@ -1,14 +1,24 @@
-use Rattle.std.proofs.Common.{◌∙◌, ◌&&◌, ap, nat_eq, slice_index}
+use Rattle.std.proofs.Common.{◌∙◌, ◌&&◌, not, ap, sym, nat_eq, slice_index}
 use Rattle.thp_model.specs.Sets.{has, covers}
 use Rattle.thp_model.specs.Words.{get_or-set_of}
-use Rattle.thp_model.proofs.Below.{some_below-ext}
+use Rattle.thp_page.specs.OneWords.{in_word}
+use Rattle.thp_page.proofs.Seen.{seen_at, mapped_at, some_found, not_mapped}
 use Rattle.thp_page.proofs.map_counts.MapCounts.has_unmapped.Goals as goal
 
 pub returns-then-holds : goal.returns-then-holds
-returns-then-holds c = c.has_unmapped_of.ensures ∙ some_below-ext 512 _ _ (λ i below. ap (λ b. b && nat_eq (slice_index c.args.self.now i) 0) (c.range.ensures i))
+returns-then-holds c =
+    some_found _ (in_word c.outside.result.at c.outside.result.bits) (λ i. covers c.args.first c.args.count i && nat_eq (slice_index c.args.self.now i) 0) c.is_empty.ensures
+    (λ i below.
+    c.outside.ensures i below ∙ ap (λ b. b && not (has c.self.inside.mapped i)) (c.range.ensures i)
+    ∙ ap (λ b. covers c.args.first c.args.count i && b)
+    (ap not (mapped_at c.self.inside.planes.sets c.self.inside.planes.used i c.self.inside.mapped c.self.invariant.mapped below) ∙ not_mapped _
+    ∙ ap (λ n. nat_eq n 0) (sym (seen_at c.self.inside.planes.sets c.self.inside.planes.used i c.args.self.now c.self.view_is below))))
 
 pub returns-else-holds : goal.returns-else-holds
 returns-else-holds c =
-    c.has_unmapped_of-else-holds.ensures
-    ∙ some_below-ext 512 _ _
-    (λ i below. ap (λ b. b && nat_eq (slice_index c.args.self.now i) 0) (ap (λ t. has t i) c.range-else-holds.ensures ∙ get_or-set_of (covers c.args.first c.args.count) i below))
+    some_found _ (has c.outside-else-holds.result) (λ i. covers c.args.first c.args.count i && nat_eq (slice_index c.args.self.now i) 0) c.is_empty-else-holds.ensures.none
+    (λ i below.
+    c.outside-else-holds.ensures i below ∙ ap (λ b. b && not (has c.self.inside.mapped i)) (ap (λ t. has t i) c.range-else-holds.ensures ∙ get_or-set_of (covers c.args.first c.args.count) i below)
+    ∙ ap (λ b. covers c.args.first c.args.count i && b)
+    (ap not (mapped_at c.self.inside.planes.sets c.self.inside.planes.used i c.self.inside.mapped c.self.invariant.mapped below) ∙ not_mapped _
+    ∙ ap (λ n. nat_eq n 0) (sym (seen_at c.self.inside.planes.sets c.self.inside.planes.used i c.args.self.now c.self.view_is below))))

@@ -1,38 +1,24 @@
-use Rattle.std.proofs.Common.{◌∙◌, ◌+◌, ◌&&◌, ap, sym, arith, cond, nat_eq, slice_index}
-use Rattle.std.proofs.Math.Nat.{one-le-pow}
-use Rattle.thp_model.specs.Sets.{has}
-use Rattle.thp_model.proofs.WordLemmas.{set_of-ext}
-use Rattle.thp_page.proofs.Seen.{seen_at, count_at, mapped_at, mapped_less, was_one, some_found}
+use Rattle.std.proofs.Common.{◌∙◌, ◌+◌, ◌&&◌, ap, sym, cond, nat_eq, slice_index}
+use Rattle.thp_model.specs.Sets.{has, covers}
+use Rattle.thp_model.specs.Words.{get_or-set_of}
+use Rattle.thp_model.proofs.Below.{some_below-ext}
 use Rattle.thp_page.proofs.map_counts.MapCounts.unmap.Goals as goal
 
-pub take-requires-clause-positive : goal.take-requires-clause-positive
-take-requires-clause-positive g c = λ i below chosen.
-    omega (arith, seen_at c.self.inside.planes.sets c.self.inside.planes.used i c.args.self.now c.self.view_is below, c.requires i below chosen)
+pub unmap_each-requires-else-holds : goal.unmap_each-requires-else-holds
+unmap_each-requires-else-holds c = λ i below chosen.
+    c.requires.positive i (sym (ap (λ t. has t i) c.range-else-holds.ensures ∙ get_or-set_of (covers c.args.first c.args.count) i below) ∙ chosen)
 
-pub with_count-unmapped-requires-clause-fits : goal.with_count-unmapped-requires-clause-fits
-with_count-unmapped-requires-clause-fits g c = omega (arith, one-le-pow c.take.new.self.used 2 (omega arith))
+pub returns-then-holds-clause-unmapped : goal.returns-then-holds-clause-unmapped
+returns-then-holds-clause-unmapped c =
+    c.unmap_each.ensures.unmapped ∙ some_below-ext 512 _ _ (λ i below. ap (λ b. b && nat_eq (slice_index c.args.self.now i) 1) (c.range.ensures i))
 
-pub invariant_of-self : goal.invariant_of-self
-invariant_of-self g c = record {
-  most = omega (arith, c.self.invariant.most, c.take.ensures.used);
-  mapped =
-      c.turn.ensures
-      ∙ set_of-ext _ _
-      (λ i below.
-      mapped_less (has c.self.inside.mapped i) (g.S.Subpages.chosen c.args.subpages i) (g.S.Subpages.chosen c.with_count-unmapped.result i) _ _
-      (mapped_at c.self.inside.planes.sets c.self.inside.planes.used i c.self.inside.mapped c.self.invariant.mapped below)
-      (c.with_count-unmapped.ensures i below)
-      (c.take.ensures.counts i below));
-}
+pub returns-else-holds-clause-taken : goal.returns-else-holds-clause-taken
+returns-else-holds-clause-taken c = λ i below.
+    c.unmap_each-else-holds.ensures.taken i below
+    ∙ ap (λ b. slice_index c.unmap_each-else-holds.new.self i + cond b 1 0) (ap (λ t. has t i) c.range-else-holds.ensures ∙ get_or-set_of (covers c.args.first c.args.count) i below)
 
-pub returns-clause-taken : goal.returns-clause-taken
-returns-clause-taken g c = λ i below.
-    seen_at c.self.inside.planes.sets c.self.inside.planes.used i c.args.self.now c.self.view_is below ∙ sym (c.take.ensures.counts i below)
-    ∙ ap (λ n. n + cond (g.S.Subpages.chosen c.args.subpages i) 1 0) (sym (count_at c.take.new.self.sets c.take.new.self.used i below))
-
-pub returns-clause-unmapped : goal.returns-clause-unmapped
-returns-clause-unmapped g c =
-    some_found _ (g.S.Subpages.chosen c.with_count-unmapped.result) (λ i. g.S.Subpages.chosen c.args.subpages i && nat_eq (slice_index c.args.self.now i) 1) c.is_empty.ensures
-    (λ i below.
-    was_one (g.S.Subpages.chosen c.args.subpages i) (g.S.Subpages.chosen c.with_count-unmapped.result i) _ _ (c.with_count-unmapped.ensures i below) (c.take.ensures.counts i below)
-    ∙ ap (λ n. g.S.Subpages.chosen c.args.subpages i && nat_eq n 1) (sym (seen_at c.self.inside.planes.sets c.self.inside.planes.used i c.args.self.now c.self.view_is below)))
+pub returns-else-holds-clause-unmapped : goal.returns-else-holds-clause-unmapped
+returns-else-holds-clause-unmapped c =
+    c.unmap_each-else-holds.ensures.unmapped
+    ∙ some_below-ext 512 _ _
+    (λ i below. ap (λ b. b && nat_eq (slice_index c.args.self.now i) 1) (ap (λ t. has t i) c.range-else-holds.ensures ∙ get_or-set_of (covers c.args.first c.args.count) i below))

@@ -1,8 +1,7 @@
-use Rattle.std.proofs.Common.{◌≡◌, ◌+◌, ◌<◌, ◌≤◌, ◌&&◌, ◌||◌, not, nat_eq, nat_lt, ℕ, Bool, true, false, List, cond, get_or, length, None, refl, ap, ap₂, sym, ◌∙◌, arith, subst, ne_eqb}
+use Rattle.std.proofs.Common.{◌≡◌, ◌+◌, ◌<◌, ◌≤◌, ◌&&◌, ◌||◌, not, nat_lt, ℕ, Bool, true, false, List, cond, get_or, length, None, refl, ap, ap₂, sym, ◌∙◌, arith, subst, ne_eqb}
 use Rattle.std.proofs.lemmas.Bool.Decides.{nat_tests}
 use Rattle.thp_model.specs.Sets.{covers, has, set_of}
 use Rattle.thp_model.specs.Words.{get_or-set_of, length-set_of}
-use Rattle.thp_model.proofs.Below.{some_below-ext}
 use Rattle.thp_model.proofs.WordLemmas.{set_of-ext}
 use Rattle.thp_model.specs.Refusals as call
 use Rattle.thp_model.specs.Pages.{PageState, own_at, has_use, drops_use, partly_after, page_refusal, RangeUnmapped, IsPage}
@@ -14,8 +13,8 @@ use Rattle.thp_page.proofs.PageRefusals.{allowed_as, unmap_sub_allowed}
 use Rattle.thp_page.proofs.Behind.{behind-unmap}
 use Rattle.thp_page.proofs.PageChanges.{IsPage-unmap_sub, IsPage-partly, has_use-partly, partly_after-partly, kept_partly, zero_inside-same}
 use Rattle.thp_page.proofs.PageUse.{drops_use-range, drops_use-mapped, gives_frames-range, gives_frames-unsplit, bare_set}
-use Rattle.thp_page.proofs.page.Page.do_unmap_each.Goals.{then-self-eq0, else-self-eq0, then-unused, else-unused, then-self, else-self}
-use Rattle.thp_page.proofs.page.Page.do_unmap_each.Goals as goal
+use Rattle.thp_page.proofs.page.Page.do_unmap_sub.Goals.{then-self-eq0, else-self-eq0, then-unused, else-unused, then-self, else-self}
+use Rattle.thp_page.proofs.page.Page.do_unmap_sub.Goals as goal
 
 -- the page with other own counts, before it is known whether it is partly mapped then
 with_own : PageState → List ℕ → PageState
@@ -38,18 +37,21 @@ made s own first count partly most taken e = record {
   kept = record { zero = refl; gave_zero = refl };
 }
 
-pub unmap-unmapped-requires : goal.unmap-unmapped-requires
-unmap-unmapped-requires g c = λ i below chosen.
-    let s : PageState = state_of c.self.inside in
-    (unmap_sub_allowed s 0 c.args.first c.args.count (allowed_as s _ (call.unmap_sub 0 c.args.first c.args.count) c.self.view_is c.requires.allowed)).1 i (sym (c.requires.subpages i below) ∙ chosen)
+inside : (s : PageState) (first count : ℕ) → IsPage s → page_refusal s (call.unmap_sub 0 first count) ≡ None → first + count ≤ 512
+inside s first count page e = omega (arith, (unmap_sub_allowed s 0 first count e).0, size_most s page.most_order)
 
--- what is taken from each count, by the numbers of the range
-taken_by : (chosen covered : ℕ → Bool) (old own : List ℕ) → ((i : ℕ) → i < 512 → chosen i ≡ covered i) → ((i : ℕ) → i < 512 → get_or old i 0 ≡ get_or own i 0 + cond (chosen i) 1 0) →
-    (i : ℕ) → i < 512 → get_or old i 0 ≡ get_or own i 0 + cond (covered i) 1 0
-taken_by chosen covered old own same taken i below = taken i below ∙ ap (λ b. get_or own i 0 + cond b 1 0) (same i below)
+pub unmap-unmapped-requires-clause-inside : goal.unmap-unmapped-requires-clause-inside
+unmap-unmapped-requires-clause-inside c =
+    let s : PageState = state_of c.self.inside in
+    inside s c.args.first c.args.count c.self.invariant.page (allowed_as s _ (call.unmap_sub 0 c.args.first c.args.count) c.self.view_is c.requires)
+
+pub unmap-unmapped-requires-clause-positive : goal.unmap-unmapped-requires-clause-positive
+unmap-unmapped-requires-clause-positive c =
+    let s : PageState = state_of c.self.inside in
+    (unmap_sub_allowed s 0 c.args.first c.args.count (allowed_as s _ (call.unmap_sub 0 c.args.first c.args.count) c.self.view_is c.requires)).1
 
 pub without_given-released-requires : goal.without_given-released-requires
-without_given-released-requires g c = ap length c.difference.ensures ∙ length-set_of _
+without_given-released-requires c = ap length c.difference.ensures ∙ length-set_of _
 
 kept : (p : Inside) (own : List ℕ) (first count : ℕ) → IsKept p → page_refusal (state_of p) (call.unmap_sub 0 first count) ≡ None →
     ((i : ℕ) → i < 512 → own_at (state_of p) i ≡ get_or own i 0 + cond (covers first count i) 1 0) → IsKept (record p { own = own })
@@ -64,20 +66,20 @@ kept p own first count k allowed taken =
     }
 
 pub invariant_of-self : goal.invariant_of-self
-invariant_of-self g c =
-    kept c.self.inside c.unmap-unmapped.new.self c.args.first c.args.count c.self.invariant (allowed_as (state_of c.self.inside) _ (call.unmap_sub 0 c.args.first c.args.count) c.self.view_is c.requires.allowed)
-    (taken_by (g.S.Subpages.chosen c.args.subpages) (covers c.args.first c.args.count) c.self.inside.own c.unmap-unmapped.new.self c.requires.subpages c.unmap-unmapped.ensures.taken)
+invariant_of-self c =
+    kept c.self.inside c.unmap-unmapped.new.self c.args.first c.args.count c.self.invariant (allowed_as (state_of c.self.inside) _ (call.unmap_sub 0 c.args.first c.args.count) c.self.view_is c.requires)
+    c.unmap-unmapped.ensures.taken
 
 pub invariant_of-self-then-self : goal.invariant_of-self-then-self
-invariant_of-self-then-self g c =
-    kept c.self.inside c.unmap-unmapped.new.self c.args.first c.args.count c.self.invariant (allowed_as (state_of c.self.inside) _ (call.unmap_sub 0 c.args.first c.args.count) c.self.view_is c.requires.allowed)
-    (taken_by (g.S.Subpages.chosen c.args.subpages) (covers c.args.first c.args.count) c.self.inside.own c.unmap-unmapped.new.self c.requires.subpages c.unmap-unmapped.ensures.taken)
+invariant_of-self-then-self c =
+    kept c.self.inside c.unmap-unmapped.new.self c.args.first c.args.count c.self.invariant (allowed_as (state_of c.self.inside) _ (call.unmap_sub 0 c.args.first c.args.count) c.self.view_is c.requires)
+    c.unmap-unmapped.ensures.taken
 
 pub invariant_of-self-2 : goal.invariant_of-self-2
-invariant_of-self-2 g c =
+invariant_of-self-2 c =
     kept_partly (record c.self.inside { own = c.unmap-unmapped.new.self }) (c.self.inside.partly || c.if-unused.self)
-    (kept c.self.inside c.unmap-unmapped.new.self c.args.first c.args.count c.self.invariant (allowed_as (state_of c.self.inside) _ (call.unmap_sub 0 c.args.first c.args.count) c.self.view_is c.requires.allowed)
-    (taken_by (g.S.Subpages.chosen c.args.subpages) (covers c.args.first c.args.count) c.self.inside.own c.unmap-unmapped.new.self c.requires.subpages c.unmap-unmapped.ensures.taken))
+    (kept c.self.inside c.unmap-unmapped.new.self c.args.first c.args.count c.self.invariant (allowed_as (state_of c.self.inside) _ (call.unmap_sub 0 c.args.first c.args.count) c.self.view_is c.requires)
+    c.unmap-unmapped.ensures.taken)
 
 not_both : (a b : Bool) → a ≡ false → a ≡ (a && b)
 not_both a b e = cc
@@ -105,19 +107,19 @@ gone old own first count was now e f taken =
 
 pub returns : goal.returns
 unfolding with_own after
-returns g c =
+returns c =
     let s : PageState = state_of c.self.inside in
     let first : ℕ = c.args.first in
     let count : ℕ = c.args.count in
     let own : List ℕ = c.unmap-unmapped.new.self in
     let partly : Bool = s.partly || c.if-unused.self in
-    let inside = (unmap_sub_allowed s 0 first count (allowed_as s _ (call.unmap_sub 0 first count) c.self.view_is c.requires.allowed)).0 in
+    let inside = (unmap_sub_allowed s 0 first count (allowed_as s _ (call.unmap_sub 0 first count) c.self.view_is c.requires)).0 in
     let before : Bool = partly_after s (with_own s own) in
     let unused : c.if-self-eq0.unused ≡ drops_use s (with_own s own) =
     elim c.if-self-eq0.branch [
       | then-self-eq0 w ↦
-          w.unused-is ∙ (c.unmap-unmapped.ensures.unmapped ∙ some_below-ext 512 _ _ (λ i below. ap (λ b. b && nat_eq (get_or s.own i 0) 1) (c.requires.subpages i below)))
-          ∙ sym (drops_use-range s (after s own before) first count c.self.invariant.page.most_order (made s own first count before c.self.invariant.page.most_order (taken_by (g.S.Subpages.chosen c.args.subpages) (covers c.args.first c.args.count) c.self.inside.own c.unmap-unmapped.new.self c.requires.subpages c.unmap-unmapped.ensures.taken) refl) inside w.if-self-eq0.true)
+          w.unused-is ∙ c.unmap-unmapped.ensures.unmapped
+          ∙ sym (drops_use-range s (after s own before) first count c.self.invariant.page.most_order (made s own first count before c.self.invariant.page.most_order c.unmap-unmapped.ensures.taken refl) inside w.if-self-eq0.true)
       | else-self-eq0 w ↦ w.unused-is ∙ ne_eqb s.whole 0 w.if-self-eq0.false ∙ sym (drops_use-mapped s (with_own s own) (omega arith))
     ] in
     let joined : c.if-unused.self ≡ (c.if-self-eq0.unused && c.has_use-used_left.result) =
@@ -126,7 +128,7 @@ returns g c =
       | else-unused w ↦ w.self-is ∙ not_both c.if-self-eq0.unused c.has_use-used_left.result w.if-unused.false
     ] in
     let r : RangeUnmapped first count s (after s own partly) =
-    made s own first count partly c.self.invariant.page.most_order (taken_by (g.S.Subpages.chosen c.args.subpages) (covers c.args.first c.args.count) c.self.inside.own c.unmap-unmapped.new.self c.requires.subpages c.unmap-unmapped.ensures.taken) (told s own _ _ c.if-unused.self unused c.has_use-used_left.ensures joined) in
+    made s own first count partly c.self.invariant.page.most_order c.unmap-unmapped.ensures.taken (told s own _ _ c.if-unused.self unused c.has_use-used_left.ensures joined) in
     let Q : PageState → Type 0 = λ t. RangeUnmapped first count t (after s own partly) in
     let P : PageState → Type 0 = λ t. IsChange t (after s own partly) (record { unused = c.if-self-eq0.unused; used_left = c.has_use-used_left.result; released = c.if-self.released }) in
     record {
@@ -139,7 +141,7 @@ returns g c =
               | then-self w ↦
                   w.released-is ∙ w.without_given-released.ensures
                   ∙ sym (gives_frames-range s (after s own partly) first count _ r inside w.if-self.true (c.self.invariant.page.no_whole w.if-self.true)
-                  (w.difference.ensures ∙ gone s.own own first count c.mapped-mapped.result w.mapped.result c.mapped-mapped.ensures w.mapped.ensures (taken_by (g.S.Subpages.chosen c.args.subpages) (covers c.args.first c.args.count) c.self.inside.own c.unmap-unmapped.new.self c.requires.subpages c.unmap-unmapped.ensures.taken)
+                  (w.difference.ensures ∙ gone s.own own first count c.mapped-mapped.result w.mapped.result c.mapped-mapped.ensures w.mapped.ensures c.unmap-unmapped.ensures.taken
                   ∙ bare_set (after s own partly) first count (set_of (covers first count)) w.mapped.result refl w.mapped.ensures))
               | else-self w ↦ w.released-is ∙ w.empty-released.ensures ∙ sym (gives_frames-unsplit s (after s own partly) refl w.if-self.false w.if-self.false)
             ];
