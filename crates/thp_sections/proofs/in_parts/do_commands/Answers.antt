@@ -1,4 +1,4 @@
-use Rattle.std.proofs.Common.{◌≡◌, ◌<◌, ◌∙◌, ◌+◌, ◌++◌, ◌∷◌, [], ℕ, Bool, List, ap, arith, inl, sym, subst, get_or, length, length-append, refl, rules, Some}
+use Rattle.std.proofs.Common.{◌≡◌, ◌<◌, ◌∙◌, ◌+◌, ◌++◌, ◌∷◌, [], ℕ, Bool, List, ap, arith, sym, subst, get_or, length, length-append, rules, Some}
 use Rattle.std.specs.Prelude.{slice_get, All}
 use Rattle.std.proofs.lemmas.List.{length-set}
 use Rattle.std.proofs.lemmas.List.Elements.{All-append}
@@ -6,7 +6,7 @@ use Rattle.std.proofs.lemmas.Option.{slice_get-get_or}
 use Rattle.thp_text.specs.declared.script.Op.TheVariants.{Alloc}
 use Rattle.thp_sections.specs.Does.{Reaction, answer_of}
 use Rattle.thp_sections.specs.OpenBatches.{marked}
-use Rattle.thp_sections.specs.Turns.{first_begun, Ended}
+use Rattle.thp_sections.specs.Turns.{first_begun}
 use Rattle.thp_sections.specs.Sections.{Begins, IsCommandFor, Proceeds}
 use Rattle.thp_sections.proofs.CommandLaws.{cell_comes}
 use Rattle.thp_sections.proofs.OpenLaws.{marked_alike}
