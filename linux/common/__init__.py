@@ -1,9 +1,14 @@
 """What the tools of the running kernel share. Each module says at its head what it gives:
 
-    errors          Unavailable (this machine lacks something), the exit statuses, `run_tool`
-    files           small text files of sysfs, procfs and cgroupfs; the folders of transparent huge pages
+    errors          the exceptions of the tools and their exit statuses
+    tool            run_tool: a tool from its start to its exit status
+    text            text from outside: split at line feeds, escaped before it is printed
+    words           the command line: a parser with errors of one line, numbers within limits
+    files           files of sysfs, procfs and cgroupfs; a tool's inputs and outputs; the folders of huge pages
     keeper          Keeper: the tools' one lock; settings, control groups and processes that go away at any end
     guardian        the small process that does so; started by Keeper, needs nothing of this package
+    holding         held: processes and control groups held still for a limited time
+    user            the users as whom other programs are run
     groups          Groups: memory control groups of version 1 or 2, and a reclaim in one
     page_files      pagemap of a process, kpageflags, kpagecount, kpagecgroup; the flags by name
     counters        the statistics of /proc/vmstat and of each page size
@@ -11,7 +16,7 @@
     btf             the running kernel's types: offsets and sizes of fields, values of enumerators
     kernel_memory   KernelMemory: kernel memory read by a BPF program; control groups, queues, struct page
     machine         Part: what this machine can run and why not, as a table
-    helpers         the C helpers: built into linux/out at need
+    helpers         the C helpers: installed, or compiled at need
     subpages        sets of subpages as numbers, and as text
     journal         NodeJournal, Event: journals as text
     program         Program: `thpsplit` found and called; its totals, answers and journals read

@@ -4,9 +4,12 @@ from __future__ import annotations
 
 import signal
 import sys
+from pathlib import Path
 from typing import Callable, NoReturn
 
-DONE, DIFFERS, USAGE, FAILED, SKIPPED = 0, 1, 2, 3, 77
+from .text import escaped
+
+DONE, DIFFERS, USAGE, FAILED, INCONCLUSIVE, BUSY, SKIPPED = 0, 1, 2, 3, 4, 75, 77
 
 
 class Unavailable(Exception):
@@ -14,15 +17,19 @@ class Unavailable(Exception):
 
 
 class RunFailed(Exception):
-    """A run that had begun can't go on; what was told until then stands."""
+    """A run that had begun can't continue; what was reported before is valid."""
 
 
 class InputFault(Exception):
-    """A text or an option that the tools can't use; the text says where and why."""
+    """A text or an option that the tools can't use; the text names the place and the reason."""
+
+
+class Busy(Exception):
+    """Another tool holds the machine's lock; the text names it."""
 
 
 def end_by_signals() -> None:
-    """SIGTERM and SIGHUP end the tool as an exception does, so that everything is put back on the way."""
+    """Makes SIGTERM and SIGHUP end the tool as an exception does, so that everything is put back on the way."""
 
     def stop(number: int, _frame: object) -> NoReturn:
         raise SystemExit(128 + number)
@@ -31,23 +38,37 @@ def end_by_signals() -> None:
         signal.signal(number, stop)
 
 
+def place_of(error: BaseException) -> str:
+    """Where an exception arose: the file's name and the line."""
+    trace = error.__traceback__
+    while trace and trace.tb_next:
+        trace = trace.tb_next
+    return f"{Path(trace.tb_frame.f_code.co_filename).name}:{trace.tb_lineno}" if trace else "unknown place"
+
+
+def status_of(name: str, error: BaseException) -> int:
+    """Reports an exception in one line on standard error, and returns the tool's status for it."""
+    statuses = {Unavailable: SKIPPED, InputFault: USAGE, RunFailed: FAILED, Busy: BUSY}
+    status = next((number for kind, number in statuses.items() if isinstance(error, kind)), FAILED)
+    if isinstance(error, KeyboardInterrupt):
+        text, status = "interrupted", 128 + signal.SIGINT
+    elif isinstance(error, Unavailable):
+        text = f"skipped: {error}"
+    elif isinstance(error, (InputFault, RunFailed, Busy)):
+        text = str(error)
+    elif isinstance(error, MemoryError):
+        text = "out of memory"
+    elif isinstance(error, OSError):
+        where = f"{error.filename}: " if error.filename is not None else ""
+        text = f"{where}{error.strerror or error} (at {place_of(error)})"
+    else:
+        text = f"internal error: {type(error).__name__}: {error} (at {place_of(error)})"
+    print(f"{name}: {escaped(text)}", file=sys.stderr, flush=True)
+    return status
+
+
 def run_tool(name: str, main: Callable[[], int]) -> NoReturn:
-    """Runs a tool's main function and ends with its status: 77 and one line where the machine lacks something."""
-    end_by_signals()
-    try:
-        status = main()
-    except Unavailable as lacking:
-        print(f"{name}: skipped: {lacking}", file=sys.stderr)
-        status = SKIPPED
-    except InputFault as fault:
-        print(f"{name}: {fault}", file=sys.stderr)
-        status = USAGE
-    except RunFailed as failure:
-        print(f"{name}: {failure}", file=sys.stderr)
-        status = FAILED
-    except KeyboardInterrupt:
-        print(f"{name}: interrupted", file=sys.stderr)
-        status = 128 + signal.SIGINT
-    except BrokenPipeError:
-        status = 128 + signal.SIGPIPE
-    sys.exit(status)
+    """See tool.py."""
+    from . import tool
+
+    tool.run_tool(name, main)

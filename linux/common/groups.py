@@ -14,6 +14,7 @@ from typing import List, Optional
 from .errors import Unavailable
 from .files import BASE, read, write
 from .keeper import Keeper
+from .text import text_lines
 
 
 @dataclass(frozen=True)
@@ -29,7 +30,7 @@ def find_hierarchy(mounts: Optional[str] = None, own: Optional[str] = None) -> H
     """The memory hierarchy by /proc/mounts and /proc/self/cgroup (or texts in their form)."""
     mounts = read("/proc/mounts") if mounts is None else mounts
     own = read("/proc/self/cgroup") if own is None else own
-    lines: List[List[str]] = [line.split() for line in mounts.splitlines()]
+    lines: List[List[str]] = [words for words in (line.split(" ") for line in text_lines(mounts)) if len(words) > 3]
     for words in lines:
         if words[2] == "cgroup" and "memory" in words[3].split(","):
             place = re.search(r"^\d+:(?:[^:]*,)?memory(?:,[^:]*)?:(.*)$", own, re.MULTILINE)

@@ -1,36 +1,90 @@
-"""The C helpers, built at need: `linux/NAME.c` or `linux/FOLDER/NAME.c` becomes `linux/out/NAME`."""
+"""The C helpers: those that `make install` compiled, or compiled at need into a folder of the caller's own.
+
+A compiled helper is trusted only where nobody else could have written it: beside an installed tool, which is root's, or
+in a folder of the caller's own with mode 0700, under the hash of its source and of the compiler's words. That folder is
+no part of /run, from which programs may not be run on Debian.
+"""
 
 from __future__ import annotations
 
+import hashlib
 import os
+import shlex
 import shutil
+import stat
 import subprocess
 from pathlib import Path
-from typing import Sequence
+from typing import List, Sequence
 
 from .errors import Unavailable
+from .keeper import open_folder
+from .text import escaped
 
 LINUX = Path(__file__).resolve().parent.parent
-OUT = LINUX / "out"
+INSTALLED = LINUX / "out"  # where `make install` puts them
 FLAGS = ("-std=c11", "-O2", "-Wall", "-Wextra")
+SECONDS = 60.0  # that a compiler gets
 
 
 def helper(source: str, flags: Sequence[str] = ()) -> str:
-    """The path of the helper of this source (a path below linux/), built if it is older than the source."""
+    """Returns the path of the compiled helper of this source, a path below linux/. Unavailable where none can be
+    made."""
     path = LINUX / source
-    shared = "-shared" in flags
-    built = OUT / (path.stem + (".so" if shared else ""))
-    if built.exists() and built.stat().st_mtime >= path.stat().st_mtime:
-        return str(built)
-    compiler = shutil.which(os.environ.get("CC", "cc")) or shutil.which("gcc")
-    if compiler is None:
-        raise Unavailable("no C compiler (cc or gcc) for the helper " + path.name)
-    OUT.mkdir(exist_ok=True)
-    part = built.with_name(f"{built.name}.{os.getpid()}")
-    done = subprocess.run(
-        [compiler, *FLAGS, *flags, "-o", str(part), str(path), "-lpthread"], capture_output=True, text=True, check=False
-    )
-    if done.returncode:
-        raise Unavailable(f"{path.name} isn't compiled here: {done.stderr.strip().splitlines()[-1]}")
-    os.replace(part, built)
+    name = path.stem + (".so" if "-shared" in flags else "")
+    if is_trusted(INSTALLED / name):
+        return str(INSTALLED / name)
+    compiler = shlex.split(os.environ.get("CC", "")) or [shutil.which("cc") or shutil.which("gcc") or ""]
+    if not shutil.which(compiler[0]):
+        raise Unavailable(f"no C compiler ({escaped(compiler[0] or 'cc')}) for the helper {path.name}")
+    words = [*compiler, *FLAGS, *flags]
+    built = own_folder_of_helpers() / f"{hash_of(path, words)}-{name}"
+    if not built.exists():
+        compile_helper(words, path, built)
     return str(built)
+
+
+def is_trusted(built: Path) -> bool:
+    """Returns whether a file and the folders that it is in are root's, and nobody else may write into them."""
+    try:
+        found = [os.lstat(each) for each in (built, *built.parents)]
+    except OSError:
+        return False
+    return all(each.st_uid == 0 and (not each.st_mode & 0o022 or each.st_mode & stat.S_ISVTX) for each in found)
+
+
+def own_folder_of_helpers() -> Path:
+    """Returns the caller's own folder of compiled helpers."""
+    cache = Path("/var/cache")
+    if os.geteuid() != 0:
+        cache = Path(os.environ.get("XDG_CACHE_HOME") or Path.home() / ".cache")
+    try:
+        cache.mkdir(mode=0o700, parents=True, exist_ok=True)
+    except OSError as error:
+        raise Unavailable(f"{cache} can't be made: {error.strerror}") from error
+    open_folder(str(cache / "leversorrel"))
+    return cache / "leversorrel"
+
+
+def hash_of(path: Path, words: List[str]) -> str:
+    """Returns the hash of a source and of the compiler's words."""
+    return hashlib.sha256(path.read_bytes() + b"\0" + "\0".join(words).encode()).hexdigest()[:32]
+
+
+def compile_helper(words: List[str], path: Path, built: Path) -> None:
+    """Compiles a helper. It appears under its name once it is whole."""
+    part = built.with_name(f"{built.name}.{os.getpid()}")
+    try:
+        done = subprocess.run(
+            [*words, "-o", str(part), str(path), "-lpthread"], stdin=subprocess.DEVNULL, capture_output=True,
+            check=False, timeout=SECONDS, cwd="/",
+        )
+        if done.returncode or not part.exists():
+            told = done.stderr.strip().split(b"\n")[-1]
+            reason = escaped(told)[:200] or f"{escaped(words[0])} ended with status {done.returncode} and made nothing"
+            raise Unavailable(f"{path.name} can't be compiled here: {reason}")
+        os.chmod(part, 0o755)
+        os.replace(part, built)
+    except (OSError, subprocess.TimeoutExpired) as error:
+        raise Unavailable(f"{path.name} can't be compiled here: {escaped(str(error))}") from error
+    finally:
+        part.unlink(missing_ok=True)

@@ -2,15 +2,17 @@
 
 from __future__ import annotations
 
+import ctypes
+import mmap
 import os
 from dataclasses import dataclass
 from typing import Callable, List, Optional, Tuple
 
 from .errors import Unavailable
-from .files import PMD_ORDER, PTES_NONE, SWITCH, THP, chosen, read, size_folder
+from .files import BASE, PMD_ORDER, PTES_NONE, SWITCH, THP, chosen, read, size_folder
 from .groups import find_hierarchy
 from .kernel_memory import KernelMemory
-from .page_files import Frames
+from .page_files import Frames, frames_at
 
 
 @dataclass(frozen=True)
@@ -27,7 +29,12 @@ def part(name: str, look: Callable[[], str]) -> Part:
     try:
         return Part(name, True, look())
     except (Unavailable, OSError) as lacking:
-        return Part(name, False, str(lacking).splitlines()[0])
+        return Part(name, False, first_line(lacking))
+
+
+def first_line(error: BaseException) -> str:
+    """The first line of what an exception says."""
+    return str(error).split("\n", 1)[0]
 
 
 def table(parts: List[Part]) -> str:
@@ -86,8 +93,32 @@ def counters() -> str:
 
 
 def frames() -> str:
+    demand_frame_numbers()
     Frames().close()
     return "/proc/kpageflags, /proc/kpagecount"
+
+
+def demand_frame_numbers() -> None:
+    """Unavailable where the kernel hides frame numbers: it shows 0 in their place (Documentation/admin-guide/mm/pagemap.rst)
+    to who lacks CAP_SYS_ADMIN. Tried on a page of our own."""
+    page = mmap.mmap(-1, BASE, flags=mmap.MAP_PRIVATE | mmap.MAP_ANONYMOUS)
+    page[0] = 1
+    view = ctypes.c_char.from_buffer(page)
+    frame = frames_at(os.getpid(), ctypes.addressof(view), 1)[0]
+    del view
+    page.close()
+    if not frame:
+        raise Unavailable("the kernel shows no frame numbers: CAP_SYS_ADMIN is missing")
+
+
+INITIAL_NAMESPACE = 0xEFFFFFFC  # include/linux/proc_ns.h: PROC_PID_INIT_INO
+
+
+def namespace_note() -> str:
+    """What a tool that runs in a PID namespace of its own can't see, in a line; nothing in the initial one."""
+    if os.stat("/proc/self/ns/pid").st_ino == INITIAL_NAMESPACE:
+        return ""
+    return "in a PID namespace: only the processes of this namespace are seen, others of the machine are not"
 
 
 def memory() -> Tuple[Optional[KernelMemory], List[Part]]:
@@ -95,7 +126,7 @@ def memory() -> Tuple[Optional[KernelMemory], List[Part]]:
     try:
         found = KernelMemory()
     except (Unavailable, OSError) as lacking:
-        return None, [Part("kernel memory", False, str(lacking).splitlines()[0])]
+        return None, [Part("kernel memory", False, first_line(lacking))]
 
     def located() -> str:
         found.group_fields()

@@ -3,14 +3,18 @@
 from __future__ import annotations
 
 import os
+import re
 import shutil
 import subprocess
+import tempfile
 from dataclasses import dataclass
 from pathlib import Path
-from typing import Dict, List, Optional, Sequence
+from typing import IO, Dict, List, Optional, Sequence, Union
 
-from .errors import InputFault, Unavailable
+from .errors import InputFault, RunFailed, Unavailable
 from .journal import NodeJournal, journal_of
+from .text import escaped, text_lines
+from .user import command_of, nobody
 
 HERE = Path(__file__).resolve().parent
 CRATES = HERE.parent.parent / "crates"
@@ -67,21 +71,52 @@ def find_program(given: Optional[str] = None) -> str:
     return found
 
 
+Stream = Union[int, IO[bytes], None]
+
+
+def start(
+    path: str, options: Sequence[str], stdin: Stream = None, stdout: Stream = None, stderr: Stream = None
+) -> subprocess.Popen[bytes]:
+    """Starts a program that needs no rights: where this tool is root, as user nobody, in an empty folder. Unavailable
+    where it can't be run."""
+    user = nobody()
+    with tempfile.TemporaryDirectory(prefix="leversorrel-") as empty:
+        descriptors: List[int] = []
+        try:
+            word, descriptors = command_of(path, user)
+            return subprocess.Popen(
+                [word, *options], stdin=stdin, stdout=stdout, stderr=stderr, cwd=empty, pass_fds=descriptors,
+                env={"PATH": os.defpath, "LC_ALL": "C.UTF-8"}, **user.rights(),
+            )
+        except (OSError, ValueError) as error:
+            raise Unavailable(f"{escaped(path)} can't be run: {getattr(error, 'strerror', None) or error}") from error
+        finally:
+            for each in descriptors:
+                os.close(each)
+
+
 def call(path: str, options: Sequence[str], text: str) -> subprocess.CompletedProcess[str]:
-    """Runs a program on a text."""
+    """Runs a program on a text, and returns what it wrote."""
+    pipe = subprocess.PIPE
+    child = start(path, options, pipe, pipe, pipe)
     try:
-        return subprocess.run([path, *options], input=text, capture_output=True, text=True, check=False)
-    except OSError as error:
-        raise Unavailable(f"{path} can't be run: {error.strerror}") from error
+        out, problems = child.communicate(text.encode("utf-8", "surrogateescape"))
+    except BaseException:
+        child.kill()
+        child.wait()
+        raise
+    texts = [each.decode("utf-8", "surrogateescape") for each in (out, problems)]
+    return subprocess.CompletedProcess([path, *options], child.returncode, *texts)
 
 
 def check(path: str, options: Sequence[str], journal: str) -> Verdict:
     """Whether a journal's text is legal, by a program that checks it with these options."""
     done = call(path, options, journal)
     told = (done.stdout or done.stderr).strip()
-    line = int(told.rsplit(" ", 1)[1]) if done.returncode == 1 and told.startswith("illegal line ") else None
+    found = re.fullmatch(r"illegal line ([0-9]{1,18})", told) if done.returncode == 1 else None
+    line = int(found[1]) if found else None
     if done.returncode not in (0, 1, 2) or (done.returncode == 1 and line is None):
-        raise Unavailable(f"{path} ended with status {done.returncode}: {told}")
+        raise RunFailed(f"{escaped(path)} ended with status {done.returncode}: {escaped(told)[:200]}")
     return Verdict(done.returncode == 0, line, told, done.stderr.strip() if line else "")
 
 
@@ -98,17 +133,23 @@ class Program:
     def totals(self, text: str, options: Sequence[str] = ()) -> List[Dict[str, int]]:
         """The totals of each node by their names."""
         nodes: List[Dict[str, int]] = []
-        for line in self.report("totals", text, options).splitlines():
-            name, value = line.split(" ")
-            if name == "node":
-                nodes.append({})
-            nodes[-1][name] = int(value)
+        try:
+            for line in text_lines(self.report("totals", text, options)):
+                name, value = line.split(" ")
+                if name == "node":
+                    nodes.append({})
+                nodes[-1][name] = int(value)
+        except (ValueError, IndexError) as error:
+            raise RunFailed(f"{escaped(self.path)} writes no totals") from error
         return nodes
 
     def answers(self, text: str, options: Sequence[str] = ()) -> List[Answer]:
         """The answers of all commands, in order."""
-        split = (line.split(" ", 2) for line in self.report("answers", text, options).splitlines())
-        return [Answer(int(section), int(place), words) for section, place, words in split]
+        split = (line.split(" ", 2) for line in text_lines(self.report("answers", text, options)))
+        try:
+            return [Answer(int(section), int(place), words) for section, place, words in split]
+        except ValueError as error:
+            raise RunFailed(f"{escaped(self.path)} writes no answers") from error
 
     def journal(self, text: str, options: Sequence[str] = ()) -> List[NodeJournal]:
         """The journals of all nodes."""
@@ -121,7 +162,8 @@ class Program:
     def _run(self, options: Sequence[str], text: str) -> str:
         done = call(self.path, options, text)
         if done.returncode == 2:
-            raise Refused(done.stderr.strip())
+            raise Refused(escaped(done.stderr.strip()))
         if done.returncode:
-            raise Unavailable(f"{self.path} ended with status {done.returncode}: {done.stderr.strip()}")
+            told = escaped(done.stderr.strip())[:200]
+            raise RunFailed(f"{escaped(self.path)} ended with status {done.returncode}: {told}")
         return done.stdout

@@ -70,7 +70,7 @@ def heed_interrupts() -> None:
 
 def settled() -> Shot:
     """What is there once no tool holds the lock, and ended processes have had a moment to go."""
-    with Keeper():
+    with Keeper("ends", wait=True):
         pass
     time.sleep(0.1)
     return shot()

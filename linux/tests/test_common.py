@@ -10,14 +10,16 @@ import tempfile
 import time
 import unittest
 from pathlib import Path
+from typing import List
 from unittest import mock
 
 from ..common import program as programs
 from ..common.btf import Missing, Types
-from ..common.errors import InputFault, Unavailable
+from ..common.errors import Busy, InputFault, Unavailable
 from ..common.files import chosen
 from ..common.groups import find_hierarchy
-from ..common.guardian import Guardian, write
+from ..common.guardian import put_back, write
+from ..common.holding import held
 from ..common.journal import journal_of, journal_text
 from ..common.keeper import Keeper
 from ..common.kernel_memory import QueueFields
@@ -31,7 +33,7 @@ KILLED_TOOL = """
 import os, signal, sys, time
 from linux.common.keeper import Keeper
 folder, number = sys.argv[1], int(sys.argv[2])
-with Keeper(lock=folder + "/lock") as keeper:
+with Keeper("test", folder=folder + "/run") as keeper:
     keeper.set(folder + "/setting", "new")
     keeper.set(folder + "/choice", "madvise")
     keeper.make_group(folder + "/group")
@@ -181,6 +183,7 @@ class KeeperTest(unittest.TestCase):
         made = tempfile.TemporaryDirectory()
         self.addCleanup(made.cleanup)
         self.folder = Path(made.name)
+        self.run_folder = f"{made.name}/run"
         (self.folder / "setting").write_text("old\n")
         (self.folder / "choice").write_text("always [defer] never\n")
 
@@ -193,7 +196,7 @@ class KeeperTest(unittest.TestCase):
 
     def test_an_exception_puts_back(self) -> None:
         with self.assertRaises(ZeroDivisionError):
-            with Keeper(lock=str(self.folder / "lock")) as keeper:
+            with Keeper("test", folder=self.run_folder) as keeper:
                 keeper.set(self.folder / "setting", "new")
                 keeper.set(self.folder / "setting", "newer")
                 keeper.set(self.folder / "choice", "madvise")
@@ -207,7 +210,7 @@ class KeeperTest(unittest.TestCase):
             tool = subprocess.run([sys.executable, "-c", KILLED_TOOL, str(self.folder), str(int(number))], cwd=ROOT,
                                   preexec_fn=heed_signals, capture_output=True, text=True, timeout=60, check=False)
             self.assertNotEqual(tool.returncode, 0)
-            with Keeper(lock=str(self.folder / "lock")):  # waits until the guardian has let the lock go
+            with Keeper("test", wait=True, folder=self.run_folder):  # waits until the guardian has ended
                 self.assert_as_before()
             child = int(tool.stdout.split()[0])
             until = time.monotonic() + 5
@@ -215,38 +218,71 @@ class KeeperTest(unittest.TestCase):
                 time.sleep(0.01)
             self.assertFalse(alive(child), f"its process runs on after signal {number}")
 
-    def test_a_stopped_process_runs_on_at_the_end(self) -> None:
+    def test_held_processes_run_on_at_the_end(self) -> None:
         child = subprocess.Popen(["sleep", "60"])
         try:
-            with Keeper(lock=str(self.folder / "lock")) as keeper:
-                keeper.stop(child.pid)
-                self.assertEqual(state_of(child.pid, "T"), "T")
+            with Keeper("test", folder=self.run_folder) as keeper:
+                with held(lambda: [child.pid], [], keeper) as hold:
+                    self.assertEqual(state_of(child.pid, "T"), "T")
+                self.assertEqual((hold.count, hold.problem), (1, ""))
             self.assertEqual(state_of(child.pid, "S"), "S")
+        finally:
+            child.kill()
+            child.wait()
+
+    def test_a_hold_ends_at_its_limit(self) -> None:
+        child = subprocess.Popen(["sleep", "60"])
+        try:
+            with Keeper("test", folder=self.run_folder) as keeper:
+                with held(lambda: [child.pid], [], keeper, 0.3) as hold:
+                    time.sleep(0.6)
+                    self.assertEqual(state_of(child.pid, "S"), "S")
+            self.assertIn("limit of 0.3 s", hold.problem)
+            self.assertLess(hold.seconds, 0.5)
         finally:
             child.kill()
             child.wait()
 
     def test_a_setting_that_a_group_holds_goes_back_after_it(self) -> None:
         """Version 2: a group's subtree_control can't be taken back while a group of ours below it uses it."""
-        guardian = Guardian()
         (self.folder / "group").mkdir()
-        guardian.take({"file": str(self.folder / "setting"), "text": "former"})
-        guardian.take({"group": str(self.folder / "group")})
+        entries = [{"file": str(self.folder / "setting"), "text": "former", "set": "new"},
+                   {"group": str(self.folder / "group"), "inode": 0}]
 
-        def held(path: str, text: str) -> str:
+        def refused(path: str, text: str) -> str:
             return "busy" if (self.folder / "group").exists() else write(path, text)
 
-        with mock.patch("linux.common.guardian.write", held):
-            guardian.put_back()
-        self.assertEqual(((self.folder / "setting").read_text(), guardian.problems), ("former", []))
+        with mock.patch("linux.common.guardian.write", refused):
+            self.assertEqual(put_back(entries), [])
+        self.assertEqual((self.folder / "setting").read_text(), "former")
+
+    def test_what_was_killed_with_its_guardians_is_put_back_by_the_next_tool(self) -> None:
+        tool = subprocess.Popen([sys.executable, "-c", KILLED_TOOL, str(self.folder), "19"], cwd=ROOT,
+                                stdout=subprocess.PIPE, text=True)
+        assert tool.stdout
+        child = int(tool.stdout.readline())
+        for number in [tool.pid, *descendants(tool.pid, child)]:
+            os.kill(number, signal.SIGKILL)
+        tool.wait()
+        tool.stdout.close()
+        os.kill(child, signal.SIGKILL)
+        self.assertEqual((self.folder / "setting").read_text(), "new")
+        with Keeper("test", wait=True, folder=self.run_folder):
+            self.assert_as_before()
+
+    def test_a_setting_that_was_changed_since_is_left(self) -> None:
+        entries = [{"file": str(self.folder / "setting"), "text": "former", "set": "new"}]
+        (self.folder / "setting").write_text("by an administrator\n")
+        self.assertRegex(put_back(entries, is_later=True)[0], "has been changed since to 'by an administrator'")
+        self.assertEqual((self.folder / "setting").read_text(), "by an administrator\n")
 
     def test_one_tool_at_a_time(self) -> None:
-        with Keeper(lock=str(self.folder / "lock")):
-            with self.assertRaisesRegex(Unavailable, "another tool"):
-                Keeper(wait=False, lock=str(self.folder / "lock"))
+        with Keeper("test", folder=self.run_folder):
+            with self.assertRaisesRegex(Busy, f"test, process {os.getpid()}, is running"):
+                Keeper("second", folder=self.run_folder)
 
     def test_a_setting_that_is_not_there_is_named(self) -> None:
-        with Keeper(lock=str(self.folder / "lock")) as keeper:
+        with Keeper("test", folder=self.run_folder) as keeper:
             with self.assertRaisesRegex(Unavailable, "nothing/here"):
                 keeper.set(self.folder / "nothing/here", 1)
 
@@ -258,6 +294,13 @@ def state_of(number: int, wanted: str) -> str:
         state = Path(f"/proc/{number}/stat").read_text().rsplit(")", 1)[1].split()[0]
         time.sleep(0.01)
     return state
+
+
+def descendants(number: int, spared: int) -> List[int]:
+    """The processes that a process started, and those that they started, but for one."""
+    children = Path(f"/proc/{number}/task/{number}/children").read_text().split()
+    out = [int(each) for each in children if int(each) != spared]
+    return out + [each for child in out for each in descendants(child, spared)]
 
 
 def alive(number: int) -> bool:

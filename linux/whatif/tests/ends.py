@@ -34,7 +34,7 @@ SETTINGS = [SWITCH, PTES_NONE, COLLAPSE_SLEEP, f"{size_folder(4)}/enabled", f"{s
 
 def settings() -> Dict[str, str]:
     """What verify sets, as it is. Read under the lock: another tool may have set it for a while."""
-    with Keeper():
+    with Keeper("ends", wait=True):
         return {path: read(path) for path in SETTINGS}
 
 

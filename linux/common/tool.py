@@ -1,0 +1,29 @@
+"""A tool from its start to its exit status."""
+
+from __future__ import annotations
+
+import os
+import signal
+import sys
+from typing import Callable, NoReturn
+
+from .errors import end_by_signals, status_of
+from .keeper import recover
+
+
+def run_tool(name: str, main: Callable[[], int]) -> NoReturn:
+    """Runs a tool's main function and ends with its status. Every error is one line on standard error: 77 where the
+    machine lacks something, 2 for words and texts, 75 where another tool runs, 3 for the rest. What an earlier run left that
+    was killed with its guardian is put back first."""
+    end_by_signals()
+    try:
+        for line in recover(name):
+            print(f"{name}: {line}", file=sys.stderr, flush=True)
+        status = main()
+        sys.stdout.flush()
+    except BrokenPipeError:
+        os.dup2(os.open(os.devnull, os.O_WRONLY), sys.stdout.fileno())  # nothing more can be written there
+        status = 128 + signal.SIGPIPE
+    except (Exception, KeyboardInterrupt) as error:
+        status = status_of(name, error)
+    sys.exit(status)
