@@ -21,7 +21,7 @@ from .keeper import open_folder
 from .text import escaped
 
 LINUX = Path(__file__).resolve().parent.parent
-INSTALLED = LINUX / "out"  # where `make install` puts them
+INSTALLED = ("lib", "thpsplit", "linux")  # the end of LINUX where `make install` put the tools
 FLAGS = ("-std=c11", "-O2", "-Wall", "-Wextra")
 SECONDS = 60.0  # that a compiler gets
 
@@ -31,8 +31,8 @@ def helper(source: str, flags: Sequence[str] = ()) -> str:
     made."""
     path = LINUX / source
     name = path.stem + (".so" if "-shared" in flags else "")
-    if is_trusted(INSTALLED / name):
-        return str(INSTALLED / name)
+    if LINUX.parts[-3:] == INSTALLED and is_trusted(LINUX / "out" / name):
+        return str(LINUX / "out" / name)
     compiler = shlex.split(os.environ.get("CC", "")) or [shutil.which("cc") or shutil.which("gcc") or ""]
     if not shutil.which(compiler[0]):
         raise Unavailable(f"no C compiler ({escaped(compiler[0] or 'cc')}) for the helper {path.name}")
