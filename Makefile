@@ -106,6 +106,7 @@ outside:
 	@python3 tests/docs.py
 	@python3 tests/surface.py
 	@python3 tests/installed.py
+	@python3 tests/lint.py || test $$? = 77
 	@python3 tests/examples.py $(GIVEN)
 	@$(if $(GIVEN),python3 tests/rows.py $(GIVEN))
 	@$(if $(GIVEN),python3 tests/spoilt.py $(GIVEN))

@@ -123,14 +123,14 @@ def prove(name: str, is_first: bool, started: list[subprocess.Popen[str]]) -> st
         set_up(Path(top), name)
         home = Path(top) / "crates" / name
         words = ["rt", "lib"] if is_first else ["nice", "rt", "lib", "--jobs", "1"]
-        how = {"stdin": subprocess.DEVNULL, "stdout": subprocess.PIPE, "stderr": subprocess.STDOUT}
-        child = subprocess.Popen(words, cwd=home, text=True, errors="replace", **how)
+        child = subprocess.Popen(words, cwd=home, text=True, errors="replace", stdin=subprocess.DEVNULL,
+                                 stdout=subprocess.PIPE, stderr=subprocess.STDOUT)
         started.append(child)
         if ENDING.is_set():
             child.terminate()
         said, _ = child.communicate()
         if child.returncode:
-            return said
+            return str(said)
         hand_in(home / "out", name)
     print(f"{name}: proved in {time.monotonic() - began:.0f} s", file=sys.stderr, flush=True)
     return None

@@ -11,6 +11,7 @@ import os
 import sys
 import tempfile
 from dataclasses import replace
+from functools import partial
 from pathlib import Path
 from typing import Iterator
 
@@ -208,7 +209,7 @@ def main() -> None:
         for part in (verdicts, explanations, summaries, faults, long_journals, requests, failures, shown):
             rows, failed = list(part()), tally.failed
             for row in rows:
-                tally.run(f"{row.group}: {row.name}", lambda row=row: row.wrong(path))
+                tally.run(f"{row.group}: {row.name}", partial(row.wrong, path))
             print(f"{rows[0].group}: {len(rows) - tally.failed + failed} of {len(rows)} calls", flush=True)
     tally.end()
 

@@ -11,6 +11,8 @@ import re
 import shutil
 import subprocess
 import sys
+from functools import partial
+from pathlib import Path
 
 from examples import ROOT, beside, cases, shown
 from tally import Missing, Tally
@@ -203,10 +205,10 @@ def main() -> None:
     tally.run("limits that are told are those of the code", limits_are_told)
     for document in DOCUMENTS:
         if (ROOT / document).exists():
-            tally.run(f"paths of {document}", lambda document=document: paths_are_there(document))
+            tally.run(f"paths of {document}", partial(paths_are_there, document))
     words = words_of_tree()
     for document in NAMING:
-        tally.run(f"names of docs/{document}.md", lambda document=document: names_are_there(document, words))
+        tally.run(f"names of docs/{document}.md", partial(names_are_there, document, words))
     tally.end()
 
 

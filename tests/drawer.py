@@ -13,9 +13,10 @@ import re
 import sys
 import tempfile
 from dataclasses import dataclass
+from functools import partial
 from itertools import groupby
 from pathlib import Path
-from typing import Iterator, Optional
+from typing import Callable, Iterator, Optional
 from xml.etree import ElementTree
 
 import faulty_texts
@@ -264,10 +265,12 @@ def main() -> None:
         # its name is what it is called by, whatever its file's is
         path = Path(name) / "thpdraw"
         path.symlink_to(program.resolve())
-        for part in (drawn, pictures, stored, faults, requests, failures, shown):
+        parts: tuple[Callable[[], Iterator[Row | Picture | Shown]], ...] = (
+            drawn, pictures, stored, faults, requests, failures, shown)
+        for part in parts:
             rows, failed = list(part()), tally.failed
             for row in rows:
-                tally.run(f"{row.group}: {row.name}", lambda row=row: row.wrong(path))
+                tally.run(f"{row.group}: {row.name}", partial(row.wrong, path))
             print(f"{rows[0].group}: {len(rows) - tally.failed + failed} of {len(rows)} calls", flush=True)
     tally.end()
 

@@ -14,6 +14,7 @@ import shutil
 import subprocess
 import sys
 import tempfile
+from functools import partial
 from pathlib import Path
 
 from tally import Missing, Tally
@@ -112,12 +113,12 @@ def main() -> None:
     if len(sys.argv) > 1:
         program = sys.argv[1]
         for case in cases():
-            tally.run(f"examples/{case.name}", lambda case=case: by_program(program, case))
+            tally.run(f"examples/{case.name}", partial(by_program, program, case))
         tally.run("README.md's dialogues", lambda: readme(program))
     else:
         try:
             for name, wrong in by_try().items():
-                tally.run(f"examples/{name}", lambda wrong=wrong: wrong)
+                tally.report(f"examples/{name}", wrong)
         except Missing as missing:
             tally.skip("examples", str(missing))
     tally.end()

@@ -25,7 +25,7 @@ from dataclasses import dataclass, field
 from multiprocessing import Pool
 from pathlib import Path
 from random import Random
-from typing import Callable, Iterator, Optional
+from typing import Callable, Iterator
 
 import random_texts
 import random_words
@@ -34,7 +34,7 @@ from model import REFUSALS
 from process import Ended, Word
 from random_texts import Script, joined
 from script import Run, first_illegal, sections_of
-from texts import COMMANDS, EVENTS, FAULT_WORDS, BadText, Fault, journal_fault, number, script_fault
+from texts import COMMANDS, EVENTS, FAULT_WORDS, BadText, journal_fault, number, script_fault
 
 SECONDS = 60
 """A run that takes longer counts as one that differs."""

@@ -18,7 +18,7 @@ from pathlib import Path
 from tally import SKIPPED, Tally
 
 ROOT = Path(__file__).resolve().parent.parent
-WITHOUT = ("tests/docs.py", "tests/surface.py", "tests/installed.py", "linux/tests/run.py", "linux/whatif/tests/__main__.py")
+WITHOUT = ("tests/docs.py", "tests/surface.py", "tests/installed.py", "tests/lint.py", "linux/tests/run.py", "linux/whatif/tests/__main__.py")
 """What looks at the tree alone, and the tools of the running kernel by what they stored. Those of `thpwhatif` use the
 built program where it is."""
 
@@ -58,9 +58,8 @@ def run(command: list[str], failures: list[str]) -> tuple[int, int, int]:
     A command that prints no count counts as nothing passed. Lines that name what failed are kept.
     """
     passed, failed = 0, 0
-    how = {"stdout": subprocess.PIPE, "stderr": subprocess.STDOUT, "text": True, "errors": "replace"}
     try:
-        child = subprocess.Popen(command, cwd=ROOT, **how)
+        child = subprocess.Popen(command, cwd=ROOT, stdout=subprocess.PIPE, stderr=subprocess.STDOUT, text=True, errors="replace")
     except OSError as error:
         print(f"{command[0]}: {error.strerror}", flush=True)
         return 0, 0, 127

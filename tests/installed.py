@@ -11,6 +11,7 @@ import re
 import shutil
 import subprocess
 import tempfile
+from functools import partial
 from pathlib import Path
 
 from tally import Missing, Tally
@@ -96,16 +97,16 @@ def main() -> None:
     tally = Tally()
     tally.run("make install and uninstall", puts_and_takes_away)
     for page in [*PAGES, KERNEL_PAGE]:
-        tally.run(f"no warning in {page}", lambda page=page: page_is_sound(page))
+        tally.run(f"no warning in {page}", partial(page_is_sound, page))
     for path in [PAGES[0], *COMPLETIONS.values()]:
-        tally.run(f"options in {path}", lambda path=path: options_are_told(path))
+        tally.run(f"options in {path}", partial(options_are_told, path))
     for page, files, name in (PAGES[2], CHECKER_COMPLETIONS, "options"), (PAGES[3], DRAWER_COMPLETIONS, "draw_options"):
         for path in [page, *files.values()]:
             own = f"crates/thp_journal_programs/src/{name}.rt"
-            tally.run(f"options in {path}", lambda path=path, own=own: options_are_told(path, own))
+            tally.run(f"options in {path}", partial(options_are_told, path, own))
     completions = (COMPLETIONS, CHECKER_COMPLETIONS, DRAWER_COMPLETIONS, KERNEL_COMPLETIONS)
     for shell, path in (pair for files in completions for pair in files.items()):
-        tally.run(f"syntax of {path}", lambda shell=shell, path=path: reads_as(shell, path))
+        tally.run(f"syntax of {path}", partial(reads_as, shell, path))
     tally.end()
 
 

@@ -11,6 +11,7 @@ import os
 import sys
 import tempfile
 from dataclasses import dataclass
+from functools import partial
 from pathlib import Path
 from typing import Callable, Iterable, Iterator, Optional
 
@@ -296,6 +297,11 @@ def crowd_journal(program: Path, options: tuple[str, ...], script: bytes, pages:
     return run(program, Call(CHECK, told.output)).differs_from(LEGAL)
 
 
+def wrong_of(program: Path, case: Case) -> str | None:
+    """What a program does otherwise than a case wants."""
+    return run(program, case.call).differs_from(case.wanted)
+
+
 def main() -> None:
     """Makes each call, and looks at how it ends."""
     if len(sys.argv) != 2 or not os.access(sys.argv[1], os.X_OK):
@@ -306,7 +312,7 @@ def main() -> None:
         path.symlink_to(Path(sys.argv[1]).resolve())
         for part in PARTS:
             for case in part():
-                tally.run(case.name, lambda case=case: run(path, case.call).differs_from(case.wanted))
+                tally.run(case.name, partial(wrong_of, path, case))
         tally.run("63 workers on 8 nodes", lambda: crowd(path))
         tally.end()
 

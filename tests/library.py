@@ -14,6 +14,7 @@ import re
 import shutil
 import subprocess
 import tempfile
+from collections.abc import Sequence
 from functools import cache
 from pathlib import Path
 from random import Random
@@ -156,13 +157,13 @@ def versions_agree() -> str | None:
     return None if wanted else version
 
 
-def called(command: list[str | Path], where: Path, **more: str) -> str | None:
+def called(command: Sequence[str | Path], where: Path, **more: str) -> str | None:
     """Runs a command, and answers what it said where it ends wrong."""
     if shutil.which(str(command[0])) is None and not Path(command[0]).exists():
         raise Missing(f"no {command[0]} here")
-    how = {"capture_output": True, "text": True, "errors": "replace", "timeout": SECONDS}
     try:
-        ended = subprocess.run([str(word) for word in command], cwd=where, env={**os.environ, **more}, check=False, **how)
+        ended = subprocess.run([str(word) for word in command], cwd=where, env={**os.environ, **more}, check=False,
+                               capture_output=True, text=True, errors="replace", timeout=SECONDS)
     except subprocess.TimeoutExpired:
         return f"{command[0]} took more than {SECONDS} s"
     said = (ended.stdout + ended.stderr)[-600:].strip()
@@ -278,7 +279,7 @@ def differs(replay: Path, program: Path, script: Script, options: list[str]) -> 
             return f"the program ended with status {ended.returncode}"
         wanted += ended.stdout
     for way in ("nodes", "passes"):
-        command = [replay, way, str(script.shapes[0][0]), *shapes]
+        command = [str(replay), way, str(script.shapes[0][0]), *shapes]
         ended = subprocess.run(command, input=script.text(), capture_output=True, check=False)
         if ended.returncode != 0:
             return f"by {way}: status {ended.returncode}: {ended.stderr.decode(errors='replace')}"

@@ -57,9 +57,9 @@ def main() -> None:
     with tempfile.TemporaryDirectory() as folder:
         refuser = Refuser(pathlib.Path(folder))
         for case in cases():
-            tally.run(case[0], lambda case=case: told(try_case(refuser, program, *case)))
+            tally.run(case[0], lambda: told(try_case(refuser, program, *case)))
         for named in tests:
-            tally.run(named, lambda named=named: told(try_tests(refuser, named)))
+            tally.run(named, lambda: told(try_tests(refuser, named)))
     tally.end()
 
 
@@ -73,7 +73,7 @@ class Refuser:
 
     def __init__(self, folder: pathlib.Path) -> None:
         self.folder, self.library = folder, folder / "refuse.so"
-        words = [*COMPILER.split(), "-O2", "-shared", "-fPIC", "-o", self.library, HERE / "refuse.c", "-ldl"]
+        words = [*COMPILER.split(), "-O2", "-shared", "-fPIC", "-o", str(self.library), str(HERE / "refuse.c"), "-ldl"]
         subprocess.run(words, check=True)
 
     def run(self, words: Sequence[str], text: str, which: str = "MEMORY", number: int = 0) -> tuple[Ran, int, int]:

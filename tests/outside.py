@@ -13,6 +13,7 @@ import os
 import sys
 import tempfile
 from dataclasses import dataclass
+from functools import partial
 from pathlib import Path
 from typing import Callable, Iterator, Optional
 
@@ -161,9 +162,9 @@ def words_at_fault() -> Iterator[Row]:
     yield usage_row("-- zzz", usage.unexpected("zzz"))
     yield usage_row("thirty words", usage.unexpected("zzz"), ("zzz",) * 30)
     yield usage_row("two thousand words", usage.unexpected("zzz"), ("--check", *("zzz",) * 2000))
-    not_text = {"alone": (b"\xff",), "a value": ("--orders", b"9\xff"), "behind --help": ("--help", b"--\xc3")}
-    for name, given in not_text.items():
-        call = Call(given, b"fly\n", untouched=True)
+    not_text: dict[str, tuple[Word, ...]] = {"alone": (b"\xff",), "a value": ("--orders", b"9\xff"), "behind --help": ("--help", b"--\xc3")}
+    for name, words_given in not_text.items():
+        call = Call(words_given, b"fly\n", untouched=True)
         yield Row("not text", f"a word that isn't UTF-8, {name}", call, told(usage.NOT_TEXT))
 
 
@@ -198,12 +199,12 @@ def script_faults() -> Iterator[Row]:
     """Each fault of a script, whatever report is asked for; and each command with a word too many and too few."""
     for text, line, word in faulty_texts.SCRIPTS:
         yield fault_row("scripts at fault", "", text, line, word)
-    for line in ("--report journal", "--report answers --nodes 8 --blocks 4096 --workers 63"):
-        yield fault_row("scripts at fault", line, FIRST + b"fly\n", FIRST.count(b"\n") + 1, "bad-word")
+    for options in ("--report journal", "--report answers --nodes 8 --blocks 4096 --workers 63"):
+        yield fault_row("scripts at fault", options, FIRST + b"fly\n", FIRST.count(b"\n") + 1, "bad-word")
     for command, count in faulty_texts.COUNTS.items():
-        for operands in (count - 1, count + 1):
-            text = f"setup\n{' '.join((command, *'0' * operands))}\n".encode()
-            yield fault_row("scripts at fault", "", text, 2, "bad-count")
+        for many in (count - 1, count + 1):
+            line_of_many = f"setup\n{' '.join((command, *'0' * many))}\n".encode()
+            yield fault_row("scripts at fault", "", line_of_many, 2, "bad-count")
         text = f"setup\n{' '.join((command, *'0' * (count - 1)))} x\n".encode()
         yield fault_row("scripts at fault", "", text, 2, "bad-number")
     yield fault_row("scripts at fault", "--nodes 8", b"setup\nalloc 7\nalloc 8\n", 3, "bad-number")
@@ -340,7 +341,7 @@ def test(tally: Tally, program: Path) -> None:
     for group in dict.fromkeys(row.group for row in all_rows):
         failed, own = tally.failed, [row for row in all_rows if row.group == group]
         for row in own:
-            tally.run(f"{group}: {row.name}", lambda row=row: row.wrong(program))
+            tally.run(f"{group}: {row.name}", partial(row.wrong, program))
         print(f"{group}: {len(own) - tally.failed + failed} of {len(own)} calls", flush=True)
 
 
@@ -348,7 +349,7 @@ def self_test(tally: Tally, program: Path, folder: Path) -> None:
     """Each wrong program is refused by a row, and a program that is only wrapped by none."""
     for wrong in wrong_programs.all_of(program):
         path = wrong.write(folder)
-        tally.run(f"refused: {wrong.name}", lambda path=path, wrong=wrong: passes(path, wrong.group))
+        tally.run(f"refused: {wrong.name}", partial(passes, path, wrong.group))
     path = wrong_programs.wrapped(program).write(folder)
     tally.run("a wrapped program isn't refused", lambda: first_wrong(path))
 

@@ -92,8 +92,8 @@ def links(root: Path) -> Optional[str]:
     """What is wrong where a program in C is built on the installed library and run, or None."""
     place = next((root / "usr/lib").glob("*/libthp.so")).parent
     first = root.parent / "first"
-    words = ["cc", ROOT / "c/demos/first.c", f"-I{root}/usr/include", f"-L{place}", "-lthp", "-o", first]
-    for command in (words, [first]):
+    words = ["cc", str(ROOT / "c/demos/first.c"), f"-I{root}/usr/include", f"-L{place}", "-lthp", "-o", str(first)]
+    for command in (words, [str(first)]):
         done = subprocess.run(command, capture_output=True, text=True, env={**os.environ, "LD_LIBRARY_PATH": str(place)})
         if done.returncode != 0:
             return f"{command[0]}: {done.stderr.strip()}"

@@ -4,8 +4,9 @@ from __future__ import annotations
 
 from dataclasses import dataclass, field
 from random import Random
-from typing import Optional
+from typing import Iterable, Iterator
 
+from model import Node
 from script import Run, Shape
 from texts import BATCH_WORDS, COMMANDS, EVENTS, MOST_NUMBER, NODE_WORDS, OUTCOMES, PAGE_WORDS, RANGE_WORDS
 
@@ -258,5 +259,3 @@ def spoilt_line(chance: Random, line: str, words: tuple[str, ...]) -> str:
     else:
         parts[min(at, 1)] = chance.choice(words)
     return " ".join(parts)
-
-

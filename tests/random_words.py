@@ -12,6 +12,7 @@ from random_texts import MOST_NODES, option
 
 STORED = Path(__file__).resolve().parent / "stored"
 
+
 def usable(chance: Random, name: str) -> str:
     """A value that an option takes, whatever the others are."""
     if name in usage.MOST:
@@ -25,7 +26,7 @@ def front(chance: Random, but: str = "") -> tuple[list[str], list[Word]]:
     used = chance.sample(names, chance.choice((0, 0, 1, 2, len(names))))
     words: list[Word] = []
     for name in used:
-        words += [f"--{name}"] if usage.OPTIONS[name] is None else option(chance, name, usable(chance, name))
+        words.extend((f"--{name}",) if usage.OPTIONS[name] is None else option(chance, name, usable(chance, name)))
     return used, words
 
 

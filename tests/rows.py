@@ -11,6 +11,7 @@ from __future__ import annotations
 import os
 import sys
 from dataclasses import dataclass
+from functools import partial
 from pathlib import Path
 from typing import Optional
 
@@ -466,9 +467,9 @@ def main() -> None:
         sys.exit(f"{program} is no program\n\n{__doc__}")
     tally = Tally()
     for row in ROWS:
-        tally.run(row.name, lambda row=row: row.wrong(program))
+        tally.run(row.name, partial(row.wrong, program))
     for whole in WHOLE:
-        tally.run(f"{whole.name}: totals", lambda whole=whole: whole.wrong(program))
+        tally.run(f"{whole.name}: totals", partial(whole.wrong, program))
     tally.run("counts_at_their_limit", lambda: counts_at_their_limit(program))
     tally.run("two_workers", lambda: two_workers(program))
     tally.end()

@@ -292,7 +292,7 @@ def main() -> None:
         path.symlink_to(given.program.resolve())
         cases = [Case(path, given.seed, place) for place in range(given.cases)]
         for case, told in zip(cases, pool.imap(wrong, cases)):
-            tally.run(f"table {case.place} of seed {case.seed}", lambda told=told: told)
+            tally.report(f"table {case.place} of seed {case.seed}", told)
     tally.end()
 
 

@@ -30,6 +30,10 @@ class Tally:
         except Missing as missing:
             self.skip(name, str(missing))
             return
+        self.report(name, wrong)
+
+    def report(self, name: str, wrong: str | None) -> None:
+        """Counts a test of which it is known what is wrong, or None."""
         if wrong is None:
             self.passed += 1
             if not self.is_brief:
