@@ -18,7 +18,10 @@ from pathlib import Path
 from tally import SKIPPED, Tally
 
 ROOT = Path(__file__).resolve().parent.parent
-WITHOUT = ("tests/docs.py", "tests/surface.py", "tests/installed.py", "tests/lint.py", "linux/tests/run.py", "linux/whatif/tests/__main__.py")
+WITHOUT = (
+    "tests/docs.py", "tests/surface.py", "tests/installed.py", "tests/lint.py", "linux/tests/run.py",
+    "linux/whatif/tests/__main__.py",
+)
 """What looks at the tree alone, and the tools of the running kernel by what they stored. Those of `thpwhatif` use the
 built program where it is."""
 
