@@ -11,10 +11,11 @@ import re
 from dataclasses import dataclass
 from typing import List, Optional
 
-from .errors import Unavailable
+from .errors import InputFault, Unavailable
 from .files import BASE, read, write
+from .guardian import hierarchies
 from .keeper import Keeper
-from .text import text_lines
+from .text import escaped, text_lines
 
 
 @dataclass(frozen=True)
@@ -43,6 +44,20 @@ def find_hierarchy(mounts: Optional[str] = None, own: Optional[str] = None) -> H
                 return Hierarchy(2, words[1], words[1].rstrip("/"))
             raise Unavailable(f"no memory control groups: {words[1]} has no memory controller")
     raise Unavailable("no memory control groups: no hierarchy is mounted")
+
+
+def checked_group(path: str) -> str:
+    """Returns the real path of a control group's folder. InputFault where the folder isn't one: its files could be anybody's,
+    and a link could lead anywhere."""
+    real = os.path.realpath(path)
+    for folder, _, _ in hierarchies():
+        try:
+            is_inside = real == folder or real.startswith(folder.rstrip("/") + "/")
+            if is_inside and os.stat(real).st_dev == os.stat(folder).st_dev and os.path.isdir(real):
+                return real
+        except OSError:
+            continue
+    raise InputFault(f"{escaped(path)} is no control group")
 
 
 class Groups:

@@ -126,7 +126,7 @@ def kill_member(group: str, number: int) -> None:
         send(number, start, signal.SIGKILL)
 
 
-def mounts() -> List[Tuple[str, str, str]]:
+def hierarchies() -> List[Tuple[str, str, str]]:
     """Returns the mounted control group hierarchies as (folder, type, options)."""
     out = []
     with open("/proc/self/mounts", "rb") as file:
@@ -140,7 +140,7 @@ def mounts() -> List[Tuple[str, str, str]]:
 
 def leave_groups() -> None:
     """Moves this process to the top of the hierarchies by which processes are ended or frozen, where that is allowed."""
-    for folder, kind, options in mounts():
+    for folder, kind, options in hierarchies():
         if kind == "cgroup2" or set(HIERARCHIES) & set(options.split(",")):
             write(f"{folder}/cgroup.procs", str(os.getpid()))
 
@@ -153,7 +153,7 @@ def groups_of(number: int) -> List[str]:
     for line in lines:
         _, _, rest = line.partition(":")
         controllers, _, path = rest.partition(":")
-        for folder, kind, options in mounts():
+        for folder, kind, options in hierarchies():
             is_there = kind == "cgroup2" if not controllers else set(controllers.split(",")) <= set(options.split(","))
             if path.startswith("/") and is_there:
                 out.append((folder.rstrip("/") + path).rstrip("/"))

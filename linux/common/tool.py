@@ -11,10 +11,25 @@ from .errors import end_by_signals, status_of
 from .keeper import recover
 
 
+def open_standard_streams() -> None:
+    """Opens /dev/null where the caller closed a standard stream, so that no other file gets its descriptor."""
+    for number in range(3):
+        try:
+            os.fstat(number)
+        except OSError:
+            os.open(os.devnull, os.O_RDWR)
+    for name in ("stdout", "stderr"):
+        if getattr(sys, name) is None:
+            setattr(sys, name, open(os.devnull, "w", encoding="utf-8"))
+    if sys.stdin is None:
+        sys.stdin = open(os.devnull, encoding="utf-8")
+
+
 def run_tool(name: str, main: Callable[[], int]) -> NoReturn:
     """Runs a tool's main function and ends with its status. Every error is one line on standard error: 77 where the
     machine lacks something, 2 for words and texts, 75 where another tool runs, 3 for the rest. What an earlier run left that
     was killed with its guardian is put back first."""
+    open_standard_streams()
     end_by_signals()
     try:
         for line in recover(name):

@@ -121,7 +121,7 @@ def sleeper(group: str = "") -> Iterator[int]:
 def freezers() -> Dict[str, str]:
     """Returns the folders of the hierarchies by which groups are frozen."""
     out = {}
-    for folder, kind, options in mounts():
+    for folder, kind, options in hierarchies():
         if kind == "cgroup2":
             out["cgroup.freeze"] = folder
         elif "freezer" in options.split(","):
@@ -232,7 +232,7 @@ def settings() -> List[str]:
 
 
 def left_groups() -> List[str]:
-    return [path for folder, _, options in mounts() if folder for path, _, _ in os.walk(folder) if "thpsetter" in path]
+    return [path for folder, _, options in hierarchies() if folder for path, _, _ in os.walk(folder) if "thpsetter" in path]
 
 
 def settings_are_put_back(kill: Callable[[subprocess.Popen[str]], None]) -> Optional[str]:
