@@ -25,7 +25,7 @@ sys.path.insert(0, str(ROOT))
 from linux.common import user  # noqa: E402
 from linux.common.errors import BUSY, SKIPPED, USAGE  # noqa: E402
 from linux.common.files import PTES_NONE, SWITCH, read, write  # noqa: E402
-from linux.common.guardian import mounts  # noqa: E402
+from linux.common.guardian import hierarchies  # noqa: E402
 from linux.common.holding import freezer_of, is_frozen, is_stopped  # noqa: E402
 from linux.common.keeper import FOLDER, Keeper, recover  # noqa: E402
 from linux.tests.cases import Cases, Missing  # noqa: E402
