@@ -62,7 +62,7 @@ static void set_bits(uint64_t *set, long first, long count) {
 /* Adds `count` subpages from `first` on of the huge page at frame `head`; subpage 0 is, or would be, at `address`. */
 static void put_piece(struct walk *w, uint64_t address, uint64_t head, uint64_t flags, long first, long count,
                       int order, int by_pmd) {
-    if (order != PMD_ORDER && !w->with_small) { w->small += first == 0; return; }
+    if (order != PMD_ORDER && (!w->with_small || order < 2)) { w->small += first == 0; return; }
     long *last = &w->recent[(head >> order ^ address / BASE) % RECENT];
     if (!by_pmd && *last < w->found) {
         struct piece *p = &w->out[*last];

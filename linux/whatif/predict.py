@@ -124,7 +124,8 @@ class Predictor:
         except (ValueError, IndexError, KeyError) as error:
             raise RunFailed(f"{escaped(self._program.path)} writes no totals") from error
         if len(rows) != len(script.nodes):
-            raise RunFailed(f"{escaped(self._program.path)} writes totals of {len(rows)} nodes, not {len(script.nodes)}")
+            path = escaped(self._program.path)
+            raise RunFailed(f"{path} writes totals of {len(rows)} nodes, not {len(script.nodes)}")
         return rows
 
     def _nodes(self, threshold: int) -> List[List[Row]]:

@@ -67,11 +67,11 @@ class Queues:
         flags, following = (struct.unpack_from("<Q", raw, o)[0] for o in (at.flags, at.link))
         folio.is_queued = folio.order > 1 and following != address + at.link
         folio.is_partly = bool(flags & at.partly)
-        folio.whole = entire + 1
+        whole = folio.whole = max(0, entire + 1)
         if large == entire:  # no mapping by PTEs: each subpage has the same count
-            folio.totals = even(max(0, folio.whole), folio.size)
+            folio.totals = even(whole, folio.size)
         folio.pins = references - (large + 1) - (folio.size if folio.is_swap_cached else 0)
-        return references > 0
+        return bool(references > 0)
 
     def places(self, groups: List[int], wanted: Set[int]) -> Dict[int, int]:
         """Returns the place in its queue of each wanted page (by frame) of these control groups (inodes). A queue that

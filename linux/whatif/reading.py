@@ -17,14 +17,14 @@ import struct
 import time
 from array import array
 from bisect import bisect_right
-from collections import Counter
+from collections import Counter, defaultdict
 from concurrent.futures import ThreadPoolExecutor
 from dataclasses import replace
-from typing import Callable, Dict, List, Optional, Tuple
+from typing import Callable, Dict, List, Optional, Sequence, Tuple
 
 from ..common.direct_map import DirectMap
 from ..common.errors import Unavailable
-from ..common.files import BASE, PMD_ORDER
+from ..common.files import BASE
 from ..common.helpers import helper
 from ..common.page_files import PageFlag, frame_of_entry
 from ..common.subpages import bits_of
@@ -142,7 +142,7 @@ class Reader:
         self.left_out: Counter[str] = Counter()
         self.others = 0  # anonymous pages that aren't huge, base pages
         self.by_pmd: Counter[int] = Counter()  # PMD mappings by process
-        self.spent: Counter[str] = Counter()  # seconds by step
+        self.spent: Dict[str, float] = defaultdict(float)  # seconds by step
 
     def close(self) -> None:
         """Closes the kernel's files."""
@@ -325,21 +325,30 @@ def is_mapped(file: int, frame: int, mapping: Mapping) -> bool:
 
 
 class OpenFiles:
-    """A file of each of some processes, at most OPEN at a time, all closed at the end of a `with`."""
+    """A file of each of some processes, at most `most` at a time, all closed at the end of a `with`."""
 
-    def __init__(self, name: str) -> None:
-        self._name, self._open = name, {}  # type: Tuple[str, Dict[int, int]]
+    def __init__(self, name: str, most: int = OPEN) -> None:
+        self._name, self._most = name, most
+        self._open: Dict[int, int] = {}
 
     def of(self, process: int) -> int:
         """Returns the process's open file; -1 where it can't be opened."""
         if process not in self._open:
-            if len(self._open) >= OPEN:
+            if len(self._open) >= self._most:
                 self.close()
             try:
                 self._open[process] = os.open(path_of(process, self._name), os.O_RDONLY | os.O_CLOEXEC)
             except OSError:
                 self._open[process] = -1  # it ended: what nobody else maps stays unknown
         return self._open[process]
+
+    def numbers(self, process: int, first: int, count: int) -> Sequence[int]:
+        """Returns `count` 64-bit numbers of the process's file from place `first` on; none where they can't be read."""
+        try:
+            raw = os.pread(self.of(process), 8 * count, 8 * first)
+        except OSError:
+            return ()
+        return array("Q", raw[: len(raw) // 8 * 8])
 
     def close(self) -> None:
         """Closes all files."""

@@ -16,7 +16,7 @@ from __future__ import annotations
 import enum
 from dataclasses import dataclass
 from functools import lru_cache
-from typing import List, Sequence
+from typing import Dict, List, Sequence
 
 from ..common.files import PMD_ORDER
 from ..common.subpages import size
@@ -171,7 +171,7 @@ def tell(said: Said, node: int, page: int) -> str:
         words.append(f"unread {folio.size - size(folio.known)}")
     if folio.pins:
         words.append(f"pins {folio.pins}")
-    by = {}
+    by: Dict[int, int] = {}
     for mapping in folio.mappings:
         by[mapping.process] = by.get(mapping.process, 0) + mapping.by_pmd
     if by:

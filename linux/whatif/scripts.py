@@ -11,7 +11,7 @@ import os
 import re
 import tempfile
 from dataclasses import dataclass, field
-from typing import BinaryIO, Dict, Iterable, Iterator, List, Optional, Sequence, Tuple
+from typing import IO, Dict, Iterable, Iterator, List, Optional, Sequence, Tuple
 
 from ..common.errors import InputFault, RunFailed
 from ..common.files import PMD_ORDER
@@ -35,7 +35,7 @@ class Spool:
 
     def __init__(self) -> None:
         try:
-            self._file: BinaryIO = tempfile.TemporaryFile(prefix="thpwhatif-")
+            self._file: IO[bytes] = tempfile.TemporaryFile(prefix="thpwhatif-")
         except OSError as error:
             raise RunFailed(f"no temporary file: {error.strerror}") from error
         self.length = 0

@@ -2,30 +2,35 @@
 
 from __future__ import annotations
 
+import json
 import os
 import re
 import sys
 import time
 from collections import Counter
+from contextlib import ExitStack
 from dataclasses import dataclass, field
-from typing import Any, Dict, List, Optional, Set
+from typing import Any, Dict, Iterator, List, Optional, Set, Tuple
 
 from ..common.direct_map import DirectMap
 from ..common.errors import Unavailable
 from ..common.files import BASE, PMD_ORDER, PTES_NONE, SWITCH, read
 from ..common.groups import find_hierarchy
+from ..common.holding import LIMIT, held
+from ..common.keeper import Keeper
 from ..common.kernel_memory import KernelMemory
 from ..common.machine import namespace_note
 from ..common.text import escaped
 from .folios import Folio
 from .proc import Unreadable, anonymous_huge, group_names, lacking, machine_huge, name_of
-from .processes import Choice, held
+from .processes import Choice
 from .queues import Queues
 from .reading import MEMORY, MOVED, Progress, Reader
 from .rights import demand_frames, demand_signals, missing_for_kernel, refusal
 from .saying import Said, Unsayable, prepare
 from .scripts import Script, write_scripts
 
+NAME = "thpwhatif"
 VERSION = 1  # of what `Snapshot.to_json` makes
 FREED = "huge pages that were freed while they were read"
 
@@ -39,7 +44,7 @@ class How:
     with_kernel: bool = True  # queues, flags and pins by BPF
     all_queued: bool = False  # as if each page of PMD size still stood in its queue
     threads: int = 0
-    freeze_limit: float = 10.0  # seconds for which processes are held at most
+    freeze_limit: float = LIMIT  # seconds for which processes are held at most
     wait: bool = False  # for another tool that holds processes
     memory: int = MEMORY  # MiB that the look keeps at most
 
@@ -67,6 +72,7 @@ class Snapshot:
     note: str = ""  # what a look from inside a PID namespace can't see
     looked_at: int = 0
     held: int = 0
+    hold: str = ""  # how they were held
     lacking: str = ""  # why the kernel's structures weren't read
     others: int = 0  # anonymous base pages that aren't huge
     sums: Sums = field(default_factory=Sums)
@@ -83,14 +89,23 @@ class Snapshot:
     def locked_are_tried(self) -> bool:
         """Whether this kernel's shrinker tries locked pages: before Linux 6.18 (mm/huge_memory.c:
         deferred_split_scan)."""
-        found = re.match(r"Linux (\d+)\.(\d+)", self.kernel)
-        return bool(found) and (int(found[1]), int(found[2])) < (6, 18)
+        found = re.match(r"Linux ([0-9]{1,4})\.([0-9]{1,4})", self.kernel)
+        return found is not None and (int(found[1]), int(found[2])) < (6, 18)
 
     def to_json(self) -> Dict[str, Any]:
         """Returns it as a JSON object, from which `stored.from_json` makes the same scripts."""
         out = dict(vars(self))
         out.update(version=VERSION, folios=[folio.to_json() for folio in self.folios], sums=vars(self.sums))
         return out
+
+    def json_parts(self) -> Iterator[str]:
+        """Yields the JSON text of that object in parts, a huge page a line."""
+        out = dict(vars(self), version=VERSION, sums=vars(self.sums))
+        del out["folios"]
+        yield json.dumps(out)[:-1] + ', "folios": ['
+        for index, folio in enumerate(self.folios):
+            yield (",\n" if index else "\n") + json.dumps(folio.to_json())
+        yield "]}\n"
 
     def head(self) -> List[str]:
         """The comments of its scripts."""
@@ -154,7 +169,8 @@ def told(snapshot: Snapshot) -> List[str]:
         lines.append(", ".join(f"{what} {count}" for what, count in counts.items()))
     unread = sum(1 for folio in snapshot.folios if mapped(folio) & ~folio.known)
     lines += [f"with subpages that couldn't be read, taken as data: {unread}"] if unread else []
-    lines.append("held still meanwhile" if snapshot.held else "not held: each subpage was so at some moment")
+    held_still = snapshot.hold or "held still meanwhile"
+    lines.append(held_still if snapshot.held else "not held: each subpage was so at some moment")
     return lines + warnings(snapshot)
 
 
@@ -200,49 +216,60 @@ class Taker:
         self.how = how
         # a terminal may belong to a process that is held: nothing is written meanwhile
         self._progress = progress if progress and not how.freeze else lambda what, done, of: None
-        self._queues, self._lacking = None, "not asked for"
+        self._queues, self.lacking = None, "not asked for"
         self._direct: Optional[DirectMap] = None
         demand_frames()
         if how.with_kernel:
             try:
                 memory = KernelMemory()
-                self._queues, self._lacking = Queues(memory), ""
+                self._queues, self.lacking = Queues(memory), ""
                 self._direct = DirectMap(memory)
             except (Unavailable, OSError) as error:
                 reason = escaped(str(error).partition("\n")[0]) + missing_for_kernel()
-                self._lacking = "" if self._queues else reason
+                self.lacking = "" if self._queues else reason
 
     def take(self, choice: Choice) -> Snapshot:
         """Looks once. A process that can't be read, or ends meanwhile, is counted in what was left out. While processes
         are held everything is read that has to be; the rest comes afterwards."""
         began = time.monotonic()
-        wanted = choice.find()
-        if self.how.freeze:
-            demand_signals(wanted)
-        how = self.how
+        choice.check()
+        how, hold = self.how, None
         reader = Reader(how.with_small, how.threads, self._progress, self._direct, how.memory)
         try:
-            with held(wanted, choice.groups, self.how.freeze) as count:
-                reading = time.monotonic()
-                sums = self._walk(reader, wanted)
-                reader.read_groups()
-                places = self._look(reader)
-                reader.read_counts()
-                reader.read_zeros()
-                reader.check_again()
-                reader.read_sample()
+            with ExitStack() as stack:
+                if how.freeze:
+                    demand_signals(choice.find())
+                    keeper = stack.enter_context(Keeper(NAME, how.wait))
+                    hold = stack.enter_context(held(choice.find, choice.groups, keeper, how.freeze_limit))
+                reading, wanted = time.monotonic(), choice.find()
+                sums, places = self._read(reader, wanted)
                 machine = machine_huge() if choice.everything else None
                 reader.spent["reading"] = time.monotonic() - reading
+                if hold:
+                    hold.release()
             sampled, changed = reader.finish()
         finally:
             reader.close()
         snapshot = self._gather(reader, choice, sums, places)
         snapshot.note = namespace_note()
         snapshot.sums.machine = None if snapshot.note else machine
-        snapshot.looked_at, snapshot.held = len(wanted), count
+        snapshot.looked_at = len(wanted)
+        if hold:
+            snapshot.held, snapshot.hold = hold.count, escaped(hold.report())
         snapshot.sampled, snapshot.changed = sampled, changed
         snapshot.seconds = time.monotonic() - began
         return snapshot
+
+    def _read(self, reader: Reader, wanted: List[int]) -> Tuple[Sums, Dict[int, int]]:
+        """Reads all that is read; returns sums, and the places of pages in their queues."""
+        sums = self._walk(reader, wanted)
+        reader.read_groups()
+        places = self._look(reader)
+        reader.read_counts()
+        reader.read_zeros()
+        reader.check_again()
+        reader.read_sample()
+        return sums, places
 
     def _walk(self, reader: Reader, wanted: List[int]) -> Sums:
         """Reads page tables of all processes."""
@@ -290,7 +317,7 @@ class Taker:
             left_out=reader.left_out,
             names=names_of_groups({folio.cgroup for folio in folios}),
             chosen=choice.told(),
-            lacking=self._lacking,
+            lacking=self.lacking,
             others=reader.others,
             sums=sums,
             kernel=f"Linux {os.uname().release}",

@@ -85,7 +85,7 @@ READERS: Dict[str, Callable[[Any, str], Any]] = {
     "switch": maybe(flag_of),
     "seconds": seconds_of,
     "spent": lambda value, name: table_of(value, name, seconds_of),
-    **{name: text_of for name in ("chosen", "note", "lacking", "kernel", "at")},
+    **{name: text_of for name in ("chosen", "note", "hold", "lacking", "kernel", "at")},
     **{name: count_of for name in ("looked_at", "held", "others", "sampled", "changed")},
 }
 NEEDED = ("processes", "left_out", "sums")
