@@ -23,6 +23,8 @@ class PageFlag(enum.IntFlag):
     """Bits of /proc/kpageflags that the tools use."""
 
     ANON = 1 << 12
+    SWAPCACHE = 1 << 13
+    SWAPBACKED = 1 << 14  # an anonymous page without it was given to MADV_FREE: reclaim drops it whole
     COMPOUND_HEAD = 1 << 15
     COMPOUND_TAIL = 1 << 16
     HWPOISON = 1 << 19

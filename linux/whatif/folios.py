@@ -1,17 +1,44 @@
-"""A huge page as it was seen. A set of subpages is an integer whose bit i stands for subpage i."""
+"""A huge page as it was seen. A set of subpages is an integer whose bit i is subpage i."""
 
 from __future__ import annotations
 
 import re
+from array import array
 from dataclasses import dataclass, field
-from typing import Any, Dict, Iterator, List, NamedTuple, Optional, Tuple
+from functools import lru_cache
+from typing import Any, Callable, Dict, Iterable, Iterator, List, NamedTuple, Optional, Sequence, Tuple
+
+from ..common.files import PMD_ORDER
+
+MOST_MAPPED = (1 << 32) - 1  # mappings of a subpage that are counted
 
 
 def runs(subset: int) -> Iterator[Tuple[int, int]]:
-    """The maximal runs of a set, ascending, as (first, count): linux.common.subpages.runs in a form that is several
-    times faster on scattered sets, since a snapshot asks it of each page."""
+    """Returns the maximal runs of a set, ascending, as (first, count): linux.common.subpages.runs in a form that is
+    several times faster on scattered sets, since a snapshot needs them of each page."""
     for run in re.finditer("1+", bin(subset)[:1:-1]):
         yield run.start(), run.end() - run.start()
+
+
+@lru_cache(maxsize=16)
+def full_set(order: int) -> int:
+    """Returns the set of all subpages of a page of this order: one object for all such pages."""
+    return (1 << (1 << order)) - 1
+
+
+@lru_cache(maxsize=64)
+def even(count: int, size: int) -> Tuple[int, ...]:
+    """Returns the map counts of a page whose `size` subpages are all mapped `count` times: one object for all such
+    pages."""
+    return (count,) * size
+
+
+def compact(totals: Sequence[int]) -> Sequence[int]:
+    """Returns map counts in the form that takes the least memory."""
+    if totals and totals.count(totals[0]) == len(totals):
+        return even(totals[0], len(totals))
+    most = max(totals, default=0)
+    return bytes(totals) if most < 256 else array("I", (min(total, MOST_MAPPED) for total in totals))
 
 
 class Mapping(NamedTuple):
@@ -31,13 +58,14 @@ class Folio:
     order: int
     cgroup: int = 0  # the inode of its memory cgroup's directory (/proc/kpagecgroup), 0: none
     mappings: List[Mapping] = field(default_factory=list)
-    totals: List[int] = field(default_factory=list)  # map counts by subpage, all processes (/proc/kpagecount)
+    totals: Sequence[int] = ()  # map counts by subpage, all processes (/proc/kpagecount); see `compact`
     zero: int = 0  # zero-filled subpages
     known: int = 0  # subpages whose content was read
     kept: int = 0  # subpages that a locked VMA maps: a split leaves their zeros
     is_locked: bool = False  # the page itself is (PG_mlocked)
     is_poisoned: bool = False
     is_swap_cached: bool = False  # the swap cache holds a reference for each subpage
+    is_lazily_freed: bool = False  # given to MADV_FREE: reclaim drops it whole, if nothing writes it before
     is_queued: Optional[bool] = None  # in a deferred split queue
     is_partly: Optional[bool] = None  # flagged as partly mapped
     whole: Optional[int] = None  # its mappings by PMD entries, all processes
@@ -52,7 +80,7 @@ class Folio:
     @property
     def full(self) -> int:
         """The set of all its subpages."""
-        return (1 << self.size) - 1
+        return full_set(self.order)
 
     @property
     def whole_seen(self) -> int:
@@ -65,25 +93,16 @@ class Folio:
         return self.zero & self.known
 
     def to_json(self) -> Dict[str, Any]:
-        """As a JSON object; sets as hexadecimal text. `from_json` reads it back."""
+        """Returns it as a JSON object; sets as hexadecimal text. `folio_of` reads it back."""
         out = dict(vars(self))
-        out.update({name: format(out[name], "x") for name in ("zero", "known", "kept")})
+        out.update({name: format(out[name], "x") for name in SETS})
         out["mappings"] = [[m.process, format(m.address, "x"), format(m.subset, "x"), m.by_pmd] for m in self.mappings]
         out["totals"] = pack(self.totals)
         return out
 
-    @staticmethod
-    def from_json(stored: Dict[str, Any]) -> Folio:
-        """A huge page from what `to_json` made. Raises KeyError, TypeError or ValueError where that is spoilt."""
-        values = dict(stored)
-        values.update({name: int(values[name], 16) for name in ("zero", "known", "kept")})
-        values["mappings"] = [Mapping(m[0], int(m[1], 16), int(m[2], 16), bool(m[3])) for m in values["mappings"]]
-        values["totals"] = unpack(values["totals"])
-        return Folio(**values)
 
-
-def pack(numbers: List[int]) -> List[List[int]]:
-    """Runs of equal numbers, as pairs of how often and which."""
+def pack(numbers: Iterable[int]) -> List[List[int]]:
+    """Returns runs of equal numbers, as pairs of how often and which."""
     out: List[List[int]] = []
     for number in numbers:
         if out and out[-1][1] == number:
@@ -93,6 +112,82 @@ def pack(numbers: List[int]) -> List[List[int]]:
     return out
 
 
-def unpack(pairs: List[List[int]]) -> List[int]:
-    """What `pack` packed."""
-    return [number for count, number in pairs for _ in range(count)]
+SETS = ("zero", "known", "kept")
+FLAGS = ("is_locked", "is_poisoned", "is_swap_cached", "is_lazily_freed")
+MAYBE_FLAGS = ("is_queued", "is_partly")
+NUMBERS = {"frame": 1 << 52, "cgroup": (1 << 64) - 1}  # and the most that each may be
+LEAST = {"whole": 0, "pins": -MOST_MAPPED, "place": 0}  # pins: references dropped between two reads make it negative
+MOST_PROCESS, MOST_ADDRESS = 1 << 31, 1 << 57
+
+
+def number_of(value: Any, name: str, most: int, least: int = 0) -> int:
+    """Returns a whole number of a stored snapshot within limits. Raises ValueError on anything else."""
+    if type(value) is not int or not least <= value <= most:
+        raise ValueError(f"{name} is no whole number from {least} to {most}")
+    return value
+
+
+def flag_of(value: Any, name: str) -> bool:
+    """Returns a truth value of a stored snapshot. Raises ValueError on anything else."""
+    if type(value) is not bool:
+        raise ValueError(f"{name} is neither true nor false")
+    return value
+
+
+def hexadecimal(value: Any, name: str, most: int) -> int:
+    """Returns the number that a hexadecimal text of a stored snapshot means. Raises ValueError on anything else."""
+    if type(value) is not str or not re.fullmatch("[0-9a-f]{1,128}", value) or int(value, 16) > most:
+        raise ValueError(f"{name} is no hexadecimal number up to {most:x}")
+    return int(value, 16)
+
+
+def counts_of(pairs: Any, size: int) -> Sequence[int]:
+    """Returns the map counts that `pack` packed, of a page of `size` subpages. Raises ValueError on anything else."""
+    totals: List[int] = []
+    if type(pairs) is not list or len(pairs) > size:
+        raise ValueError("totals is no list of at most as many pairs as there are subpages")
+    for pair in pairs:
+        if type(pair) is not list or len(pair) != 2:
+            raise ValueError("totals has something else than a pair")
+        count = number_of(pair[0], "a count of totals", size, 1)
+        totals += [number_of(pair[1], "a number of totals", MOST_MAPPED)] * count
+        if len(totals) > size:
+            break
+    if len(totals) != size:
+        raise ValueError(f"totals doesn't have {size} numbers")
+    return compact(totals)
+
+
+def mapping_of(stored: Any, full: int) -> Mapping:
+    """Returns a mapping of a stored snapshot. Raises ValueError on anything else."""
+    if type(stored) is not list or len(stored) != 4:
+        raise ValueError("a mapping isn't a process, an address, a set and a truth value")
+    process = number_of(stored[0], "the process of a mapping", MOST_PROCESS, 1)
+    address = hexadecimal(stored[1], "the address of a mapping", MOST_ADDRESS)
+    subset = hexadecimal(stored[2], "the subpages of a mapping", full)
+    return Mapping(process, address, subset, flag_of(stored[3], "the last of a mapping"))
+
+
+def folio_of(stored: Any) -> Folio:
+    """Returns a huge page from what `Folio.to_json` made. Raises ValueError where that is spoilt."""
+    if type(stored) is not dict:
+        raise ValueError("a huge page is no object")
+    values = {str(key): value for key, value in stored.items()}
+    order = number_of(values.pop("order", None), "order", PMD_ORDER, 2)
+    full = full_set(order)
+    out = Folio(number_of(values.pop("frame", None), "frame", NUMBERS["frame"]), order)
+    out.totals = counts_of(values.pop("totals", None), 1 << order)
+    listed = values.pop("mappings", [])
+    if type(listed) is not list:
+        raise ValueError("mappings is no list")
+    out.mappings = [mapping_of(one, full) for one in listed]
+    readers: Dict[str, Callable[[Any, str], Any]] = {name: lambda v, n: hexadecimal(v, n, full) for name in SETS}
+    readers.update({name: flag_of for name in FLAGS + MAYBE_FLAGS})
+    readers["cgroup"] = lambda v, n: number_of(v, n, NUMBERS["cgroup"])
+    readers.update({name: lambda v, n: number_of(v, n, MOST_MAPPED, LEAST[n]) for name in LEAST})
+    for name, value in values.items():
+        if name not in readers:
+            raise ValueError(f"a huge page has no {name[:40]!r}")
+        is_missing = value is None and name in (*MAYBE_FLAGS, *LEAST)
+        setattr(out, name, None if is_missing else readers[name](value, name))
+    return out

@@ -3,13 +3,14 @@
  *   alloc ORDER        the next page (numbers ascend from 0), all zeros
  *   fill P F C V       writes the byte V into C subpages from F on
  *   unmap P F C        gives their mappings up
+ *   free P F C         gives these subpages to MADV_FREE
  *   splitpmd P         splits the PMD entry, and joins the areas again
  *   lock P             locks the page's area (mlock)
  *   pin P F            takes a reference to a subpage, by a pipe
  *   fork               a child that maps all this, too, and stays
  *   forkunmap P F C    the same, and the child gives these subpages up
  *   change MICROS SEED writes, clears, unmaps and faults subpages at random, one step in so many microseconds, for ever
- *   sync               answers `done N`: how many lines failed since the last one
+ *   sync               prints `done N`: how many lines failed since the last one
  *
  * What isn't there (no huge page could be had) makes its later lines fail, and nothing else.
  */
@@ -93,6 +94,8 @@ static int do_line(const char *text) {
         return !is_range(p, f, c) || !memset(page[p].at + f * BASE, (int)v, c * BASE);
     if (sscanf(text, "unmap %ld %ld %ld", &p, &f, &c) == 3)
         return !is_range(p, f, c) || madvise(page[p].at + f * BASE, c * BASE, MADV_DONTNEED);
+    if (sscanf(text, "free %ld %ld %ld", &p, &f, &c) == 3)
+        return !is_range(p, f, c) || madvise(page[p].at + f * BASE, c * BASE, MADV_FREE);
     if (sscanf(text, "splitpmd %ld", &p) == 1)
         return !is_range(p, 0, 1) || madvise(page[p].at, page[p].size / 2, MADV_DONTDUMP)
             || madvise(page[p].at, page[p].size / 2, MADV_DODUMP);

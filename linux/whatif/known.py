@@ -5,7 +5,7 @@ from __future__ import annotations
 import random
 import subprocess
 from collections import Counter
-from typing import Callable, List, Sequence
+from typing import Callable, List, Sequence, Tuple
 
 from ..common.errors import Unavailable
 from ..common.files import PMD_ORDER
@@ -61,14 +61,16 @@ class KnownPages:
         size = 1 << order
         zero = chance.choice(EDGES + FULL) if order == PMD_ORDER else chance.randrange(size + 1)
         lines = [f"alloc {order}"] + fills(chance, page, size, zero)
-        for kind, likely, make in (
+        kinds: List[Tuple[str, float, Callable[[], List[str]]]] = [
             ("by PTEs", 0.15, lambda: [f"splitpmd {page}"]),
             ("locked", 0.05, lambda: [f"lock {page}"]),
             ("pinned", 0.06, lambda: [f"pin {page} {chance.randrange(size)}"]),
             ("forks", 0.15, lambda: [fork(chance, page, size)]),
             ("unmapped in part", 0.3, lambda: [unmap(chance, page, size) for _ in range(chance.choice((1, 1, 2)))]),
+            ("given to MADV_FREE", 0.06, lambda: [free(chance, page, size)]),
             ("written after that", 0.1, lambda: [f"fill {page} 0 1 7"]),
-        ):
+        ]
+        for kind, likely, make in kinds:
             if chance.random() < likely:
                 lines += make()
                 self.kinds[kind] += 1
@@ -87,6 +89,12 @@ def fills(chance: random.Random, page: int, size: int, zero: int) -> List[str]:
 def fork(chance: random.Random, page: int, size: int) -> str:
     """A child that maps all pages, or all but a part of this one."""
     return "fork" if chance.random() < 0.5 else f"forkunmap {page} 0 {chance.randrange(1, size)}"
+
+
+def free(chance: random.Random, page: int, size: int) -> str:
+    """Gives the whole page to MADV_FREE, or a part of it, which splits it."""
+    first = chance.choice((0, 0, 0, size // 2))
+    return f"free {page} {first} {size - first}"
 
 
 def unmap(chance: random.Random, page: int, size: int) -> str:

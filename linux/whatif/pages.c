@@ -1,9 +1,10 @@
 /* What a snapshot reads in bulk, as a shared library for linux/whatif/reading.py.
  *
- *   walk_process    the pieces of huge anonymous pages that a process maps
+ *   walk_process    how a process maps huge anonymous pages
+ *   find_locked     the address ranges of its locked VMAs
  *   find_zeros      which subpages of a range are zero-filled
  *
- * Both only read. Content is read from /proc/PID/mem and not by process_vm_readv: that pins what it reads, and a pin of
+ * All of them only read. Content is read from /proc/PID/mem and not by process_vm_readv: that pins what it reads, and a pin of
  * a page that a fork shares makes the kernel copy it first (FAULT_FLAG_UNSHARE in mm/gup.c).
  */
 #define _GNU_SOURCE
@@ -11,11 +12,13 @@
 #include <fcntl.h>
 #include <stdint.h>
 #include <stdio.h>
+#include <stdlib.h>
 #include <string.h>
 #include <sys/ioctl.h>
 #include <unistd.h>
 
-enum { BASE = 4096, BLOCK = 512, PMD_ORDER = 9, CHUNK = 64, REGIONS = 256 };
+enum { BASE = 4096, BLOCK = 512, PMD_ORDER = 9, CHUNK = 64, REGIONS = 256, RECENT = 64, TEXT = 1 << 16,
+       LINE = 256 };
 
 /* include/uapi/linux/fs.h: PAGEMAP_SCAN (Linux 6.7), for machines whose headers are older */
 enum { IS_FILE = 4, IS_PRESENT = 8, IS_ZERO_FRAME = 32, IS_HUGE = 64 };
@@ -28,16 +31,18 @@ struct region { uint64_t start, end, categories; };
 /* include/uapi/linux/kernel-page-flags.h */
 enum { ANON = 1 << 12, HEAD = 1 << 15, TAIL = 1 << 16, HUGETLB = 1 << 17, THP = 1 << 22, ZERO_PAGE = 1 << 24 };
 
-/* Subpages first to first+count-1 of the huge page that begins at frame `head`, mapped from `address` on. */
+/* How a process maps a huge page: the subpages in `set`, at `address` + their numbers, by one PMD entry or by PTEs. */
 struct piece {
     uint64_t address, head, flags;      /* flags: those of the first frame, by /proc/kpageflags */
-    uint32_t first, count, order, by_pmd;
+    uint32_t process, order, by_pmd, unused;
+    uint64_t set[BLOCK / 64];
 };
 
 struct walk {
-    int map, flags_file;
+    int map, flags_file, process, with_small;
     struct piece *out;
-    long found, most, others, changed;
+    long found, most, lost, small, others, changed;
+    long recent[RECENT];                /* pieces found last, by their pages: parts of one page become one piece */
     uint64_t block, block_flags[BLOCK]; /* the flags that were read last, and of which block of frames */
 };
 
@@ -50,9 +55,24 @@ static int is_ours(uint64_t flags) {
     return flags & ANON && flags & (HEAD | TAIL) && flags & THP && !(flags & (HUGETLB | ZERO_PAGE));
 }
 
-static void put_piece(struct walk *w, struct piece piece) {
-    if (w->found < w->most) w->out[w->found] = piece;
-    w->found++;
+static void set_bits(uint64_t *set, long first, long count) {
+    for (long i = first; i < first + count; i++) set[i / 64] |= 1ul << i % 64;
+}
+
+/* Adds `count` subpages from `first` on of the huge page at frame `head`; subpage 0 is, or would be, at `address`. */
+static void put_piece(struct walk *w, uint64_t address, uint64_t head, uint64_t flags, long first, long count,
+                      int order, int by_pmd) {
+    if (order != PMD_ORDER && (!w->with_small || order < 2)) { w->small += first == 0; return; }
+    long *last = &w->recent[(head >> order ^ address / BASE) % RECENT];
+    if (!by_pmd && *last < w->found) {
+        struct piece *p = &w->out[*last];
+        if (p->head == head && p->address == address && !p->by_pmd) { set_bits(p->set, first, count); return; }
+    }
+    if (w->found == w->most) { w->lost++; return; }
+    struct piece *p = &w->out[*last = w->found++];
+    *p = (struct piece){ .address = address, .head = head, .flags = flags, .process = (uint32_t)w->process,
+                         .order = (uint32_t)order, .by_pmd = (uint32_t)by_pmd };
+    set_bits(p->set, first, count);
 }
 
 static int read_block(struct walk *w, uint64_t block) {
@@ -92,9 +112,8 @@ static void take_frames(struct walk *w, uint64_t address, uint64_t frame, long c
         }
         taken = (long)(head + (1ul << order) - (frame + i));
         if (taken > count - i) taken = count - i;
-        put_piece(w, (struct piece){ address + i * BASE, head, w->block_flags[head % BLOCK],
-                                     (uint32_t)(frame + i - head), (uint32_t)taken, (uint32_t)order,
-                                     (uint32_t)by_pmd });
+        long first = (long)(frame + i - head);
+        put_piece(w, address + (i - first) * BASE, head, w->block_flags[head % BLOCK], first, taken, order, by_pmd);
     }
 }
 
@@ -106,7 +125,7 @@ static void take_whole(struct walk *w, uint64_t at) {
     int have = pread(w->flags_file, &flags, 8, frame * 8) == 8;
     if (have && flags & (HUGETLB | ZERO_PAGE)) return; /* pages of hugetlbfs aren't the shrinker's */
     if (!have || frame % BLOCK || !is_ours(flags) || !(flags & HEAD)) { w->changed += BLOCK; return; }
-    put_piece(w, (struct piece){ at, frame, flags, 0, BLOCK, PMD_ORDER, 1 });
+    put_piece(w, at, frame, flags, 0, BLOCK, PMD_ORDER, 1);
 }
 
 /* Takes what a range of at most one block of addresses maps. */
@@ -124,12 +143,16 @@ static void take_range(struct walk *w, uint64_t at, uint64_t end, int by_pmd) {
     }
 }
 
-/* Fills `out` with at most `most` pieces; answers how many there are in all, or -errno. `others`: anonymous base pages
- * beside them; `changed`: base pages whose flags no longer fit their page table. */
-long walk_process(int pid, int flags_file, struct piece *out, long most, long *others, long *changed) {
+struct sums { int64_t lost, small, others, changed; };
+
+/* Fills `out` with at most `most` pieces; returns how many, or -errno. `sums`: pieces that had no room, pages below
+ * PMD size that weren't asked for, anonymous base pages beside them, base pages whose flags no longer fit their page
+ * table. */
+long walk_process(int pid, int flags_file, int with_small, struct piece *out, long most, struct sums *sums) {
     char path[64];
     struct region regions[REGIONS];
-    struct walk w = { .flags_file = flags_file, .out = out, .most = most, .block = ~0ul };
+    struct walk w = { .flags_file = flags_file, .process = pid, .with_small = with_small, .out = out, .most = most,
+                      .block = ~0ul };
     snprintf(path, sizeof path, "/proc/%d/pagemap", pid);
     w.map = open(path, O_RDONLY | O_CLOEXEC);
     if (w.map < 0) return -errno;
@@ -147,9 +170,68 @@ long walk_process(int pid, int flags_file, struct piece *out, long most, long *o
             }
     }
     close(w.map);
-    *others = w.others;
-    *changed = w.changed;
+    *sums = (struct sums){ w.lost, w.small, w.others, w.changed };
     return w.found;
+}
+
+struct span { uint64_t low, high; };
+
+static int is_digit(char c) {
+    return c && strchr("0123456789abcdef", c);
+}
+
+/* Reads the range at the begin of a line of smaps, `7f00-7f08 rw-p ..`; returns 0 where the line is another one. */
+static int read_range(const char *line, struct span *range) {
+    char *end;
+    if (!is_digit(*line)) return 0;
+    uint64_t low = strtoull(line, &end, 16);
+    if (*end != '-' || !is_digit(end[1])) return 0;
+    uint64_t high = strtoull(end + 1, &end, 16);
+    if (*end != ' ' || low >= high) return 0;
+    *range = (struct span){ low, high };
+    return 1;
+}
+
+/* Whether a line of flags, `VmFlags: rd wr lo`, has one of two letters. */
+static int has_flag(const char *line, const char *flag) {
+    for (const char *at = line + strlen("VmFlags:"); (at = strstr(at, flag)); at++)
+        if (at[-1] == ' ' && (at[2] == ' ' || !at[2])) return 1;
+    return 0;
+}
+
+struct locked {
+    struct span *out, here;             /* here: the VMA that the lines are of */
+    long found, most;
+};
+
+static void take_line(struct locked *l, const char *line) {
+    if (read_range(line, &l->here) || strncmp(line, "VmFlags:", 8) || !has_flag(line, "lo")) return;
+    if (l->found && l->found <= l->most && l->out[l->found - 1].high == l->here.low) {
+        l->out[l->found - 1].high = l->here.high;
+        return;
+    }
+    if (l->found < l->most) l->out[l->found] = l->here;
+    l->found++;
+}
+
+/* Fills `out` with at most `most` spans: the locked VMAs of an open /proc/PID/smaps, ascending, adjacent ones joined.
+ * Returns how many there are in all, or -errno. A line counts by its first characters alone, and lines end at line
+ * feeds alone, which the kernel escapes in names of files: no name is taken for another line. */
+long find_locked(int file, struct span *out, long most) {
+    char text[TEXT], line[LINE]; /* of longer lines the begin is kept */
+    struct locked l = { .out = out, .most = most };
+    long length = 0, got;
+    while ((got = read(file, text, sizeof text)) > 0)
+        for (long i = 0; i < got; i++) {
+            if (text[i] == '\n') {
+                line[length] = 0;
+                take_line(&l, line);
+                length = 0;
+            } else if (length < LINE - 1) {
+                line[length++] = text[i] ? text[i] : '?';
+            }
+        }
+    return got < 0 ? -errno : l.found;
 }
 
 static const char zero_page[BASE];

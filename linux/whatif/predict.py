@@ -8,13 +8,16 @@ from __future__ import annotations
 
 import os
 import re
+import subprocess
+import tempfile
 from concurrent.futures import ThreadPoolExecutor
 from dataclasses import dataclass
 from typing import Dict, Iterator, List, Optional, Sequence, Tuple
 
-from ..common.errors import InputFault
-from ..common.program import Program
+from ..common.errors import InputFault, RunFailed
+from ..common.program import Program, Refused, start
 from ..common.subpages import set_of, size
+from ..common.text import escaped
 from .scripts import Page, Script
 
 OFF = 511
@@ -30,8 +33,8 @@ def thresholds_of(text: str) -> List[int]:
     """Thresholds from text: `off` or numbers from 0 to 511, joined by commas; 511 is `off`. InputFault on others."""
     out = []
     for word in text.split(","):
-        if word != "off" and not (re.fullmatch(r"0|[1-9]\d*", word) and int(word) <= OFF):
-            raise InputFault(f"threshold {word!r}: 'off' or a number from 0 to {OFF}")
+        if word != "off" and not (re.fullmatch(r"0|[1-9][0-9]{0,2}", word) and int(word) <= OFF):
+            raise InputFault(f"threshold '{escaped(word)[:40]}': 'off' or a number from 0 to {OFF}")
         out.append(OFF if word == "off" else int(word))
     return out
 
@@ -84,27 +87,50 @@ class Predictor:
 
     def __init__(self, scripts: Sequence[Script], program: Program) -> None:
         self.scripts, self._program = list(scripts), program
-        self._filled: Dict[int, str] = {}
         self._rows: Dict[int, Tuple[Row, List[List[Row]]]] = {}
+        self._pages: List[List[List[Page]]] = []  # by script, node and number; empty until it is needed
 
-    def _asked(self, index: int, threshold: int) -> Tuple[str, List[str]]:
-        """The text and the options of a run."""
-        script = self.scripts[index]
+    def _report(self, kind: str, script: Script, threshold: int) -> Iterator[bytes]:
+        """Yields the lines of a report on a script. Refused where the script has an error."""
         each = ",".join(str(min(threshold, (1 << order) - 1)) for order in script.orders)
-        options = script.options() + ["--underused", each]
-        if threshold != OFF:
-            return script.text, options
-        if index not in self._filled:
-            self._filled[index] = script.filled()
-        return self._filled[index], options
+        words = [*script.options(), "--underused", each, "--report", kind]
+        with tempfile.TemporaryFile(prefix="thpwhatif-") as text, tempfile.TemporaryFile() as problems:
+            text.writelines(script.filled() if threshold == OFF else script.chunks())
+            text.seek(0)
+            child = start(self._program.path, words, text, subprocess.PIPE, problems)
+            assert child.stdout
+            try:
+                for line in child.stdout:
+                    yield line.rstrip(b"\n")
+            finally:
+                child.stdout.close()
+                status = child.wait()
+            problems.seek(0)
+            told = escaped(problems.read(1000).strip())
+        if status == 2:
+            raise Refused(f"{script.name}: {told}")
+        if status:
+            raise RunFailed(f"{escaped(self._program.path)} ended with status {status}: {told[:200]}")
+
+    def _totals(self, script: Script, threshold: int) -> List[Row]:
+        nodes: List[Dict[str, int]] = []
+        try:
+            for line in self._report("totals", script, threshold):
+                name, value = line.decode("ascii", "replace").split(" ")
+                if name == "node":
+                    nodes.append({})
+                nodes[-1][name] = int(value)
+            rows = [row_of(threshold, node) for node in nodes]
+        except (ValueError, IndexError, KeyError) as error:
+            raise RunFailed(f"{escaped(self._program.path)} writes no totals") from error
+        if len(rows) != len(script.nodes):
+            path = escaped(self._program.path)
+            raise RunFailed(f"{path} writes totals of {len(rows)} nodes, not {len(script.nodes)}")
+        return rows
 
     def _nodes(self, threshold: int) -> List[List[Row]]:
         """The rows of each node, by script."""
-        out = []
-        for index in range(len(self.scripts)):
-            told = self._program.totals(*self._asked(index, threshold))
-            out.append([row_of(threshold, node) for node in told])
-        return out
+        return [self._totals(script, threshold) for script in self.scripts]
 
     def run(self, thresholds: Sequence[int]) -> List[Row]:
         """The sums for these thresholds. Runs go side by side; each is done once."""
@@ -128,28 +154,31 @@ class Predictor:
         return out
 
     def fates(self, threshold: int) -> Iterator[Fate]:
-        """What becomes of each page that is split."""
-        for index in range(len(self.scripts)):
+        """Yields what becomes of each page that is split."""
+        for index, script in enumerate(self.scripts):
             node = -1
-            journal = self._program.report("journal", *self._asked(index, threshold))
-            for line in re.finditer(r"^(?:node (\d+) .*|\d+ split (\d+) (\S+))$", journal, re.MULTILINE):
-                if line[1] is not None:
-                    node = int(line[1])
-                else:
-                    yield Fate(index, node, int(line[2]), set_of(line[3]))
+            for line in self._report("journal", script, threshold):
+                found = re.fullmatch(rb"node ([0-9]{1,4}) .*|[0-9]+ split ([0-9]{1,6}) ([0-9,-]{1,4000})", line)
+                if found and found[1] is not None:
+                    node = int(found[1])
+                elif found:
+                    yield Fate(index, node, int(found[2]), set_of(found[3].decode("ascii")))
 
     def by_process(self, threshold: int) -> Dict[int, Share]:
         """What each process has of it. A page that several map counts with the one that maps most of it by PMD entries,
         the lowest number where that is equal; lost PMD mappings count with each."""
         out: Dict[int, Share] = {}
-        pages: List[List[List[Page]]] = [script.pages() for script in self.scripts]
-        for of_script in pages:
-            for page in (page for of_node in of_script for page in of_node):
-                if page.by:
-                    share = out.setdefault(owner(page), Share())
-                    share.pages += 1
+        pages = self._pages = self._pages or [script.pages() for script in self.scripts]
+        for page in (page for of_script in pages for of_node in of_script for page in of_node):
+            if page.by:
+                share = out.setdefault(owner(page), Share())
+                share.pages += 1
         for fate in self.fates(threshold):
-            page = pages[fate.script][fate.node][fate.number]
+            try:
+                page = pages[fate.script][fate.node][fate.number]
+            except IndexError as error:
+                name = self.scripts[fate.script].name
+                raise InputFault(f"{name}: page {fate.number} of node {fate.node} has no line '# page'") from error
             if page.by:
                 share = out[owner(page)]
                 share.split += 1

@@ -7,16 +7,23 @@ import json
 import os
 import sys
 import time
-from pathlib import Path
-from typing import Any, Callable, Dict, List, NoReturn, Optional, Sequence
+from contextlib import ExitStack, contextmanager
+from typing import Any, Callable, Dict, Iterator, List, NoReturn, Optional, Sequence
 
-from ..common.errors import DONE, USAGE, InputFault, Unavailable, run_tool
+from ..common.errors import DONE, InputFault
+from ..common.files import create, read_input
 from ..common.program import Program
+from ..common.text import escaped
+from ..common.tool import run_tool
+from ..common.user import user_for
+from .options import choice_of, how_of, parser
 from .picture import picture
 from .predict import DEFAULT, OFF, Predictor, Row, Share, highest_with, label, thresholds_of, with_today
 from .processes import Choice
-from .scripts import Script, read_script
-from .snapshot import How, Snapshot, Taker, from_json, show_progress, told, warnings, write
+from .rights import demand_root
+from .scripts import Script, Spool, read_script
+from .snapshot import NAME, Snapshot, Taker, show_progress, told, warnings, write
+from .stored import from_json
 from .table import (
     FRAMES_A_MEBIBYTE,
     cost_table,
@@ -30,104 +37,7 @@ from .table import (
 from .verify import THRESHOLDS, Task, verify
 from .watch import Look, watch
 
-NAME = "thpwhatif"
 SLOW = 1.0  # seconds after which progress is shown
-
-
-class Words(argparse.ArgumentParser):
-    """A parser whose faults are one line and status 2."""
-
-    def error(self, message: str) -> NoReturn:
-        print(f"{self.prog}: {message} (--help tells more)", file=sys.stderr)
-        raise SystemExit(USAGE)
-
-
-def add_choice(words: argparse.ArgumentParser) -> None:
-    """The options that say what is looked at, and how."""
-    words.add_argument("--pid", type=int, action="append", default=[], metavar="P", help="a process; may be repeated")
-    words.add_argument("--cgroup", action="append", default=[], metavar="DIR", help="a control group and those below")
-    words.add_argument("--all", action="store_true", help="all processes")
-    words.add_argument("--freeze", action="store_true", help="hold the processes still meanwhile")
-    words.add_argument("--orders", action="store_true", help="huge pages below PMD size, too")
-    words.add_argument(
-        "--queued", choices=("seen", "all"), default="seen", help="all: as if each page still stood in its queue"
-    )
-    words.add_argument("--no-kernel", action="store_true", help="do without BPF: queues and pins are guessed")
-
-
-def add_thresholds(words: argparse.ArgumentParser) -> None:
-    """The options of a table."""
-    words.add_argument("--thresholds", metavar="LIST", help="off and numbers from 0 to 511, joined by commas")
-    words.add_argument("--json", action="store_true", help="a JSON object in place of tables")
-    words.add_argument("--by-process", action="store_true", help="a table by process, too")
-    words.add_argument("--by-cgroup", action="store_true", help="a table by control group, too")
-    words.add_argument("--svg", metavar="FILE", help="a picture of the table")
-
-
-def add_program(words: argparse.ArgumentParser) -> None:
-    words.add_argument("--program", metavar="PATH", help="the thpsplit to run")
-
-
-def parser() -> argparse.ArgumentParser:
-    """All commands and their options."""
-    top = Words(prog=NAME, description="What would the shrinker of transparent huge pages give back now?")
-    commands = top.add_subparsers(dest="command", required=True, metavar="COMMAND", parser_class=Words)
-    now = commands.add_parser("now", help="look, and tell what each threshold would give back")
-    add_choice(now), add_thresholds(now), add_program(now)
-    snapshot = commands.add_parser("snapshot", help="look, and write scripts for thpsplit")
-    add_choice(snapshot)
-    snapshot.add_argument("-o", "--output", default="-", metavar="FILE", help="further scripts are FILE.2 and so on")
-    snapshot.add_argument("--facts", metavar="FILE", help="all that was seen, as JSON")
-    what_if = commands.add_parser("what-if", help="the table of scripts that snapshot wrote")
-    what_if.add_argument("files", nargs="+", metavar="FILE")
-    add_thresholds(what_if), add_program(what_if)
-    target = commands.add_parser("target", help="the highest threshold that gives back so much")
-    target.add_argument("mebibytes", type=float, metavar="MIB")
-    target.add_argument("files", nargs="*", metavar="FILE", help="scripts; else --pid, --cgroup or --all")
-    target.add_argument("--json", action="store_true")
-    add_choice(target), add_program(target)
-    watching = commands.add_parser("watch", help="look again and again, and tell how the rows drift")
-    watching.add_argument("seconds", type=float, metavar="SECONDS", help="from one look to the next")
-    watching.add_argument("--rounds", type=int, default=0, metavar="N", help="end after so many; else when interrupted")
-    watching.add_argument("--thresholds", metavar="LIST", help="as for now")
-    add_choice(watching), add_program(watching)
-    add_verify(commands.add_parser("verify", help="known pages, or a command's, and then the real shrinker"))
-    return top
-
-
-def add_verify(words: argparse.ArgumentParser) -> None:
-    """The options of verify."""
-    words.add_argument("--thresholds", metavar="LIST", help="as for now")
-    words.add_argument("--rounds", type=int, default=1, metavar="N", help="how often each threshold is tried")
-    words.add_argument("--seed", type=int, default=1, metavar="S")
-    words.add_argument("--pages", type=int, default=40, metavar="N", help="known pages of a trial, at most 4000")
-    words.add_argument("--change", type=int, default=0, metavar="MICROS", help="known pages that change so often")
-    words.add_argument("--after", type=float, default=5, metavar="SECONDS", help="for which the command runs first")
-    words.add_argument("--running", action="store_true", help="don't hold the pages still until they are judged")
-    words.add_argument("--enabled", choices=("always", "madvise"), help="transparent_hugepage/enabled meanwhile")
-    words.add_argument("--no-kernel", action="store_true", help="do without BPF: queues and pins are guessed")
-    words.add_argument("--keep", default="", metavar="FOLDER", help="write what each trial saw there")
-    words.add_argument("--verbose", action="store_true", help="a line for each trial")
-    words.add_argument("words", nargs="*", metavar="-- COMMAND", help="a command to try in place of known pages")
-    add_program(words)
-
-
-def choice_of(asked: argparse.Namespace) -> Choice:
-    """What is to be looked at."""
-    if not (asked.pid or asked.cgroup or asked.all):
-        raise InputFault(f"{asked.command} wants --pid, --cgroup or --all (--help tells more)")
-    return Choice(asked.pid, asked.cgroup, asked.all)
-
-
-def how_of(asked: argparse.Namespace) -> How:
-    """How it is to be looked at."""
-    return How(asked.freeze, asked.orders, not asked.no_kernel, asked.queued == "all")
-
-
-def demand_root() -> None:
-    """Raises Unavailable for other users: page tables and frames of other processes are root's alone."""
-    if os.geteuid() != 0:
-        raise Unavailable("not root: frame numbers, other processes' memory and BPF are for root")
 
 
 def progress() -> Optional[Callable[[str, int, int], None]]:
@@ -143,21 +53,55 @@ def progress() -> Optional[Callable[[str, int, int], None]]:
     return show
 
 
-def look(asked: argparse.Namespace) -> Snapshot:
-    """One snapshot as asked for."""
-    demand_root()
-    return Taker(how_of(asked), progress()).take(choice_of(asked))
+def look(asked: argparse.Namespace, choice: Choice) -> Snapshot:
+    """Takes one snapshot as asked for."""
+    return Taker(how_of(asked), progress()).take(choice)
+
+
+class Output:
+    """A new file, opened before the work, so that a path that can't be used is reported first."""
+
+    def __init__(self, path: str) -> None:
+        self.path, self._file = path, create(path)
+
+    def write(self, text: str) -> None:
+        """Writes a text. InputFault where that isn't possible."""
+        try:
+            self._file.write(text)
+            self._file.flush()
+        except OSError as error:
+            raise InputFault(f"{escaped(self.path)} can't be written: {error.strerror}") from error
+
+
+@contextmanager
+def output(path: Optional[str]) -> Iterator[Optional[Output]]:
+    """Gives the output of a path, or nothing where there is no path or it is `-`. The file is removed again where the
+    work fails, or writes nothing."""
+    if path is None or path == "-":
+        yield None
+        return
+    out, is_done = Output(path), False
+    try:
+        yield out
+        is_done = os.stat(path).st_size > 0
+    finally:
+        if not is_done:
+            os.unlink(path)
 
 
 def read_scripts(paths: Sequence[str]) -> List[Script]:
-    """Scripts of files; `-` is the standard input. A stored snapshot (--facts) is made into scripts."""
+    """Returns scripts of files; `-` is the standard input. A stored snapshot (--facts) is made into scripts."""
     out: List[Script] = []
+    spool = Spool()
     for path in paths:
-        try:
-            text = sys.stdin.read() if path == "-" else Path(path).read_text(encoding="ascii")
-        except (OSError, UnicodeDecodeError) as error:
-            raise InputFault(f"{path} can't be read: {getattr(error, 'strerror', None) or 'not ASCII'}") from error
-        out += write(from_json(text, path)).scripts if text.startswith("{") else [read_script(text, path)]
+        data, name = read_input(path), escaped(path)
+        if data.startswith(b"{"):
+            try:
+                out += write(from_json(data.decode("ascii"), name)).scripts
+            except UnicodeDecodeError as error:
+                raise InputFault(f"{name} can't be read: it is not ASCII") from error
+        else:
+            out.append(read_script(data, name, spool))
     return out
 
 
@@ -169,8 +113,14 @@ def left_out_of(scripts: Sequence[Script]) -> Dict[str, int]:
     return out
 
 
-def show(asked: argparse.Namespace, scripts: List[Script], snapshot: Optional[Snapshot], program: Program) -> None:
-    """The tables, or the JSON object, of scripts."""
+def show(
+    asked: argparse.Namespace,
+    scripts: List[Script],
+    snapshot: Optional[Snapshot],
+    program: Program,
+    svg: Optional[Output],
+) -> None:
+    """Prints the tables, or the JSON object, of scripts."""
     told_today = [snapshot.today] if snapshot else [script.today() for script in scripts]
     today = next((threshold for threshold in told_today if threshold is not None), None)
     given = thresholds_of(asked.thresholds) if asked.thresholds else DEFAULT
@@ -182,8 +132,8 @@ def show(asked: argparse.Namespace, scripts: List[Script], snapshot: Optional[Sn
     shares = {t: predictor.by_process(t) for t in thresholds} if asked.by_process else {}
     groups = predictor.by_group(thresholds) if asked.by_cgroup else {}
     left_out = dict(snapshot.left_out) if snapshot else left_out_of(scripts)
-    if asked.svg:
-        write_file(asked.svg, picture(rows, today))
+    if svg:
+        svg.write(picture(rows, today))
     if asked.json:
         out: Dict[str, Any] = {"rows": [row_json(row, today) for row in rows], "left_out": left_out}
         out.update(parts_json(shares, groups, names, today))
@@ -212,14 +162,6 @@ def parts_json(
     return out
 
 
-def write_file(path: str, text: str) -> None:
-    """Writes a file; InputFault where that isn't possible."""
-    try:
-        Path(path).write_text(text, encoding="ascii")
-    except OSError as error:
-        raise InputFault(f"{path} can't be written: {error.strerror}") from error
-
-
 def about(snapshot: Optional[Snapshot], runs: float) -> Dict[str, Any]:
     """What a JSON object tells of the look itself."""
     if snapshot is None:
@@ -228,6 +170,9 @@ def about(snapshot: Optional[Snapshot], runs: float) -> Dict[str, Any]:
     return {
         "looked_at": snapshot.looked_at,
         "held": bool(snapshot.held),
+        "hold": snapshot.hold,
+        "note": snapshot.note,
+        "lacking": snapshot.lacking,
         "queues_read": not snapshot.lacking,
         "read_twice": snapshot.sampled,
         "of_these_changed": snapshot.changed,
@@ -239,49 +184,68 @@ def about(snapshot: Optional[Snapshot], runs: float) -> Dict[str, Any]:
 
 
 def command_now(asked: argparse.Namespace) -> int:
+    """Looks, and prints the tables."""
+    check_thresholds(asked)
+    choice = choice_of(asked)
+    demand_root()
     program = Program(asked.program)
-    snapshot = look(asked)
-    made = write(snapshot)
-    for line in told(snapshot) if not asked.json else ():
-        print(line)
-    if not made.scripts:
-        print("no huge pages are mapped here", file=sys.stderr)
-        if not asked.json:
-            print(last_line(snapshot.left_out))
-            return DONE
-    show(asked, made.scripts, snapshot, program)
+    with output(asked.svg) as svg:
+        snapshot = look(asked, choice)
+        made = write(snapshot)
+        for line in told(snapshot) if not asked.json else ():
+            print(line)
+        if not made.scripts:
+            print("no huge pages are mapped here", file=sys.stderr)
+            if not asked.json:
+                print(last_line(snapshot.left_out))
+                return DONE
+        show(asked, made.scripts, snapshot, program, svg)
     return DONE
 
 
 def command_snapshot(asked: argparse.Namespace) -> int:
-    snapshot = look(asked)
-    made = write(snapshot)
-    if asked.facts:
-        write_file(asked.facts, json.dumps(snapshot.to_json()) + "\n")
-    for line in told(snapshot) + [last_line(snapshot.left_out)]:
-        print(line, file=sys.stderr)
-    if not made.scripts:
-        print("no huge pages are mapped here: no script is written", file=sys.stderr)
-    if asked.output == "-" and len(made.scripts) > 1:
-        raise InputFault(f"{len(made.scripts)} scripts don't go to one output: name a file (-o FILE)")
-    for index, script in enumerate(made.scripts, 1):
-        if asked.output == "-":
-            sys.stdout.write(script.text)
-        else:
-            write_file(asked.output + (f".{index}" if index > 1 else ""), script.text)
+    """Looks, and writes scripts."""
+    choice = choice_of(asked)
+    demand_root()
+    with ExitStack() as stack:
+        first = stack.enter_context(output(asked.output))
+        facts = stack.enter_context(output(asked.facts))
+        snapshot = look(asked, choice)
+        made = write(snapshot)
+        if facts:
+            for text in snapshot.json_parts():
+                facts.write(text)
+        for line in told(snapshot) + [last_line(snapshot.left_out)]:
+            print(line, file=sys.stderr)
+        if not made.scripts:
+            print("no huge pages are mapped here: no script is written", file=sys.stderr)
+        if not first and len(made.scripts) > 1:
+            raise InputFault(f"{len(made.scripts)} scripts don't go to one output: name a file (-o FILE)")
+        for index, script in enumerate(made.scripts, 1):
+            out = first if index == 1 else stack.enter_context(output(f"{asked.output}.{index}"))
+            for chunk in script.chunks():
+                (out.write if out else sys.stdout.write)(chunk.decode("ascii"))
     return DONE
 
 
 def command_what_if(asked: argparse.Namespace) -> int:
-    show(asked, read_scripts(asked.files), None, Program(asked.program))
+    """Prints the tables of scripts."""
+    check_thresholds(asked)
+    with output(asked.svg) as svg:
+        show(asked, read_scripts(asked.files), None, Program(asked.program), svg)
     return DONE
 
 
 def command_target(asked: argparse.Namespace) -> int:
-    if asked.mebibytes <= 0:
-        raise InputFault("target wants more than 0 MiB")
-    program = Program(asked.program)
-    scripts = read_scripts(asked.files) if asked.files else write(look(asked)).scripts
+    """Finds the highest threshold that gives back so much."""
+    if asked.files and (asked.pid or asked.cgroup or asked.all):
+        raise InputFault("target takes files, or --pid, --cgroup or --all, not both")
+    if asked.files:
+        program, scripts = Program(asked.program), read_scripts(asked.files)
+    else:
+        choice = choice_of(asked)
+        demand_root()
+        program, scripts = Program(asked.program), write(look(asked, choice)).scripts
     predictor = Predictor(scripts, program)
     found = highest_with(predictor, -int(-asked.mebibytes * FRAMES_A_MEBIBYTE // 1))
     names = {number: name for script in scripts for number, name in script.processes().items()}
@@ -303,11 +267,19 @@ def command_target(asked: argparse.Namespace) -> int:
     return DONE
 
 
+def check_thresholds(asked: argparse.Namespace) -> None:
+    """InputFault where the thresholds can't be used: before the work, not after it."""
+    if asked.thresholds is not None:
+        thresholds_of(asked.thresholds)
+
+
 def command_watch(asked: argparse.Namespace) -> int:
+    """Looks again and again."""
+    check_thresholds(asked)
+    choice = choice_of(asked)
     demand_root()
-    if not 0 < asked.seconds < 1e6 or asked.rounds < 0:
-        raise InputFault("watch wants more than 0 seconds, and 0 rounds or more")
-    choice, taker, program = choice_of(asked), Taker(how_of(asked)), Program(asked.program)
+    program = Program(asked.program)
+    taker = Taker(how_of(asked))
     given = thresholds_of(asked.thresholds) if asked.thresholds else DEFAULT
 
     def look_once() -> Look:
@@ -322,24 +294,28 @@ def command_watch(asked: argparse.Namespace) -> int:
 
 
 def command_verify(asked: argparse.Namespace) -> int:
+    """Tries predictions."""
+    check_thresholds(asked)
     demand_root()
-    if asked.rounds < 1 or not 1 <= asked.pages <= 4000 or asked.change < 0:
-        raise InputFault("verify wants 1 round or more, 1 to 4000 pages, and 0 microseconds or more")
+    program, user = Program(asked.program), user_for(asked.user)
     task = Task(
         thresholds=thresholds_of(asked.thresholds) if asked.thresholds else THRESHOLDS,
         rounds=asked.rounds,
         seed=asked.seed,
         pages=asked.pages,
         command=asked.words,
+        user=user,
         after=asked.after,
         running=asked.running,
         enabled=asked.enabled or "",
         change=asked.change,
         with_kernel=not asked.no_kernel,
+        freeze_limit=asked.freeze_limit,
+        wait=asked.wait,
         verbose=asked.verbose,
         keep=asked.keep,
     )
-    return verify(task, Program(asked.program))
+    return verify(task, program)
 
 
 COMMANDS: Dict[str, Callable[[argparse.Namespace], int]] = {

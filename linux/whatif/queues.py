@@ -1,4 +1,4 @@
-"""What only the kernel's own structures tell of a huge page: whether it stands in a deferred split queue and where,
+"""What only the kernel's own structures contain of a huge page: whether it is in a deferred split queue and where,
 whether it is flagged as partly mapped, how often it is mapped by PMD entries, how often it is pinned.
 
 Rules: include/linux/mm_types.h (struct folio), include/linux/page-flags.h (PG_partially_mapped of the second page),
@@ -9,12 +9,12 @@ from __future__ import annotations
 
 import struct
 from dataclasses import dataclass
-from typing import Dict, List
+from typing import Dict, List, Set
 
 from ..common.btf import Types
 from ..common.errors import Unavailable
 from ..common.kernel_memory import KernelMemory
-from .folios import Folio
+from .folios import Folio, even
 
 HEADS = 4  # struct pages that a struct folio lies over
 
@@ -44,7 +44,7 @@ class FolioFields:
 
 
 class Queues:
-    """Reads the kernel's structures. Raises Unavailable where this machine doesn't let one."""
+    """Reads the kernel's structures. Unavailable where this machine doesn't allow it."""
 
     def __init__(self, memory: KernelMemory) -> None:
         self._memory = memory
@@ -52,35 +52,38 @@ class Queues:
         try:
             memory.queue_fields()
             self._ordered = True
-        except Unavailable:  # queues of another form (Linux 7: struct list_lru): a page still tells that it is in one
+        except Unavailable:  # queues of another form (Linux 7: struct list_lru): that a page is in one is in the page
             self._ordered = False
         self._start, self._size = memory.vmemmap()
 
     def look(self, folio: Folio) -> bool:
-        """Fills in what the structures say of a page; answers whether it is still in use."""
+        """Fills in what the structures contain of a page; returns whether it is still in use."""
         address, at = self._start + self._size * folio.frame, self._fields
-        raw = self._memory.read(address, HEADS * self._size)
+        try:
+            raw = self._memory.read(address, HEADS * self._size)
+        except Unavailable:
+            return False  # memory that was taken away from the machine
         references, entire, large = (struct.unpack_from("<i", raw, o)[0] for o in (at.references, at.entire, at.large))
         flags, following = (struct.unpack_from("<Q", raw, o)[0] for o in (at.flags, at.link))
         folio.is_queued = folio.order > 1 and following != address + at.link
         folio.is_partly = bool(flags & at.partly)
-        folio.whole = entire + 1
+        whole = folio.whole = max(0, entire + 1)
         if large == entire:  # no mapping by PTEs: each subpage has the same count
-            folio.totals = [folio.whole] * folio.size
+            folio.totals = even(whole, folio.size)
         folio.pins = references - (large + 1) - (folio.size if folio.is_swap_cached else 0)
-        return references > 0
+        return bool(references > 0)
 
-    def places(self, groups: List[int]) -> Dict[int, int]:
-        """The place in its queue of each queued page of these control groups (inodes), by frame. A queue that changes
-        all the time, and a group that has gone, are left out: their pages then stand in no order, which changes no
+    def places(self, groups: List[int], wanted: Set[int]) -> Dict[int, int]:
+        """Returns the place in its queue of each wanted page (by frame) of these control groups (inodes). A queue that
+        changes all the time, and a group that ended, are left out: their pages then have no order, which changes no
         row. So are all queues where this kernel has them in another form."""
         out: Dict[int, int] = {}
-        addresses = self._memory.groups() if self._ordered else {}
+        addresses = self._memory.groups() if self._ordered and groups else {}
         for inode in groups:
             if inode in addresses:
                 try:
                     frames = self._memory.queue_frames(addresses[inode])
                 except Unavailable:
                     continue
-                out.update({frame: place for place, frame in enumerate(frames)})
+                out.update({frame: place for place, frame in enumerate(frames) if frame in wanted})
         return out

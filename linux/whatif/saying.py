@@ -16,14 +16,15 @@ from __future__ import annotations
 import enum
 from dataclasses import dataclass
 from functools import lru_cache
-from typing import List
+from typing import Dict, List, Sequence
 
 from ..common.files import PMD_ORDER
 from ..common.subpages import size
-from .folios import Folio, runs
+from .folios import Folio, full_set, runs
 
 BYTE = 255
 LEVELS = 32  # map counts and pins beyond this are said as this many: more change no answer
+MOST_RUNS = 1024  # runs of subpages in the map counts of a page; with more, the counts are said as 0 or 1
 
 
 class Reason(enum.Enum):
@@ -32,6 +33,7 @@ class Reason(enum.Enum):
     HOLES_UNFLAGGED = "huge pages with an unmapped subpage that the kernel has not as partly mapped"
     UNMAPPED = "huge pages that were no longer mapped"
     ZEROS_STAY = "underused huge pages in locked areas: their zeros count, and a split leaves them"
+    LAZILY_FREED = "huge pages given to MADV_FREE: reclaim drops them whole"
 
 
 class Unsayable(Exception):
@@ -52,12 +54,14 @@ class Said:
     is_partly: bool
     has_holes: bool
     is_standing: bool  # in the queue
-    is_capped: bool  # counts beyond LEVELS
+    is_capped: bool  # it has more mappings than are said: counts beyond LEVELS, or too many runs
 
 
 def prepare(folio: Folio, locked_are_tried: bool = False) -> Said:
     """What is to be said of a page. `locked_are_tried`: the shrinker doesn't pass locked pages over, as it does from
     Linux 6.18 on. Raises Unsayable."""
+    if folio.is_lazily_freed:
+        raise Unsayable(Reason.LAZILY_FREED)
     whole = folio.whole_seen if folio.whole is None else folio.whole
     highest = (folio.totals[0] if is_even(folio.totals) else max(folio.totals)) - whole
     levels = levels_of(folio.totals, whole, min(highest, LEVELS))
@@ -73,18 +77,25 @@ def prepare(folio: Folio, locked_are_tried: bool = False) -> Said:
     if is_standing and not is_partly and folio.zeros & (folio.full if folio.is_locked else folio.kept):
         raise Unsayable(Reason.ZEROS_STAY)
     is_capped = max(highest, whole, folio.pins or 0) > LEVELS
+    if sum(map(count_runs, levels)) > MOST_RUNS:
+        levels, is_capped = levels[:1], True
     return Said(folio, min(whole, LEVELS), levels, is_partly, has_holes, is_standing, is_capped)
 
 
-def is_even(totals: List[int]) -> bool:
+def is_even(totals: Sequence[int]) -> bool:
     """Whether all subpages are mapped as often as the first: true of most pages."""
     return totals.count(totals[0]) == len(totals)
 
 
-def levels_of(totals: List[int], whole: int, highest: int) -> List[int]:
-    """For 1 to `highest` the subpages that are mapped at least so often beside `whole` PMD mappings."""
+def count_runs(subset: int) -> int:
+    """Returns how many maximal runs a set has."""
+    return size(subset & ~(subset << 1))
+
+
+def levels_of(totals: Sequence[int], whole: int, highest: int) -> List[int]:
+    """Returns for 1 to `highest` the subpages that are mapped at least so often beside `whole` PMD mappings."""
     if is_even(totals):
-        return [(1 << len(totals)) - 1] * max(highest, 0)
+        return [full_set(len(totals).bit_length() - 1)] * max(highest, 0)
     most = whole + highest
     if most > BYTE or max(totals) > BYTE:
         totals = [max(0, min(total - whole, highest)) for total in totals]
@@ -160,7 +171,7 @@ def tell(said: Said, node: int, page: int) -> str:
         words.append(f"unread {folio.size - size(folio.known)}")
     if folio.pins:
         words.append(f"pins {folio.pins}")
-    by = {}
+    by: Dict[int, int] = {}
     for mapping in folio.mappings:
         by[mapping.process] = by.get(mapping.process, 0) + mapping.by_pmd
     if by:

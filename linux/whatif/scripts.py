@@ -1,17 +1,19 @@
 """Huge pages as scripts that thpsplit reads as they are, and such scripts read back.
 
 A node of a script is a memory control group and an order, with at most 4,096 pages; pages beyond that are a further
-node. Beyond 8 nodes or 16 MiB there is a further script. The first line names the options for thpsplit; comments tell
-where the pages come from.
+node. Beyond 8 nodes or 15 MiB there is a further script. The first line names the options for thpsplit; comments say
+where the pages come from. Scripts are written page by page into an unnamed temporary file, and lie there.
 """
 
 from __future__ import annotations
 
+import os
 import re
+import tempfile
 from dataclasses import dataclass, field
-from typing import Dict, Iterable, Iterator, List, Optional, Sequence, Tuple
+from typing import IO, Dict, Iterable, Iterator, List, Optional, Sequence, Tuple
 
-from ..common.errors import InputFault
+from ..common.errors import InputFault, RunFailed
 from ..common.files import PMD_ORDER
 from .saying import Said, begin, fill, state
 
@@ -19,11 +21,53 @@ MARK = "# the shrinker"  # the scans follow
 TAKE, BLOCKS, NODES = 128, 4096, 8  # limits of scripts (docs/FORMATS.md)
 MOST_TEXT = 15 << 20  # bytes; what `filled` adds fits below the limit of 16 MiB
 MANY = 1 << 62
+CHUNK = 1 << 20  # bytes that are copied at a time
+BEGIN = 48  # bytes that the lines of `begin`, and scans, take of a page at most
+
+
+FIRST = rb"# thpsplit --nodes ([0-9]{1,2}) --blocks ([0-9]{1,4})(?: --orders [0-9,]{1,64})?"
+NODE_LINE = rb"^# node ([0-9]{1,2}) order ([0-9]{1,2}) pages ([0-9]{1,6}) cgroup (.*)$"
+PAGE_LINE = rb"^# page ([0-9]{1,4}) ([0-9]{1,6}) frame ([0-9]{1,16})(?: (.*))?$"
+
+
+class Spool:
+    """An unnamed temporary file, into which texts are written one after the other."""
+
+    def __init__(self) -> None:
+        try:
+            self._file: IO[bytes] = tempfile.TemporaryFile(prefix="thpwhatif-")
+        except OSError as error:
+            raise RunFailed(f"no temporary file: {error.strerror}") from error
+        self.length = 0
+
+    def add(self, data: bytes) -> None:
+        """Writes bytes at the end."""
+        try:
+            self._file.write(data)
+        except OSError as error:
+            raise RunFailed(f"the temporary file can't be written: {error.strerror}") from error
+        self.length += len(data)
+
+    def clear(self) -> None:
+        """Forgets all."""
+        self._file.seek(0)
+        self._file.truncate()
+        self.length = 0
+
+    def chunks(self, first: int, length: int) -> Iterator[bytes]:
+        """Yields the bytes from place `first` on."""
+        self._file.flush()
+        while length > 0:
+            data = os.pread(self._file.fileno(), min(CHUNK, length), first)
+            if not data:
+                raise RunFailed("the temporary file lost its end")
+            yield data
+            first, length = first + len(data), length - len(data)
 
 
 @dataclass
 class Node:
-    """What a script tells of a node."""
+    """What a script says of a node."""
 
     order: int
     pages: int
@@ -32,7 +76,7 @@ class Node:
 
 @dataclass
 class Page:
-    """What a script tells of a page: its frame, and the PMD mappings of each process that maps it."""
+    """What a script says of a page: its frame, and the PMD mappings of each process that maps it."""
 
     frame: int
     by: Dict[int, int] = field(default_factory=dict)
@@ -40,147 +84,226 @@ class Page:
 
 @dataclass
 class Script:
-    """A script of a snapshot."""
+    """A script of a snapshot: a part of a spool."""
 
-    text: str
+    spool: Spool
+    first: int
+    length: int
     blocks: int
     nodes: List[Node]
     name: str = "script"
 
     @property
     def orders(self) -> List[int]:
+        """The orders of its nodes."""
         return [node.order for node in self.nodes]
 
+    @property
+    def data(self) -> bytes:
+        """Its text, as bytes."""
+        return b"".join(self.chunks())
+
+    @property
+    def text(self) -> str:
+        """Its text."""
+        return self.data.decode("ascii")
+
+    def chunks(self) -> Iterator[bytes]:
+        """Yields its text in parts."""
+        return self.spool.chunks(self.first, self.length)
+
     def options(self) -> List[str]:
-        """The options for thpsplit, but for thresholds."""
+        """The options for thpsplit, except thresholds."""
         return options_of(self.orders, self.blocks)
 
-    def filled(self) -> str:
-        """The text with each page in full use before the shrinker runs, but those that are partly mapped
-        (saying.fill)."""
-        front, back = self.text.split(f"\n{MARK}\n", 1)
-        lines = []
-        for found in re.finditer(r"^# page (\d+) (\d+) (.*)$", front, re.MULTILINE):
-            if "partly" not in found[3].split():
-                lines.append(fill(int(found[1]), int(found[2]), 1 << self.nodes[int(found[1])].order))
-        return front + "\n" + "".join(line + "\n" for line in lines) + f"{MARK}\n" + back
+    def filled(self) -> Iterator[bytes]:
+        """Yields the text, in parts, with each page in full use before the shrinker runs, except those that are partly
+        mapped (saying.fill)."""
+        data = self.data
+        front = data.index(f"\n{MARK}\n".encode()) + 1
+        yield data[:front]
+        for found in re.finditer(rb"^# page ([0-9]+) ([0-9]+) (.*)$", data[:front], re.MULTILINE):
+            if b"partly" not in found[3].split(b" "):
+                node = int(found[1])
+                yield fill(node, int(found[2]), 1 << self.nodes[node].order).encode() + b"\n"
+        yield data[front:]
 
     def pages(self) -> List[List[Page]]:
-        """The pages of each node, by their numbers. Raises InputFault where their comments are spoilt."""
+        """Returns the pages of each node, by their numbers. InputFault where their comments are spoilt."""
         out: List[List[Page]] = [[] for _ in self.nodes]
-        for found in re.finditer(r"^# page (\d+) (\d+) frame (\d+)(?: (.*))?$", self.text, re.MULTILINE):
+        for found in re.finditer(PAGE_LINE, self.data, re.MULTILINE):
             node, number, frame = (int(found[i]) for i in (1, 2, 3))
-            by = re.search(r"\bby ([\d:,]+)", found[4] or "")
             if node >= len(out) or number != len(out[node]):
                 raise InputFault(f"{self.name}: page {number} of node {node} isn't in its place")
-            pairs = [pair.split(":") for pair in by[1].split(",")] if by else []
-            out[node].append(Page(frame, {int(process): int(count) for process, count in pairs}))
+            out[node].append(Page(frame, self._owners(found[4] or b"")))
+        for index, (node_pages, told) in enumerate(zip(out, self.nodes)):
+            if len(node_pages) != told.pages:
+                raise InputFault(f"{self.name}: node {index} has {len(node_pages)} lines '# page', not {told.pages}")
         return out
+
+    def _owners(self, words: bytes) -> Dict[int, int]:
+        by = re.search(rb"(?:^| )by ([0-9:,]+)", words)
+        pairs = [pair.split(b":") for pair in by[1].split(b",")] if by else []
+        if not all(len(pair) == 2 and all(0 < len(number) <= 12 for number in pair) for pair in pairs):
+            raise InputFault(f"{self.name}: a line '# page' has spoilt words after 'by'")
+        return {int(process): int(count) for process, count in pairs}
 
     def processes(self) -> Dict[int, str]:
         """The names of the processes that were looked at."""
-        return {int(n): name for n, name in re.findall(r"^# process (\d+) (.*)$", self.text, re.MULTILINE)}
+        found = re.findall(rb"^# process ([0-9]{1,10}) (.*)$", self.head(), re.MULTILINE)
+        return {int(number): name.decode("ascii") for number, name in found}
 
     def today(self) -> Optional[int]:
         """The machine's max_ptes_none when the snapshot was taken."""
-        found = re.search(r"^# today max_ptes_none (\d+) ", self.text, re.MULTILINE)
+        found = re.search(rb"^# today max_ptes_none ([0-9]{1,3}) ", self.head(), re.MULTILINE)
         return int(found[1]) if found else None
 
     def left_out(self) -> Dict[str, int]:
         """What was left out, and how often, by reason."""
-        return {why: int(n) for n, why in re.findall(r"^# left out: (\d+) (.*)$", self.text, re.MULTILINE)}
+        found = re.findall(rb"^# left out: ([0-9]{1,15}) (.*)$", self.head(), re.MULTILINE)
+        return {why.decode("ascii"): int(count) for count, why in found}
+
+    def head(self) -> bytes:
+        """The comments before the first command."""
+        out = b""
+        for chunk in self.chunks():
+            out += chunk
+            if b"\nsetup\n" in out:
+                break
+        return out.partition(b"\nsetup\n")[0]
 
 
 def options_of(orders: Sequence[int], blocks: int) -> List[str]:
-    """The options of thpsplit for nodes of these orders."""
+    """Returns the options of thpsplit for nodes of these orders."""
     out = ["--nodes", str(len(orders)), "--blocks", str(blocks)]
     return out + (["--orders", ",".join(map(str, orders))] if set(orders) != {PMD_ORDER} else [])
 
 
-def read_script(text: str, name: str) -> Script:
-    """A script that `write_scripts` wrote. Raises InputFault where its head says something else."""
-    first = text.split("\n", 1)[0]
-    head = re.fullmatch(r"# thpsplit --nodes (\d+) --blocks (\d+)(?: --orders [\d,]+)?", first)
+def read_script(data: bytes, name: str, spool: Optional[Spool] = None) -> Script:
+    """Returns a script that `write_scripts` wrote. InputFault where its head says something else."""
+    other = re.search(rb"[^\n -~]", data)
+    if other:
+        line = data.count(b"\n", 0, other.start()) + 1
+        raise InputFault(f"{name}: line {line} has another byte than printable ASCII")
+    head = re.fullmatch(FIRST, data.partition(b"\n")[0])
     if not head:
         raise InputFault(f"{name}: line 1 isn't that of a snapshot: '# thpsplit --nodes N --blocks B'")
-    if f"\n{MARK}\n" not in text:
+    if f"\n{MARK}\n".encode() not in data:
         raise InputFault(f"{name}: there is no line '{MARK}'")
-    front = text.split("\nsetup\n", 1)[0]
-    nodes = re.findall(r"^# node (\d+) order (\d+) pages (\d+) cgroup (.*)$", front, re.MULTILINE)
-    if [int(n[0]) for n in nodes] != list(range(int(head[1]))) or not nodes:
-        raise InputFault(f"{name}: line 1 tells of {head[1]} nodes, and the lines '# node' of {len(nodes)}")
-    told = [Node(int(order), int(pages), cgroup) for _, order, pages, cgroup in nodes]
+    count, blocks = int(head[1]), int(head[2])
+    nodes = re.findall(NODE_LINE, data.partition(b"\nsetup\n")[0], re.MULTILINE)
+    if [int(n[0]) for n in nodes] != list(range(count)) or not nodes:
+        raise InputFault(f"{name}: line 1 has {count} nodes, and the lines '# node' {len(nodes)}")
+    told = [Node(int(order), int(pages), cgroup.decode("ascii")) for _, order, pages, cgroup in nodes]
     if not all(2 <= node.order <= PMD_ORDER and 1 <= node.pages <= BLOCKS for node in told):
         raise InputFault(f"{name}: a node has an order beyond 2 to {PMD_ORDER}, or more than {BLOCKS} pages")
-    return Script(text, int(head[2]), told, name)
+    if count > NODES or not 1 <= blocks <= BLOCKS:
+        raise InputFault(f"{name}: line 1 has more than {NODES} nodes, or not 1 to {BLOCKS} blocks")
+    spool = spool or Spool()
+    script = Script(spool, spool.length, len(data), blocks, told, name)
+    spool.add(data)
+    script.pages()
+    return script
 
 
 Group = Tuple[int, int]  # control group and order
 
 
 def groups_of(pages: Iterable[Said]) -> Iterator[Tuple[Group, List[Said]]]:
-    """The pages of each node: those that left the queue first, then in the order of the queue."""
+    """Yields the pages of each group: those that left the queue first, then in the order of the queue."""
     out: Dict[Group, List[Said]] = {}
     for said in pages:
         out.setdefault((said.folio.cgroup, said.folio.order), []).append(said)
     for group in sorted(out):
         own = out[group]
         own.sort(key=lambda s: (s.is_standing, MANY if s.folio.place is None else s.folio.place, s.folio.frame))
-        for first in range(0, len(own), BLOCKS):
-            yield group, own[first : first + BLOCKS]
+        yield group, own
 
 
-def node_text(pages: Sequence[Said], node: int) -> str:
-    """The commands of a node, up to the mark."""
-    lines: List[str] = []
-    gone = [said for said in pages if not said.is_standing]
-    for number, said in enumerate(gone):
-        lines += begin(said, node, number)
-    lines += [f"scan {node} {TAKE}"] * -(-len(gone) // TAKE)
-    for number, said in enumerate(pages):
-        lines += state(said, node, number)
-    return "".join(line + "\n" for line in lines)
+@dataclass
+class Part:
+    """A node of a script that is being written: its group, its pages, and where their states are."""
+
+    group: Group
+    first: int
+    length: int = 0
+    pages: List[Said] = field(default_factory=list)
+
+    def begin(self, node: int) -> bytes:
+        """The commands before the states: pages that left the queue."""
+        gone = [said for said in self.pages if not said.is_standing]
+        lines = [line for number, said in enumerate(gone) for line in begin(said, node, number)]
+        lines += [f"scan {node} {TAKE}"] * -(-len(gone) // TAKE)
+        return "".join(line + "\n" for line in lines).encode("ascii")
+
+
+class Writer:
+    """Writes scripts, page by page."""
+
+    def __init__(self, head: Sequence[str], names: Dict[int, str]) -> None:
+        self._head, self._names = head, names
+        self._states, self._spool = Spool(), Spool()
+        self._parts: List[Part] = []
+        self._length = self._least = sum(len(line) + 3 for line in head)
+
+    def has_room(self, group: Group, said: Said) -> bool:
+        """Adds a page to the script that is being written; returns whether there was room for it."""
+        parts = self._parts
+        is_new = not parts or parts[-1].group != group or len(parts[-1].pages) == BLOCKS
+        if is_new and len(parts) == NODES:
+            return False
+        node, number = len(parts) - (not is_new), 0 if is_new else len(parts[-1].pages)
+        text = "".join(line + "\n" for line in state(said, node, number)).encode("ascii")
+        if parts and self._length + len(text) + BEGIN > MOST_TEXT:
+            return False
+        if is_new:
+            parts.append(Part(group, self._states.length))
+        self._states.add(text)
+        parts[-1].pages.append(said)
+        parts[-1].length += len(text)
+        self._length += len(text) + BEGIN
+        return True
+
+    def finish(self) -> Tuple[Script, List[List[Said]]]:
+        """Returns the script, and its pages by node; begins the next one."""
+        nodes = [
+            Node(part.group[1], len(part.pages), name_of(self._names, part.group[0])) for part in self._parts
+        ]
+        blocks = max(node.pages for node in nodes)
+        lines = [" ".join(["# thpsplit"] + options_of([node.order for node in nodes], blocks))]
+        lines += [f"# {line}" for line in self._head]
+        lines += [f"# node {n} order {one.order} pages {one.pages} cgroup {one.cgroup}" for n, one in enumerate(nodes)]
+        first = self._spool.length
+        self._spool.add(("\n".join(lines) + "\nsetup\n").encode("ascii"))
+        for index, part in enumerate(self._parts):
+            self._spool.add(part.begin(index))
+            for chunk in self._states.chunks(part.first, part.length):
+                self._spool.add(chunk)
+        scans = [f"scan {n} {TAKE}" for n, node in enumerate(nodes) for _ in range(-(-node.pages // TAKE))]
+        self._spool.add(("\n".join([MARK] + scans) + "\n").encode("ascii"))
+        made = Script(self._spool, first, self._spool.length - first, blocks, nodes)
+        pages = [part.pages for part in self._parts]
+        self._states.clear()
+        self._parts, self._length = [], self._least
+        return made, pages
+
+
+def name_of(names: Dict[int, str], cgroup: int) -> str:
+    """Returns the name of a control group by its inode."""
+    return names.get(cgroup, f"inode {cgroup}" if cgroup else "none")
 
 
 def write_scripts(
     pages: Iterable[Said], head: Sequence[str], names: Dict[int, str]
 ) -> Iterator[Tuple[Script, List[List[Said]]]]:
-    """The scripts that hold these pages together, each with its pages by node. `head`: comment lines for each script;
-    `names`: control groups by inode."""
-    part: List[Tuple[Group, List[Said], str]] = []
-    length = 0
+    """Yields the scripts that hold these pages together, each with its pages by node. `head`: comment lines for each
+    script; `names`: control groups by inode."""
+    writer, is_empty = Writer(head, names), True
     for group, own in groups_of(pages):
-        todo = [own]
-        while todo:
-            some = todo.pop()
-            text = node_text(some, len(part))
-            if len(text) > MOST_TEXT and len(some) > 1:  # too long for any script: in halves
-                todo += [some[len(some) // 2 :], some[: len(some) // 2]]
-                continue
-            if part and length + len(text) > MOST_TEXT:
-                yield finish(part, head, names)
-                part, length, text = [], 0, node_text(some, 0)
-            part.append((group, some, text))
-            length += len(text)
-            if len(part) == NODES:
-                yield finish(part, head, names)
-                part, length = [], 0
-    if part:
-        yield finish(part, head, names)
-
-
-def finish(
-    part: List[Tuple[Group, List[Said], str]], head: Sequence[str], names: Dict[int, str]
-) -> Tuple[Script, List[List[Said]]]:
-    """One script of these nodes."""
-    nodes = [
-        Node(order, len(pages), names.get(cgroup, f"inode {cgroup}" if cgroup else "none"))
-        for (cgroup, order), pages, _ in part
-    ]
-    blocks = max(node.pages for node in nodes)
-    lines = [" ".join(["# thpsplit"] + options_of([node.order for node in nodes], blocks))]
-    lines += [f"# {line}" for line in head]
-    lines += [f"# node {n} order {node.order} pages {node.pages} cgroup {node.cgroup}" for n, node in enumerate(nodes)]
-    scans = [f"scan {n} {TAKE}" for n, node in enumerate(nodes) for _ in range(-(-node.pages // TAKE))]
-    text = "\n".join(lines) + "\nsetup\n" + "".join(text for _, _, text in part) + "\n".join([MARK] + scans) + "\n"
-    return Script(text, blocks, nodes), [pages for _, pages, _ in part]
+        for said in own:
+            if not writer.has_room(group, said):
+                yield writer.finish()
+                writer.has_room(group, said)
+            is_empty = False
+    if not is_empty:
+        yield writer.finish()

@@ -8,20 +8,29 @@ import re
 import sys
 import time
 from collections import Counter
+from contextlib import ExitStack
 from dataclasses import dataclass, field
-from typing import Any, Dict, List, Optional
+from typing import Any, Dict, Iterator, List, Optional, Set, Tuple
 
 from ..common.direct_map import DirectMap
-from ..common.errors import InputFault, Unavailable
+from ..common.errors import Unavailable
 from ..common.files import BASE, PMD_ORDER, PTES_NONE, SWITCH, read
+from ..common.groups import find_hierarchy
+from ..common.holding import LIMIT, held
+from ..common.keeper import Keeper
 from ..common.kernel_memory import KernelMemory
+from ..common.machine import namespace_note
+from ..common.text import escaped
 from .folios import Folio
-from .processes import Choice, anonymous_huge, group_names, held, machine_huge, name_of
+from .proc import Unreadable, anonymous_huge, group_names, lacking, machine_huge, name_of
+from .processes import Choice
 from .queues import Queues
-from .reading import MOVED, Progress, Reader
+from .reading import MEMORY, MOVED, Progress, Reader
+from .rights import demand_frames, demand_signals, missing_for_kernel, refusal
 from .saying import Said, Unsayable, prepare
 from .scripts import Script, write_scripts
 
+NAME = "thpwhatif"
 VERSION = 1  # of what `Snapshot.to_json` makes
 FREED = "huge pages that were freed while they were read"
 
@@ -35,6 +44,9 @@ class How:
     with_kernel: bool = True  # queues, flags and pins by BPF
     all_queued: bool = False  # as if each page of PMD size still stood in its queue
     threads: int = 0
+    freeze_limit: float = LIMIT  # seconds for which processes are held at most
+    wait: bool = False  # for another tool that holds processes
+    memory: int = MEMORY  # MiB that the look keeps at most
 
 
 @dataclass
@@ -57,8 +69,10 @@ class Snapshot:
     left_out: Counter[str]
     names: Dict[int, str] = field(default_factory=dict)  # of control groups, by inode
     chosen: str = ""
+    note: str = ""  # what a look from inside a PID namespace can't see
     looked_at: int = 0
     held: int = 0
+    hold: str = ""  # how they were held
     lacking: str = ""  # why the kernel's structures weren't read
     others: int = 0  # anonymous base pages that aren't huge
     sums: Sums = field(default_factory=Sums)
@@ -75,14 +89,23 @@ class Snapshot:
     def locked_are_tried(self) -> bool:
         """Whether this kernel's shrinker tries locked pages: before Linux 6.18 (mm/huge_memory.c:
         deferred_split_scan)."""
-        found = re.match(r"Linux (\d+)\.(\d+)", self.kernel)
-        return bool(found) and (int(found[1]), int(found[2])) < (6, 18)
+        found = re.match(r"Linux ([0-9]{1,4})\.([0-9]{1,4})", self.kernel)
+        return found is not None and (int(found[1]), int(found[2])) < (6, 18)
 
     def to_json(self) -> Dict[str, Any]:
-        """As a JSON object, from which `from_json` makes the same scripts."""
+        """Returns it as a JSON object, from which `stored.from_json` makes the same scripts."""
         out = dict(vars(self))
         out.update(version=VERSION, folios=[folio.to_json() for folio in self.folios], sums=vars(self.sums))
         return out
+
+    def json_parts(self) -> Iterator[str]:
+        """Yields the JSON text of that object in parts, a huge page a line."""
+        out = dict(vars(self), version=VERSION, sums=vars(self.sums))
+        del out["folios"]
+        yield json.dumps(out)[:-1] + ', "folios": ['
+        for index, folio in enumerate(self.folios):
+            yield (",\n" if index else "\n") + json.dumps(folio.to_json())
+        yield "]}\n"
 
     def head(self) -> List[str]:
         """The comments of its scripts."""
@@ -93,22 +116,6 @@ class Snapshot:
         lines += [f"left out: {count} {why}" for why, count in sorted(self.left_out.items()) if count]
         lines += [f"process {number} {name}" for number, name in sorted(self.processes.items())]
         return lines
-
-
-def from_json(text: str, name: str) -> Snapshot:
-    """A stored snapshot. Raises InputFault where the text isn't one."""
-    try:
-        values = json.loads(text)
-        if values.pop("version") != VERSION:
-            raise InputFault(f"{name}: a snapshot of another version than {VERSION}")
-        values["folios"] = [Folio.from_json(folio) for folio in values["folios"]]
-        values["sums"] = Sums(**values["sums"])
-        values["left_out"] = Counter(values["left_out"])
-        for key in ("processes", "names"):
-            values[key] = {int(number): word for number, word in values[key].items()}
-        return Snapshot(**values)
-    except (KeyError, TypeError, ValueError, AttributeError, IndexError) as error:
-        raise InputFault(f"{name}: this is no stored snapshot ({type(error).__name__}: {error})") from error
 
 
 @dataclass
@@ -135,7 +142,7 @@ def told(snapshot: Snapshot) -> List[str]:
     """What a reader of the numbers should know, a line each."""
     whole = [folio for folio in snapshot.folios if folio.order == PMD_ORDER]
     size = sum(BASE << folio.order for folio in snapshot.folios)
-    sums, lines = snapshot.sums, []
+    sums, lines = snapshot.sums, [snapshot.note] if snapshot.note else []
     lines.append(
         f"{len(snapshot.folios)} huge pages ({len(whole)} of PMD size), {mebibytes(size)} MiB, "
         f"of {len(snapshot.processes)} processes; {mebibytes(snapshot.others * BASE)} MiB of other anonymous pages"
@@ -162,7 +169,8 @@ def told(snapshot: Snapshot) -> List[str]:
         lines.append(", ".join(f"{what} {count}" for what, count in counts.items()))
     unread = sum(1 for folio in snapshot.folios if mapped(folio) & ~folio.known)
     lines += [f"with subpages that couldn't be read, taken as data: {unread}"] if unread else []
-    lines.append("held still meanwhile" if snapshot.held else "not held: each subpage was so at some moment")
+    held_still = snapshot.hold or "held still meanwhile"
+    lines.append(held_still if snapshot.held else "not held: each subpage was so at some moment")
     return lines + warnings(snapshot)
 
 
@@ -205,85 +213,111 @@ class Taker:
     """Takes snapshots; the kernel's types are read once for all of them."""
 
     def __init__(self, how: How, progress: Optional[Progress] = None) -> None:
-        self.how, self._progress = how, progress or (lambda what, done, of: None)
-        self._queues, self._lacking = None, "not asked for"
+        self.how = how
+        # a terminal may belong to a process that is held: nothing is written meanwhile
+        self._progress = progress if progress and not how.freeze else lambda what, done, of: None
+        self._queues, self.lacking = None, "not asked for"
         self._direct: Optional[DirectMap] = None
+        demand_frames()
         if how.with_kernel:
             try:
                 memory = KernelMemory()
-                self._queues, self._lacking = Queues(memory), ""
+                self._queues, self.lacking = Queues(memory), ""
                 self._direct = DirectMap(memory)
             except (Unavailable, OSError) as error:
-                self._lacking = "" if self._queues else str(error).splitlines()[0]
+                reason = escaped(str(error).partition("\n")[0]) + missing_for_kernel()
+                self.lacking = "" if self._queues else reason
 
     def take(self, choice: Choice) -> Snapshot:
-        """Looks once. A process that can't be read, or ends meanwhile, is counted in what was left out."""
+        """Looks once. A process that can't be read, or ends meanwhile, is counted in what was left out. While processes
+        are held everything is read that has to be; the rest comes afterwards."""
         began = time.monotonic()
-        wanted = choice.find()
-        reader = Reader(self.how.with_small, self.how.threads, self._progress, self._direct)
+        choice.check()
+        how, hold = self.how, None
+        reader = Reader(how.with_small, how.threads, self._progress, self._direct, how.memory)
         try:
-            with held(wanted, choice.groups, self.how.freeze) as count:
-                sums = self._walk(reader, wanted)
-                reader.read_groups()
-                self._look(reader)
-                reader.read_counts()
-                reader.read_zeros()
-                reader.check_again()
-                sampled, changed = reader.read_sample_again()
-            snapshot = self._gather(reader, choice, sums)
+            with ExitStack() as stack:
+                if how.freeze:
+                    demand_signals(choice.find())
+                    keeper = stack.enter_context(Keeper(NAME, how.wait))
+                    hold = stack.enter_context(held(choice.find, choice.groups, keeper, how.freeze_limit))
+                reading, wanted = time.monotonic(), choice.find()
+                sums, places = self._read(reader, wanted)
+                machine = machine_huge() if choice.everything else None
+                reader.spent["reading"] = time.monotonic() - reading
+                if hold:
+                    hold.release()
+            sampled, changed = reader.finish()
         finally:
             reader.close()
-        snapshot.looked_at, snapshot.held = len(wanted), count
+        snapshot = self._gather(reader, choice, sums, places)
+        snapshot.note = namespace_note()
+        snapshot.sums.machine = None if snapshot.note else machine
+        snapshot.looked_at = len(wanted)
+        if hold:
+            snapshot.held, snapshot.hold = hold.count, escaped(hold.report())
         snapshot.sampled, snapshot.changed = sampled, changed
         snapshot.seconds = time.monotonic() - began
         return snapshot
 
+    def _read(self, reader: Reader, wanted: List[int]) -> Tuple[Sums, Dict[int, int]]:
+        """Reads all that is read; returns sums, and the places of pages in their queues."""
+        sums = self._walk(reader, wanted)
+        reader.read_groups()
+        places = self._look(reader)
+        reader.read_counts()
+        reader.read_zeros()
+        reader.check_again()
+        reader.read_sample()
+        return sums, places
+
     def _walk(self, reader: Reader, wanted: List[int]) -> Sums:
-        """Page tables of all processes."""
+        """Reads page tables of all processes."""
         sums = Sums()
         for done, process in enumerate(wanted, 1):
-            name = name_of(process)
             try:
                 reader.add(process)
                 if reader.by_pmd[process]:
                     sums.kernel += anonymous_huge(process)
-            except OSError as error:
-                reason = "it ended" if isinstance(error, (FileNotFoundError, ProcessLookupError)) else error.strerror
-                reader.left_out[f"process {process} ({name}): {reason}"] += 1
+            except (OSError, Unreadable) as error:
+                if isinstance(error, PermissionError) and lacking("CAP_SYS_PTRACE"):
+                    raise refusal(process) from error
+                reader.left_out[f"process {process} ({name_of(process)}): {reason_of(error)}"] += 1
             self._progress("walking page tables", done, len(wanted))
         return sums
 
-    def _look(self, reader: Reader) -> None:
-        """What the kernel's own structures say."""
+    def _look(self, reader: Reader) -> Dict[int, int]:
+        """Reads what the kernel's own structures contain; returns the places of pages in their queues, by frame."""
         if not self._queues:
-            return
+            return {}
         began = time.monotonic()
-        for folio in list(reader.folios.values()):
-            if not self._queues.look(folio):
-                reader.left_out[FREED] += 1
-                del reader.folios[folio.frame]
-        places = self._queues.places(sorted({folio.cgroup for folio in reader.folios.values()}))
-        for folio in reader.folios.values():
+        gone = [frame for frame, folio in reader.folios.items() if not self._queues.look(folio)]
+        for frame in gone:
+            del reader.folios[frame]
+        if gone:
+            reader.left_out[FREED] += len(gone)
+        places = self._queues.places(sorted({folio.cgroup for folio in reader.folios.values()}), set(reader.folios))
+        reader.spent["queues"] += time.monotonic() - began
+        return places
+
+    def _gather(self, reader: Reader, choice: Choice, sums: Sums, places: Dict[int, int]) -> Snapshot:
+        folios = [reader.folios[frame] for frame in sorted(reader.folios)]
+        for folio in folios:
             folio.place = places.get(folio.frame)
             if self.how.all_queued and folio.order == PMD_ORDER:
                 folio.is_queued = True
-        reader.spent["queues"] += time.monotonic() - began
-
-    def _gather(self, reader: Reader, choice: Choice, sums: Sums) -> Snapshot:
-        folios = [reader.folios[frame] for frame in sorted(reader.folios)]
         numbers = sorted({mapping.process for folio in folios for mapping in folio.mappings})
         page = BASE << PMD_ORDER
         sums.by_pmd = sum(reader.by_pmd.values()) * page
         sums.distinct = sum(page for folio in folios if folio.order == PMD_ORDER and folio.whole_seen)
         sums.by_parts = sum(page for folio in folios if folio.order == PMD_ORDER and not folio.whole_seen)
-        sums.machine = machine_huge() if choice.everything else None
         return Snapshot(
             folios=folios,
             processes={number: name_of(number) for number in numbers},
             left_out=reader.left_out,
-            names=group_names(),
+            names=names_of_groups({folio.cgroup for folio in folios}),
             chosen=choice.told(),
-            lacking=self._lacking,
+            lacking=self.lacking,
             others=reader.others,
             sums=sums,
             kernel=f"Linux {os.uname().release}",
@@ -291,6 +325,21 @@ class Taker:
             spent=dict(reader.spent),
             **setting(),
         )
+
+
+def reason_of(error: Exception) -> str:
+    """Returns in words why a process can't be read."""
+    if isinstance(error, (FileNotFoundError, ProcessLookupError)):
+        return "it ended"
+    return (error.strerror or "it can't be read") if isinstance(error, OSError) else str(error)
+
+
+def names_of_groups(wanted: Set[int]) -> Dict[int, str]:
+    """Returns the names of memory control groups by the inodes of their folders; none where there is no hierarchy."""
+    try:
+        return group_names(find_hierarchy().mount, wanted)
+    except Unavailable:
+        return {}
 
 
 def moved(snapshot: Snapshot) -> int:

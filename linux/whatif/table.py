@@ -33,21 +33,21 @@ def table(rows: Sequence[Row], today: Optional[int] = None) -> str:
 
 def group_table(groups: Dict[str, List[Row]]) -> str:
     """A line for each control group: its huge pages, then MiB back by threshold; most pages first."""
-    first = next(iter(groups.values()), [])
-    lines: List[List[object]] = [["control group", "pages"] + [label(row.threshold) for row in first]]
+    first: List[Row] = next(iter(groups.values()), [])
+    lines: List[List[object]] = [["control group", "pages", *(label(row.threshold) for row in first)]]
     for name, rows in sorted(groups.items(), key=lambda item: (-item[1][0].pages, item[0])):
-        lines.append([name, rows[0].pages] + [f"{row.mebibytes:.1f}" for row in rows])
+        lines.append([name, rows[0].pages, *(f"{row.mebibytes:.1f}" for row in rows)])
     return "MiB back by control group:\n" + aligned(lines, 1)
 
 
 def process_table(shares: Dict[int, Dict[int, Share]], names: Dict[int, str]) -> str:
     """A line for each process: its huge pages, then MiB back by threshold; most pages first. `shares`: by threshold."""
-    lines: List[List[object]] = [["process", "name", "pages"] + [label(threshold) for threshold in shares]]
-    first = next(iter(shares.values()), {})
+    lines: List[List[object]] = [["process", "name", "pages", *(label(threshold) for threshold in shares)]]
+    first: Dict[int, Share] = next(iter(shares.values()), {})
     for process in sorted(first, key=lambda number: (-first[number].pages, number)):
         frames = [each[process].frames if process in each else 0 for each in shares.values()]
         cells = [f"{count / FRAMES_A_MEBIBYTE:.1f}" for count in frames]
-        lines.append([str(process), names.get(process, "?"), first[process].pages] + cells)
+        lines.append([str(process), names.get(process, "?"), first[process].pages, *cells])
     return "MiB back by process (a shared page counts once):\n" + aligned(lines, 2)
 
 

@@ -1,13 +1,17 @@
 """Predictions beside what the kernel's shrinker then does: known pages, or a command's, in a memory control group of
 its own.
 
-A trial makes the pages anew, sets a threshold, looks, asks thpsplit and the plain judge (reference.py), has the kernel
-reclaim in the group, and looks which pages are split and which frames came back. Settings, groups and processes go
-away at any end (linux/common/keeper.py); one tool at a time holds the lock.
+A trial makes new pages, sets a threshold, looks, has the kernel reclaim in the group, and looks which pages are split
+and which frames came back; thpsplit and the plain judge (reference.py) predict the same from the look. Settings, groups
+and processes go away at any end (linux/common/keeper.py); one tool at a time holds the lock.
+
+The kernel's counters of splits are of the whole machine. They are compared where they don't move before and after the
+reclaim; where others move them, a trial whose pages are all as predicted is inconclusive, not exact.
 """
 
 from __future__ import annotations
 
+import enum
 import json
 import os
 import random
@@ -15,32 +19,57 @@ import signal
 import subprocess
 import time
 from collections import Counter
-from contextlib import contextmanager
+from contextlib import ExitStack, contextmanager
 from dataclasses import dataclass, field
-from pathlib import Path
 from typing import Dict, Iterator, List, Optional, Sequence, Set
 
 from ..common.counters import Counter as Statistic
 from ..common.counters import counts
-from ..common.errors import DIFFERS, DONE, InputFault, Unavailable
-from ..common.files import BASE, COLLAPSE_SLEEP, PMD_ORDER, PTES_NONE, SWITCH, THP, size_folder
+from ..common.errors import DIFFERS, DONE, INCONCLUSIVE, InputFault, RunFailed
+from ..common.files import BASE, COLLAPSE_SLEEP, PMD_ORDER, PTES_NONE, SWITCH, THP, OwnFolder, size_folder
 from ..common.groups import Groups
+from ..common.holding import LIMIT, held
 from ..common.keeper import Keeper
-from ..common.page_files import Frames, NumberFile, PageFlag, frame_of_entry
+from ..common.page_files import Frames, PageFlag, frame_of_entry
 from ..common.program import Program
 from ..common.subpages import size
+from ..common.text import escaped
+from ..common.user import User
 from .folios import Folio
 from .known import KnownPages
 from .predict import OFF, Predictor, label
-from .processes import Choice, held, members
+from .proc import members
+from .processes import Choice
+from .reading import OpenFiles
 from .reference import given_back
-from .snapshot import How, Scripts, Snapshot, Taker, write
+from .saying import Reason
+from .snapshot import NAME, How, Scripts, Snapshot, Taker, write
 
 THRESHOLDS = (OFF, 0, 1, 16, 32, 64, 128, 256, 409, 500, 510)
 SMALL_ORDERS = (4, 6)
 HOUR = 3600000  # milliseconds: khugepaged collapses nothing meanwhile
 TURN = 60.0  # seconds after which another tool may have the machine
 CHANGE_TIME = 0.5  # seconds that pages change before the look
+WINDOW = 0.05  # seconds before and after a reclaim in which nobody else may move the counters
+LONG_WINDOW = 1.0  # seconds for which the counters are watched where they don't fit
+COMPARED = (Statistic.SPLIT, Statistic.UNDERUSED)
+FILES = 400  # open pagemaps
+
+
+class Outcome(enum.Enum):
+    """What a trial says of the prediction."""
+
+    EXACT = "exact"
+    INCONCLUSIVE = "inconclusive: all pages as predicted, but others moved the counters"
+    DIFFERS = "DIFFERS"
+
+
+def is_quiet(seconds: float) -> bool:
+    """Watches the kernel's counters of splits for some time; returns whether none of them moved."""
+    before = counts([]).machine
+    time.sleep(seconds)
+    now = counts([]).machine
+    return all(now[name] == before[name] for name in (*COMPARED, Statistic.SPLIT_FAILED))
 
 
 @dataclass(frozen=True)
@@ -52,11 +81,14 @@ class Task:
     seed: int = 1
     pages: int = 40
     command: Sequence[str] = ()
+    user: Optional[User] = None  # who runs the command
     after: float = 5.0  # seconds that the command runs before the look
     running: bool = False  # it isn't held between the look and the reclaim
     enabled: str = ""  # transparent_hugepage/enabled meanwhile
     change: int = 0  # microseconds between changes of known pages; 0: they stand still
     with_kernel: bool = True
+    freeze_limit: float = LIMIT  # seconds for which pages are held still at most
+    wait: bool = False  # for another tool
     verbose: bool = False
     keep: str = ""  # a folder for what was seen
 
@@ -79,6 +111,7 @@ class Result:
     came: Dict[int, int]
     beside: Dict[int, int]  # what came of pages that no script says
     added: Dict[Statistic, int]  # to the kernel's counters
+    is_undisturbed: bool = True  # nobody else moved the counters
     differing: List[int] = field(default_factory=list)
 
     def statistics(self) -> Dict[Statistic, int]:
@@ -88,10 +121,19 @@ class Result:
         return {Statistic.SPLIT: len(large), Statistic.UNDERUSED: len(under)}
 
     @property
-    def is_exact(self) -> bool:
-        """Each page and each frame as said, and the counters, but for pages that no script says."""
+    def are_counters_right(self) -> bool:
+        """Whether the counters were moved as predicted, but for pages that no script says."""
         said = self.statistics()
-        return not self.differing and all(0 <= self.added[name] - said[name] <= len(self.beside) for name in said)
+        return all(0 <= self.added[name] - said[name] <= len(self.beside) for name in said)
+
+    @property
+    def outcome(self) -> Outcome:
+        """Exact: each page and each frame as predicted, and the counters too."""
+        if self.differing:
+            return Outcome.DIFFERS
+        if not self.is_undisturbed:
+            return Outcome.INCONCLUSIVE
+        return Outcome.EXACT if self.are_counters_right else Outcome.DIFFERS
 
 
 class Bench:
@@ -110,31 +152,42 @@ class Bench:
         self._taker = Taker(How(with_small=True, with_kernel=task.with_kernel))
         self._made = 0
 
+    @property
+    def lacking(self) -> str:
+        """Why queues and pins are guessed; nothing where they are read."""
+        return self._taker.lacking
+
     def trial(self, threshold: int, chance: random.Random) -> Result:
-        """One trial on pages made anew."""
+        """Makes one trial on new pages."""
         self._made += 1
-        group = self.groups.add(f"trial{self._made}")
+        task, group = self.task, self.groups.add(f"trial{self._made}")
         self.keeper.set(PTES_NONE, threshold)
-        with self._pages(group, threshold, chance):
-            choice = Choice(groups=[group])
-            still = (self.task.command or self.task.change) and not self.task.running
-            with held(members(group), [], bool(still)):
-                snapshot = self._taker.take(choice)
-                made = write(snapshot)
-                said = self._said(made, threshold)
-                before = counts([])
-                self.groups.reclaim(group)
-                added = counts([]).since(before).machine
-                came = became(snapshot, self._frames)
+        with self._pages(group, threshold, chance), ExitStack() as stack:
+            is_undisturbed = is_quiet(WINDOW)
+            if (task.command or task.change) and not task.running:
+                stack.enter_context(held(lambda: members(group), [], self.keeper, task.freeze_limit))
+            snapshot = self._taker.take(Choice(groups=[group]))
+            before = counts([])
+            self.groups.reclaim(group)
+            added = counts([]).since(before).machine
+            came = became(snapshot, self._frames)
+            stack.close()
+            is_undisturbed = is_undisturbed and is_quiet(WINDOW)
+            made = write(snapshot)
+            said = self._said(made, threshold)
         remove_group(group)
-        return self._result(snapshot, made, said, came, {k: v or 0 for k, v in added.items()}, threshold)
+        result = self._result(snapshot, made, said, came, {k: v or 0 for k, v in added.items()}, threshold)
+        result.is_undisturbed = is_undisturbed
+        if is_undisturbed and not result.differing and not result.are_counters_right:
+            result.is_undisturbed = is_quiet(LONG_WINDOW)
+        return result
 
     @contextmanager
     def _pages(self, group: str, threshold: int, chance: random.Random) -> Iterator[None]:
-        """A process with pages, until the end of the `with`."""
+        """Runs a process with pages until the end of the `with`."""
         task, known = self.task, None
         if task.command:
-            process = self._start(group, task.command, subprocess.DEVNULL, None)
+            process = self._start(group, task.command, subprocess.DEVNULL, None, task.user)
         else:
             known = KnownPages(lambda command: self._start(group, command, subprocess.PIPE, subprocess.PIPE))
             process = known.process
@@ -147,23 +200,46 @@ class Bench:
                 orders = [PMD_ORDER] * 8 + list(SMALL_ORDERS)
                 known.make(chance, task.pages, orders, lambda: self._look_before(group, threshold))
             else:
-                time.sleep(task.after)
+                self._wait(process, group)
             yield
         finally:
             end_process(process)
             self.keeper.disown(process.pid)
 
+    def _wait(self, process: subprocess.Popen[str], group: str) -> None:
+        """Lets the command run for a while. RunFailed where it ends before the look, and leaves no process."""
+        try:
+            status = process.wait(self.task.after)
+        except subprocess.TimeoutExpired:
+            return
+        ended = f"by signal {-status}" if status < 0 else f"with status {status}"
+        if not members(group):
+            raise RunFailed(f"the command ended {ended} before the look (--after {self.task.after:g})")
+        print(f"the command ended {ended} before the look; processes that it started run on", flush=True)
+
     def _start(
-        self, group: str, command: Sequence[str], stdin: int, stdout: Optional[int]
+        self, group: str, command: Sequence[str], stdin: int, stdout: Optional[int], user: Optional[User] = None
     ) -> subprocess.Popen[str]:
-        process = subprocess.Popen(
-            list(command),
-            stdin=stdin,
-            stdout=stdout,
-            text=True,
-            start_new_session=True,
-            preexec_fn=lambda: self.groups.enter(group, os.getpid()),
-        )
+        def enter() -> None:
+            self.groups.enter(group, os.getpid())
+            if user:
+                user.enter()
+
+        try:
+            process = subprocess.Popen(
+                list(command),
+                stdin=stdin,
+                stdout=stdout,
+                text=True,
+                start_new_session=True,
+                env=user.environment() if user else None,
+                preexec_fn=enter,
+            )
+        except (OSError, ValueError) as error:
+            reason = getattr(error, "strerror", None) or error
+            raise InputFault(f"{escaped(command[0])} can't be run: {reason}") from error
+        except subprocess.SubprocessError as error:
+            raise RunFailed(f"{escaped(command[0])} can't be run in {group}: {error}") from error
         self.keeper.own(process.pid)
         return process
 
@@ -198,7 +274,7 @@ class Bench:
                 judged[frame] = sum(1 << i for i, is_back in enumerate(back) if is_back)
         own = {frame: given for frame, given in came.items() if frame in folios}
         differing = [frame for frame in folios if said.get(frame) != own.get(frame)]
-        return Result(snapshot, folios, partly, said, judged, own, beside, added, differing)
+        return Result(snapshot, folios, partly, said, judged, own, beside, added, differing=differing)
 
 
 def end_process(process: subprocess.Popen[str]) -> None:
@@ -231,33 +307,29 @@ def became(snapshot: Snapshot, frames: Frames) -> Dict[int, int]:
     snapshot maps where it was. Frames that are a huge page, but nobody's where they were, came back altogether and
     are in use again."""
     out: Dict[int, int] = {}
-    maps: Dict[int, NumberFile] = {}
-    for folio in snapshot.folios:
-        flags = frames.flags(folio.frame, folio.size)
-        is_whole = flags[0] & PageFlag.COMPOUND_HEAD and all(flag & PageFlag.COMPOUND_TAIL for flag in flags[1:])
-        is_held: Set[int] = set()
-        for mapping in folio.mappings:
-            try:
-                if mapping.process not in maps:
-                    maps[mapping.process] = NumberFile(f"/proc/{mapping.process}/pagemap")
-                entries = maps[mapping.process].at(mapping.address // BASE, folio.size)
-            except (OSError, Unavailable):  # the process ended: it holds nothing
-                continue
-            is_held |= {i for i, entry in enumerate(entries) if frame_of_entry(entry) == folio.frame + i}
-            if is_whole and is_held:
-                break
-        if not (is_whole and is_held):
-            out[folio.frame] = folio.full & ~sum(1 << i for i in is_held)
-    for file in maps.values():
-        file.close()
+    with OpenFiles("pagemap", FILES) as maps:
+        for folio in snapshot.folios:
+            flags = frames.flags(folio.frame, folio.size)
+            is_whole = flags[0] & PageFlag.COMPOUND_HEAD and all(flag & PageFlag.COMPOUND_TAIL for flag in flags[1:])
+            is_held: Set[int] = set()
+            for mapping in folio.mappings:
+                entries = maps.numbers(mapping.process, mapping.address // BASE, folio.size)
+                is_held |= {i for i, entry in enumerate(entries) if frame_of_entry(entry) == folio.frame + i}
+                if is_whole and is_held:
+                    break
+            if not (is_whole and is_held):
+                out[folio.frame] = folio.full & ~sum(1 << i for i in is_held)
     return out
 
 
 def count_result(seen: Counter[str], result: Result) -> None:
-    """Adds a trial to the sums that stand at the end."""
+    """Adds a trial to the sums that are printed at the end."""
     came = sum(size(given) for given in result.came.values())
+    outcome = result.outcome
     seen["trials"] += 1
-    seen["trials exact"] += result.is_exact
+    seen["trials exact"] += outcome is Outcome.EXACT
+    seen["trials inconclusive: pages as said, but others moved the counters"] += outcome is Outcome.INCONCLUSIVE
+    seen["trials that differ"] += outcome is Outcome.DIFFERS
     seen["trials in which the plain judge says what came"] += result.judged == result.came
     seen["pages"] += len(result.folios)
     seen["pages as said, to the frame"] += len(result.folios) - len(result.differing)
@@ -265,16 +337,24 @@ def count_result(seen: Counter[str], result: Result) -> None:
     seen["frames said"] += sum(size(given) for given in result.said.values())
     seen["frames that came back"] += came
     seen["pages that were left out"] += sum(result.snapshot.left_out.values())
-    seen["  of these split"] += len(result.beside)
+    seen["  of these given to MADV_FREE"] += result.snapshot.left_out[Reason.LAZILY_FREED.value]
+    seen["  of these split or dropped"] += len(result.beside)
     seen["  and their frames"] += sum(size(given) for given in result.beside.values())
     seen["pages found changed between two looks"] += result.snapshot.changed
+
+
+def verdict_of(result: Result) -> str:
+    """Returns the outcome in words."""
+    if result.differing:
+        return f"{len(result.differing)} pages DIFFER"
+    return "the counters DIFFER" if result.outcome is Outcome.DIFFERS else str(result.outcome.value)
 
 
 def told(threshold: int, result: Result) -> str:
     """One line of a trial."""
     said = sum(size(given) for given in result.said.values())
     came = sum(size(given) for given in result.came.values())
-    verdict = "exact" if result.is_exact else f"{len(result.differing)} pages DIFFER"
+    verdict = verdict_of(result)
     names = result.statistics()
     counted = ", ".join(f"{name.value} {result.added[name]} of {names[name]}" for name in names)
     return (
@@ -300,34 +380,45 @@ def told_pages(result: Result) -> List[str]:
 
 
 def verify(task: Task, program: Program) -> int:
-    """Runs all trials; status 1 where one wasn't exact. After TURN seconds another tool may have the lock for a
-    while."""
+    """Runs all trials; returns the status: DIFFERS where one differs, else INCONCLUSIVE where one is inconclusive.
+    After TURN seconds another tool may have the lock for a while."""
     seen: Counter[str] = Counter()
-    todo = [(number, threshold) for number in range(task.rounds) for threshold in task.thresholds]
-    print("set meanwhile, and put back: " + ", ".join(task.settings), flush=True)
+    todo = [(number, threshold) for number in range(task.rounds) for threshold in task.thresholds][::-1]
+    folder = OwnFolder(task.keep) if task.keep else None
+    waits = task.wait
     while todo:
-        with Keeper() as keeper:
+        with Keeper(NAME, waits) as keeper:
             bench, until = Bench(keeper, task, program), time.monotonic() + TURN
+            if not seen:
+                print("set meanwhile, and put back: " + ", ".join(task.settings), flush=True)
+                if bench.lacking:
+                    print(f"queues and pins aren't read ({bench.lacking}): predictions are guesses", flush=True)
             while todo and time.monotonic() < until:
-                number, threshold = todo.pop(0)
+                number, threshold = todo.pop()
                 result = bench.trial(threshold, random.Random(f"{task.seed} {number} {threshold}"))
                 count_result(seen, result)
-                if task.keep:
-                    keep(task.keep, f"{task.seed}-{number}-{label(threshold)}", threshold, result)
-                if task.verbose or not result.is_exact:
+                if folder:
+                    keep(folder, f"{task.seed}-{number}-{label(threshold)}", threshold, result)
+                if task.verbose or result.outcome is not Outcome.EXACT:
                     print("\n".join([told(threshold, result)] + told_pages(result)), flush=True)
+        waits = True
     for what, count in seen.items():
         print(f"{count:10} {what}")
-    return DONE if seen["trials exact"] == seen["trials"] else DIFFERS
+    if not seen["pages"]:
+        print("no huge pages were seen: nothing was tried")
+        return INCONCLUSIVE
+    if seen["trials that differ"]:
+        return DIFFERS
+    return DONE if seen["trials exact"] == seen["trials"] else INCONCLUSIVE
 
 
-def keep(folder: str, name: str, threshold: int, result: Result) -> None:
+def keep(folder: OwnFolder, name: str, threshold: int, result: Result) -> None:
     """Writes what was seen before and after a trial, so that it can be judged again: `seen`, a stored snapshot, and
     `came`, the frames that came back by the page's first frame, as hexadecimal sets."""
     came = {str(frame): format(given, "x") for frame, given in {**result.came, **result.beside}.items()}
     text = json.dumps({"threshold": threshold, "came": came, "seen": result.snapshot.to_json()})
     try:
-        Path(folder).mkdir(parents=True, exist_ok=True)
-        (Path(folder) / f"{name}.json").write_text(text + "\n", encoding="ascii")
+        with folder.create(f"{name}.json") as file:
+            file.write(text + "\n")
     except OSError as error:
-        raise InputFault(f"{folder}/{name}.json can't be written: {error.strerror}") from error
+        raise InputFault(f"{name}.json can't be written: {error.strerror}") from error

@@ -15,7 +15,8 @@ from ..predict import OFF, Predictor, Row, highest_with, label, sum_of, threshol
 from ..reference import given_back
 from ..saying import Unsayable, prepare
 from ..scripts import write_scripts
-from ..snapshot import from_json, write
+from ..snapshot import write
+from ..stored import from_json
 from .made_up import any_folio, folio, holed, program
 
 HERE = Path(__file__).resolve().parent

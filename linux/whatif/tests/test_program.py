@@ -41,9 +41,9 @@ class Program(unittest.TestCase):
             (("what-if",), "FILE"),
             (("what-if", "/nowhere"), "/nowhere can't be read"),
             (("what-if", str(ROOT / "examples" / "first.script")), "line 1 isn't that of a snapshot"),
-            (("target", "0", "x"), "more than 0 MiB"),
+            (("target", "0", "x"), "'0' is no number from 0.001 to"),
             (("what-if", str(HERE / "stored" / "known.json"), "--thresholds", "512"), "'512'"),
-            (("watch", "-1", "--all"), "seconds"),
+            (("watch", "0", "--all"), "SECONDS"),
         ):
             done = run(*words)
             self.assertIn(done.returncode, (2, 77), words)

@@ -44,7 +44,7 @@ class Scripts(unittest.TestCase):
         many = pages(4 * 900, 1, scattered)
         made = list(write_scripts(many, [], {}))
         self.assertGreater(sum(len(script.text) for script, _ in made), MOST_TEXT / 2)
-        self.assertTrue(all(len(script.filled()) <= 16 << 20 for script, _ in made))
+        self.assertTrue(all(len(b"".join(script.filled())) <= 16 << 20 for script, _ in made))
         self.assertEqual(sum(node.pages for script, _ in made for node in script.nodes), len(many))
 
     def test_text_beyond_the_limit_is_two_scripts(self) -> None:
@@ -61,15 +61,16 @@ class Scripts(unittest.TestCase):
 
     def test_filled_writes_each_page_before_the_shrinker(self) -> None:
         made, _ = next(write_scripts(pages(3) + [prepare(folio(9, is_partly=True))], [], {}))
-        before, after = made.filled().split(MARK)
+        filled = b"".join(made.filled()).decode("ascii")
+        before, after = filled.split(MARK)
         self.assertTrue(before.endswith("\nwrite 0 0 0 512\nwrite 0 1 0 512\nwrite 0 2 0 512\n"))
-        self.assertNotIn("write 0 3 0 512\nwrite", made.filled())
+        self.assertNotIn("write 0 3 0 512\nwrite", filled)
         self.assertEqual(after, "\nscan 0 128\n")
 
     def test_read_back(self) -> None:
         head = ["left out: 3 huge pages", "process 100 a b", "today max_ptes_none 64 x"]
         made, _ = next(write_scripts(pages(5, 2), head, {}))
-        back = read_script(made.text, "x")
+        back = read_script(made.data, "x")
         self.assertEqual((back.blocks, back.nodes), (made.blocks, made.nodes))
         self.assertEqual(back.left_out(), {"huge pages": 3})
         self.assertEqual(back.processes(), {100: "a b"})
@@ -82,11 +83,11 @@ class Scripts(unittest.TestCase):
         for spoilt, word in (
             (text.replace("# thpsplit", "# thp", 1), "line 1 isn't"),
             (text.replace(MARK, "# x"), "there is no line"),
-            (text.replace("# node 1", "# nodes 1"), "tells of 2 nodes"),
+            (text.replace("# node 1", "# nodes 1"), "line 1 has 2 nodes"),
             (text.replace("order 9", "order 12"), "has an order beyond"),
             ("", "line 1 isn't"),
         ):
             with self.assertRaisesRegex(InputFault, f"^name: .*{word}"):
-                read_script(spoilt, "name")
+                read_script(spoilt.encode(), "name")
         with self.assertRaisesRegex(InputFault, "isn't in its place"):
-            read_script(text.replace("# page 0 1 ", "# page 0 2 "), "name").pages()
+            read_script(text.replace("# page 0 1 ", "# page 0 2 ").encode(), "name")

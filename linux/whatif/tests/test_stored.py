@@ -12,7 +12,8 @@ from typing import Callable, Dict
 from ...common.errors import InputFault
 from ..picture import picture
 from ..predict import DEFAULT, Predictor, with_today
-from ..snapshot import Snapshot, from_json, told, write
+from ..snapshot import Snapshot, told, write
+from ..stored import from_json
 from ..table import cost_table, group_table, last_line, process_table, row_json, table
 from .made_up import program
 

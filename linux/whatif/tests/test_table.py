@@ -9,8 +9,7 @@ from xml.etree import ElementTree
 
 from ..picture import picture, round_up
 from ..predict import OFF, Row, Share
-from ..processes import Choice, ancestors, printable
-from ..reading import locked_ranges
+from ..processes import Choice
 from ..table import cost_table, last_line, row_json, table
 from ..watch import Look, Watch, line_of, watch
 
@@ -76,18 +75,6 @@ class Watching(unittest.TestCase):
 
 
 class Processes(unittest.TestCase):
-    def test_printable(self) -> None:
-        self.assertEqual(printable("a\nb\u00e9 \x7f"), "a?b? ?")
-
     def test_choice_in_words(self) -> None:
         self.assertEqual(Choice([4, 5], ["/a"], True).told(), "process 4, process 5, control group /a, all processes")
-
-    def test_ancestors_are_spared(self) -> None:
-        import os
-
-        self.assertLessEqual({1, os.getpid(), os.getppid()}, ancestors())
-
-    def test_nothing_is_locked_here(self) -> None:
-        import os
-
-        self.assertEqual(locked_ranges(os.getpid()), [])
+        self.assertEqual(Choice(groups=["/a\n\x1b"]).told(), "control group /a\\x0a\\x1b")
