@@ -13,12 +13,12 @@ import mmap
 import os
 import struct
 from dataclasses import dataclass
-from typing import Callable, Dict, List, Optional, Tuple
+from typing import Callable, Dict, Iterable, List, Optional, Tuple
 
 from .bpf import MMAPABLE, SLEEPABLE, Assembler, Command, Helper, MapType, ProgramType, bpf, create_map, load_program
 from .btf import Types
 from .errors import Unavailable
-from .files import BASE, read
+from .files import BASE
 from .page_files import frames_at
 
 WINDOW = 65536  # bytes that one call reads at most
@@ -228,12 +228,15 @@ class KernelMemory:
         return start
 
 
-def symbols() -> Dict[str, int]:
-    """The addresses of the kernel's functions and variables by name (/proc/kallsyms)."""
+def symbols(wanted: Iterable[str]) -> Dict[str, int]:
+    """The addresses of kernel functions and variables by their names, of those that /proc/kallsyms lists."""
+    names = {name.encode() for name in wanted}
     out: Dict[str, int] = {}
-    for line in read("/proc/kallsyms").splitlines():
-        address, _, name = line.split()[:3]
-        out.setdefault(name, int(address, 16))
+    with open("/proc/kallsyms", "rb") as file:
+        for line in file:
+            words = line.split(None, 3)
+            if len(words) > 2 and words[2] in names:
+                out.setdefault(words[2].decode(), int(words[0], 16))
     return out
 
 
