@@ -109,7 +109,8 @@ class Types:
 
     def _head(self, number: int) -> Tuple[int, int, int]:
         """(name, info, size or type) of a type; all 0 for void."""
-        return _HEAD.unpack_from(self._raw, self._at[number]) if number else (0, 0, 0)
+        name, info, reference = _HEAD.unpack_from(self._raw, self._at[number]) if number else (0, 0, 0)
+        return name, info, reference
 
     def _plain(self, number: int) -> int:
         while number:
@@ -127,7 +128,7 @@ class Types:
             return 8
         if kind == _ARRAY:
             element, _, count = _HEAD.unpack_from(self._raw, self._at[number] + 12)
-            return self._size(element) * count
+            return self._size(element) * int(count)
         return size
 
     def _kind(self, number: int) -> str:

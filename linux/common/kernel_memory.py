@@ -114,7 +114,7 @@ class KernelMemory:
         struct.pack_into("<QQ", self._context, 0, first, second)
         attributes = struct.pack("<IIIIQQIIII", program, 0, 0, 0, 0, 0, 0, 0, 16, 0)
         attributes += struct.pack("<QQ", ctypes.addressof(self._context), 0)
-        return struct.unpack_from("<i", bpf(Command.PROG_TEST_RUN, attributes)[1], 4)[0]
+        return int(struct.unpack_from("<i", bpf(Command.PROG_TEST_RUN, attributes)[1], 4)[0])
 
     def read(self, address: int, size: int) -> bytes:
         """`size` bytes (up to WINDOW) at a kernel address."""
@@ -124,17 +124,18 @@ class KernelMemory:
 
     def word(self, address: int) -> int:
         """The 64-bit number at a kernel address."""
-        return struct.unpack("<Q", self.read(address, 8))[0]
+        return int(struct.unpack("<Q", self.read(address, 8))[0])
 
     def task(self) -> int:
         """The address of the caller's own struct task_struct."""
         self.run(self._reader, 0, 0)
-        return struct.unpack("<Q", self.window[:8])[0]
+        return int(struct.unpack("<Q", self.window[:8])[0])
 
     def links(self, head: int, limit: int = 1 << 20) -> List[int]:
         """The addresses of a list's links, without its head (struct list_head)."""
         for _ in range(TRIES):
-            out, at = [], head
+            out: List[int] = []
+            at = head
             while len(out) < limit:
                 if self.run(self._walker, at, head):
                     break

@@ -18,7 +18,7 @@ from .agreement import Agreement
 from .calls import COLLAPSE, COPIED, MADV_COLLAPSE, MADVISE, has_succeeded
 from .folios import Line, Page
 from .mappings import Mappings
-from .records import Fault, Kind, Record, link
+from .records import Kind, Record, link
 from .scans import Scans
 from .state import Settings, State
 
@@ -193,9 +193,9 @@ class Journalist:
             self._state.joining[record.task] = page  # it joins between this record and the task's next one
 
     def _copy(self, record: Record) -> None:
-        """A base page allocated in a fault on a subpage that is mapped: a copy on write takes that mapping away. It is as
-        a call that unmaps the subpage: what it did is certain by its task's next record, since it frees the old frame
-        some microseconds after this one."""
+        """A base page allocated in a fault on a subpage that is mapped: a copy on write takes that mapping away. It is
+        followed as a call that unmaps the subpage and has ended by its task's next record: the old frame is freed some
+        microseconds after the new one is allocated."""
         fault = record.fault(self._faults.pop(record.task, None))
         if not fault or fault.code & WRITTEN != WRITTEN:
             return

@@ -11,6 +11,7 @@ from .folios import Line
 from .store import FOLDER
 
 WINDOW = 20000  # lines that can be reordered
+SLACK = 5000  # lines beyond these that are kept before the oldest go to the file
 
 
 class Lost:
@@ -38,9 +39,9 @@ class Lines:
         self._file: Optional[IO[bytes]] = None
 
     def add(self, line: Line) -> None:
-        """Appends a line, and makes the oldest ones final where there are twice as many as can be reordered."""
+        """Appends a line, and makes the oldest ones final where there are many more than can be reordered."""
         self.latest.append(line)
-        if len(self.latest) >= 2 * WINDOW:
+        if len(self.latest) >= WINDOW + SLACK:
             self._settle(len(self.latest) - WINDOW)
 
     def place(self, line: Optional[Line]) -> int:
@@ -92,4 +93,3 @@ class Lines:
         """Removes the file."""
         if self._file:
             self._file.close()
-

@@ -1,7 +1,8 @@
 """Pieces of the BPF programs of a recording: whose task it is, what records are made of, and which are worth sending.
 
-A record is sent only where it can matter: an address space is known once it has a page of the group (`spaces`), with a bit
-for each 2 MiB of it where such a page may be. Calls and copies elsewhere, and faults that allocate nothing, aren't sent.
+A record is sent only where it can matter: an address space is known once it has a page of the group (`spaces`), with
+a bit for each 2 MiB of it where such a page may be. Calls and copies elsewhere, and faults that allocate nothing, aren't
+sent.
 """
 
 from __future__ import annotations

@@ -11,8 +11,8 @@ from ..common.files import PMD_ORDER
 from ..common.kernel_memory import KernelMemory, symbols
 from .calls import BRK, ERRORS, MADVISE, MAP_FIXED, MAP_FIXED_NOREPLACE, MMAP, MPROTECT, MREMAP, MUNMAP
 from .pieces import (
-    ADDRESS_AT, BASE_BITS, CODE_AT, ENTERED_AT, FAULT_ADDRESS, FAULT_CODE, HOW, NEXT_AT, SEEN_FREED, UNFILTERED_AT, Maps,
-    Pieces,
+    ADDRESS_AT, BASE_BITS, CODE_AT, ENTERED_AT, FAULT_ADDRESS, FAULT_CODE, HOW, NEXT_AT, SEEN_FREED, UNFILTERED_AT,
+    Maps, Pieces,
 )
 from .records import IN_FAULT, IN_NONE, VALUES_AT, Kind
 

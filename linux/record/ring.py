@@ -1,7 +1,8 @@
 """A BPF ring buffer: mapped once, records are taken out in bulk.
 
-Rules: Documentation/bpf/ringbuf.rst of the kernel, kernel/bpf/ringbuf.c. The first page holds the reader's position, the
-second the writers'; then come the records, each with a head of 8 bytes and padded to 8 bytes. Heads never wrap around.
+Rules: Documentation/bpf/ringbuf.rst of the kernel, kernel/bpf/ringbuf.c. The first page holds the reader's position,
+the second the writers'; then come the records, each with a head of 8 bytes and padded to 8 bytes. Heads never wrap
+around.
 """
 
 from __future__ import annotations

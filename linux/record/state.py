@@ -58,7 +58,7 @@ class State:
     joining: Dict[int, Page] = field(default_factory=dict)  # pages that join the queue before their task's next record
     spaces: Dict[int, Dict[Page, Mapping]] = field(default_factory=lambda: defaultdict(dict))  # by address space
     ends: Dict[int, Record] = field(default_factory=dict)  # the next end of each address space that has pages
-    pending: Dict[Tuple[int, Kind], Record] = field(default_factory=dict)  # what runs, by task: calls, collapses, copies
+    pending: Dict[Tuple[int, Kind], Record] = field(default_factory=dict)  # calls, collapses, copies that run, by task
     scans: Dict[int, Scan] = field(default_factory=dict)  # those that run, by task
     is_missing: bool = False  # a scan wasn't followed
     now: int = 0  # the time of the record that is being told

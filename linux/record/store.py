@@ -1,8 +1,9 @@
-"""Records on disk: an unnamed temporary file, written as they come and read back in passes, so that a recording of any
-length needs little memory.
+"""Records on disk: an unnamed temporary file, written as they come and read back in passes, so that a recording of
+any length needs little memory.
 
-A record in the file is as in the ring: a head of 8 bytes, the record, padding to 8 bytes. Two words of a record that the
-tap leaves 0 become its links: where in the file the record is that `Record.end`, `later`, `dies` or `child_dies` is to be.
+A record in the file is as in the ring: a head of 8 bytes, the record, padding to 8 bytes. Two words of a record that
+the tap leaves 0 become its links: the places in the file of the records that are its `end`, `later`, `dies` or
+`child_dies`.
 """
 
 from __future__ import annotations

@@ -13,7 +13,7 @@ from ..common.files import PMD_ORDER
 from ..common.kernel_memory import KernelMemory
 from .pieces import LOST_AT, UNFILTERED_AT, Maps
 from .programs import Programs
-from .ring import Ring
+from .ring import SIZE, Ring
 from .store import Store
 
 _COUNTER = struct.Struct("<Q")
@@ -22,9 +22,11 @@ _COUNTER = struct.Struct("<Q")
 class Tap:
     """Records from its making to `close`. `lacking` names what this kernel doesn't report."""
 
-    def __init__(self, memory: KernelMemory, group: int, orders: Sequence[int] = (PMD_ORDER,)) -> None:
+    def __init__(
+        self, memory: KernelMemory, group: int, orders: Sequence[int] = (PMD_ORDER,), room: int = SIZE
+    ) -> None:
         self._open: List[int] = []
-        self._ring = Ring()
+        self._ring = Ring(room)
         self._maps = Maps.made(self._ring.descriptor)
         self._counters = mmap.mmap(self._maps.counters, mmap.PAGESIZE, mmap.MAP_SHARED, mmap.PROT_READ)
         programs = Programs(memory, group, orders, self._maps)
