@@ -7,6 +7,7 @@ another type, is a Missing that names it.
 from __future__ import annotations
 
 import struct
+from array import array
 from dataclasses import dataclass
 from typing import Dict, Iterator, List, Optional, Tuple
 
@@ -18,6 +19,7 @@ _WRAPPERS = (_TYPEDEF, 9, 10, 11, 18)  # and volatile, const, restrict, type tag
 _EXTRA = {_INT: 4, _ARRAY: 12, 14: 4, 17: 4}  # bytes after the head of a type
 _EACH = {_STRUCT: 12, _UNION: 12, _ENUM: 8, _PROTOTYPE: 8, 15: 12, 19: 12}  # bytes for each member
 _HEAD = struct.Struct("<III")
+_NAMED = (_STRUCT, _ENUM, _TYPEDEF)
 _MAGIC = 0xEB9F
 
 
@@ -35,35 +37,71 @@ class Field:
 
 
 class Types:
-    """The types of a BTF text, by default those of the running kernel."""
+    """The types of a BTF text, by default those of the running kernel. What was looked up stays known; the text of the
+    running kernel's types can be let go, and is read again where something else is looked up."""
 
     def __init__(self, raw: Optional[bytes] = None) -> None:
+        self._raw, self._strings, self._from_kernel = b"", 0, raw is None
+        self._at = array("I")  # where each type is, by its number
+        self._names: Dict[int, array[int]] = {}  # by kind: where the names of its types are
+        self._numbers: Dict[int, array[int]] = {}  # by kind: the numbers of these types
+        self._sizes: Dict[str, int] = {}
+        self._fields: Dict[Tuple[str, str], Field] = {}
+        self._enumerators: Dict[str, int] = {}
+        self._load(raw)
+
+    def release(self) -> None:
+        """Lets the text of the running kernel's types go, which takes several MiB."""
+        if self._from_kernel:
+            self._raw, self._at, self._names, self._numbers = b"", array("I"), {}, {}
+
+    def _load(self, raw: Optional[bytes] = None) -> None:
+        """Reads the text, if it isn't there."""
+        if self._raw:
+            return
         if raw is None:
             try:
-                with open(VMLINUX, "rb") as file:
-                    raw = file.read()
+                with open(VMLINUX, "rb", buffering=0) as file:
+                    raw = file.readall()
             except OSError as error:
                 raise Unavailable(f"no type information: {VMLINUX}: {error.strerror} (DEBUG_INFO_BTF)") from error
         if len(raw) < 24 or struct.unpack_from("<H", raw)[0] != _MAGIC:
             raise Unavailable("the type information isn't BTF of this byte order")
         head, types, length, strings = struct.unpack_from("<IIII", raw, 4)
         self._raw, self._strings = raw, head + strings
-        self._at: List[int] = [0]
-        self._named: Dict[Tuple[int, str], int] = {}
-        self._enums: List[int] = []
-        self._index(head + types, head + types + length)
+        self._at = array("I", [0])
+        self._names = {kind: array("I") for kind in _NAMED}
+        self._numbers = {kind: array("I") for kind in _NAMED}
+        try:
+            self._index(head + types, head + types + length)
+        except (struct.error, IndexError) as error:
+            raise Unavailable("the type information ends within a type") from error
 
     def _index(self, at: int, end: int) -> None:
-        unpack, raw, named = _HEAD.unpack_from, self._raw, (_STRUCT, _UNION, _ENUM)
+        unpack, raw, places = _HEAD.unpack_from, self._raw, self._at
         while at < end:
             name, info, _ = unpack(raw, at)
             kind = info >> 24 & 31
-            if kind in named:
-                self._named.setdefault((kind, self._name(name)), len(self._at))
-                if kind == _ENUM:
-                    self._enums.append(at)
-            self._at.append(at)
+            if kind in _NAMED:
+                self._names[kind].append(name)
+                self._numbers[kind].append(len(places))
+            places.append(at)
             at += 12 + _EXTRA.get(kind, 0) + _EACH.get(kind, 0) * (info & 0xFFFF)
+
+    def _places_of(self, name: str) -> List[int]:
+        """Where this name is among the strings; a string may be the end of another."""
+        text, out = name.encode() + b"\0", []
+        at = self._raw.find(text, self._strings)
+        while at >= 0:
+            out.append(at - self._strings)
+            at = self._raw.find(text, at + 1)
+        return out
+
+    def _types_named(self, kind: int, name: str) -> List[int]:
+        """The numbers of the types of a kind that have this name, the first one first."""
+        self._load()
+        places = set(self._places_of(name))
+        return [number for place, number in zip(self._names[kind], self._numbers[kind]) if place in places]
 
     def _name(self, offset: int) -> str:
         start = self._strings + offset
@@ -71,7 +109,8 @@ class Types:
 
     def _head(self, number: int) -> Tuple[int, int, int]:
         """(name, info, size or type) of a type; all 0 for void."""
-        return _HEAD.unpack_from(self._raw, self._at[number]) if number else (0, 0, 0)
+        name, info, reference = _HEAD.unpack_from(self._raw, self._at[number]) if number else (0, 0, 0)
+        return name, info, reference
 
     def _plain(self, number: int) -> int:
         while number:
@@ -89,7 +128,7 @@ class Types:
             return 8
         if kind == _ARRAY:
             element, _, count = _HEAD.unpack_from(self._raw, self._at[number] + 12)
-            return self._size(element) * count
+            return self._size(element) * int(count)
         return size
 
     def _kind(self, number: int) -> str:
@@ -120,18 +159,33 @@ class Types:
                     return found[0], found[1] + place, found[2]
         return None
 
+    def _struct(self, of: str) -> int:
+        """The number of a struct."""
+        found = self._types_named(_STRUCT, of)
+        if not found:
+            raise Missing(f"this kernel has no struct {of}")
+        return found[0]
+
     def struct_size(self, of: str) -> int:
         """The bytes of a struct."""
-        if (_STRUCT, of) not in self._named:
-            raise Missing(f"this kernel has no struct {of}")
-        return self._head(self._named[_STRUCT, of])[2]
+        if of not in self._sizes:
+            self._sizes[of] = self._head(self._struct(of))[2]
+        return self._sizes[of]
 
     def field(self, of: str, path: str, kind: str = "", size: int = 0) -> Field:
         """The field at a path (`deferred_split_queue.split_queue`) of a struct; of this kind and size where they are
         given."""
-        if (_STRUCT, of) not in self._named:
-            raise Missing(f"this kernel has no struct {of}")
-        number, total, bits = self._named[_STRUCT, of], 0, 0
+        if (of, path) not in self._fields:
+            self._fields[of, path] = self._find_field(of, path)
+        field = self._fields[of, path]
+        if kind and field.kind != kind:
+            raise Missing(f"{of}.{path} is {field.kind} in this kernel, not {kind}")
+        if size and field.size != size:
+            raise Missing(f"{of}.{path} has {field.size} bytes in this kernel, not {size}")
+        return field
+
+    def _find_field(self, of: str, path: str) -> Field:
+        number, total, bits = self._struct(of), 0, 0
         for word in path.split("."):
             found = self._find(self._plain(number), word)
             if not found:
@@ -140,12 +194,7 @@ class Types:
             total += place
         if bits or total % 8:
             raise Missing(f"{of}.{path} is a bit field in this kernel")
-        field = Field(total // 8, self._size(number), self._kind(number))
-        if kind and field.kind != kind:
-            raise Missing(f"{of}.{path} is {field.kind} in this kernel, not {kind}")
-        if size and field.size != size:
-            raise Missing(f"{of}.{path} has {field.size} bytes in this kernel, not {size}")
-        return field
+        return Field(total // 8, self._size(number), self._kind(number))
 
     def offset(self, of: str, path: str, kind: str = "", size: int = 0) -> int:
         """Where a field lies, in bytes."""
@@ -153,21 +202,27 @@ class Types:
 
     def enumerator(self, name: str) -> int:
         """The value of an enumerator."""
-        for at in self._enums:
+        if name not in self._enumerators:
+            self._enumerators[name] = self._find_enumerator(name)
+        return self._enumerators[name]
+
+    def _find_enumerator(self, name: str) -> int:
+        self._load()
+        places = set(self._places_of(name))
+        for number in self._numbers[_ENUM]:
+            at = self._at[number]
             _, info, _ = _HEAD.unpack_from(self._raw, at)
             for i in range(info & 0xFFFF):
                 text, value = struct.unpack_from("<Ii", self._raw, at + 12 + 8 * i)
-                if self._name(text) == name:
-                    return value
+                if text in places:
+                    return int(value)
         raise Missing(f"this kernel has no enumerator {name}")
 
     def tracepoint(self, name: str) -> List[str]:
         """The kinds of a tracepoint's arguments, as its programs get them (include/trace/bpf_probe.h: a typedef
         btf_trace_NAME of a pointer to the function, whose first parameter is the tracepoint's own)."""
-        for at in self._at[1:]:
-            text, info, reference = _HEAD.unpack_from(self._raw, at)
-            if info >> 24 & 31 != _TYPEDEF or self._name(text) != f"btf_trace_{name}":
-                continue
+        for number in self._types_named(_TYPEDEF, f"btf_trace_{name}"):
+            _, _, reference = self._head(number)
             _, _, function = self._head(self._plain(reference))
             _, info, _ = self._head(function)
             if info >> 24 & 31 == _PROTOTYPE:

@@ -3,10 +3,14 @@
 
 from __future__ import annotations
 
-from typing import Optional, Union
+import os
+import re
+import subprocess
+from typing import Optional, Sequence, Union
 
-from .errors import Unavailable
-from .program import CRATES, Program, Verdict, call, check, find
+from .errors import RunFailed, Unavailable
+from .program import CRATES, Program, Verdict, call, find, start
+from .text import escaped
 
 BUILT = CRATES / "thpcheck/out/thpcheck"
 EXPLAIN = "--explain"
@@ -17,19 +21,45 @@ class Checker:
 
     def __init__(self, path: str) -> None:
         self.path = path
-        self._options = [EXPLAIN] if EXPLAIN in call(path, ["--help"], "").stdout else []
+        self.options = [EXPLAIN] if EXPLAIN in call(path, ["--help"], "").stdout else []
 
     def check(self, journal: str) -> Verdict:
-        """Whether a journal's text is legal."""
-        return check(self.path, self._options, journal)
+        """Returns whether a journal's text is legal."""
+        done = call(self.path, self.options, journal)
+        return _verdict(self.path, done.returncode, done.stdout, done.stderr)
 
 
 Judge = Union[Checker, Program]
 
 
+def check_file(judge: Judge, journal: int) -> Verdict:
+    """Returns whether the journal in an open file is legal. It is passed on by its descriptor, so it may have any length
+    that the judge takes."""
+    options: Sequence[str] = judge.options if isinstance(judge, Checker) else ["--check"]
+    os.lseek(journal, 0, os.SEEK_SET)
+    child = start(judge.path, options, journal, subprocess.PIPE, subprocess.PIPE)
+    try:
+        out, problems = child.communicate()
+    except BaseException:
+        child.kill()
+        child.wait()
+        raise
+    texts = [each.decode("utf-8", "surrogateescape") for each in (out, problems)]
+    return _verdict(judge.path, child.returncode, *texts)
+
+
+def _verdict(path: str, status: int, out: str, problems: str) -> Verdict:
+    """What a judge says by its status and outputs. RunFailed where that is no verdict."""
+    told = (out or problems).strip()
+    found = re.fullmatch(r"illegal line ([0-9]{1,18})", told) if status == 1 else None
+    if status not in (0, 1, 2) or (status == 1 and not found):
+        raise RunFailed(f"{escaped(path)} ended with status {status}: {escaped(told)[:200]}")
+    return Verdict(status == 0, int(found[1]) if found else None, told, problems.strip() if found else "")
+
+
 def find_judge(checker: Optional[str] = None, program: Optional[str] = None) -> Judge:
-    """The `thpcheck` that is named; else the `thpsplit` that is named; else a `thpcheck` as `find` looks for it; else a
-    `thpsplit` so. Unavailable where there is none."""
+    """Returns the `thpcheck` that is named; else the `thpsplit` that is named; else a `thpcheck` as `find` looks for it;
+    else a `thpsplit` so. Unavailable where there is none."""
     path = find("thpcheck", BUILT, checker) if checker or not program else None
     if path:
         return Checker(path)

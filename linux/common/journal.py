@@ -3,7 +3,7 @@
 from __future__ import annotations
 
 from dataclasses import dataclass, field
-from typing import List, Optional
+from typing import Iterator, List, Optional, Protocol, Sequence
 
 from .errors import InputFault
 from .files import PMD_ORDER
@@ -11,6 +11,7 @@ from .subpages import set_of, set_text
 
 _RANGES = ("mapsub", "unmapsub", "write", "zero")
 _OUTCOMES = ("unmapwhole", "unmapsub", "unpin")
+FILLING = ("write", "zero", "used")  # words that only version 3 has
 
 
 @dataclass(frozen=True)
@@ -54,20 +55,56 @@ class NodeJournal:
     underused: Optional[int] = None
     events: List[Event] = field(default_factory=list)
 
+    @property
+    def fills(self) -> bool:
+        """Whether an event is one that only version 3 has."""
+        return any(event.word in FILLING for event in self.events)
 
-def journal_text(nodes: List[NodeJournal]) -> str:
-    """The text, in the lowest version that says it."""
-    filled = any(event.word in ("write", "zero", "used") for node in nodes for event in node.events)
+    def texts(self) -> Iterator[str]:
+        """The events' lines."""
+        return (event.text() for event in self.events)
+
+
+class Node(Protocol):
+    """What a node's journal is written from: a NodeJournal, or one whose events aren't in memory."""
+
+    @property
+    def blocks(self) -> int:
+        """How many blocks it has."""
+
+    @property
+    def order(self) -> int:
+        """The order of its pages."""
+
+    @property
+    def underused(self) -> Optional[int]:
+        """The threshold of zero-filled subpages; None: off."""
+
+    @property
+    def fills(self) -> bool:
+        """Whether an event is one that only version 3 has."""
+
+    def texts(self) -> Iterator[str]:
+        """The events' lines."""
+
+
+def journal_lines(nodes: Sequence[Node]) -> Iterator[str]:
+    """The lines of a journal, in the lowest version that has all of its words."""
     version = 2 if any(node.order != PMD_ORDER for node in nodes) else 1
-    if filled or any(node.underused is not None for node in nodes):
+    if any(node.fills or node.underused is not None for node in nodes):
         version = 3
-    lines = [f"thp-journal {version}"]
+    yield f"thp-journal {version}"
     for number, node in enumerate(nodes):
         order = f" order {node.order}" if version > 1 else ""
         switch = "off" if node.underused is None else str(node.underused)
-        lines.append(f"node {number} blocks {node.blocks}{order}" + (f" underused {switch}" if version > 2 else ""))
-        lines += [event.text() for event in node.events]
-    return "\n".join([*lines, "end"]) + "\n"
+        yield f"node {number} blocks {node.blocks}{order}" + (f" underused {switch}" if version > 2 else "")
+        yield from node.texts()
+    yield "end"
+
+
+def journal_text(nodes: Sequence[Node]) -> str:
+    """The text of a journal."""
+    return "".join(f"{line}\n" for line in journal_lines(nodes))
 
 
 def journal_of(text: str) -> List[NodeJournal]:

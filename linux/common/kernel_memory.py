@@ -13,12 +13,12 @@ import mmap
 import os
 import struct
 from dataclasses import dataclass
-from typing import Callable, Dict, List, Optional, Tuple
+from typing import Callable, Dict, Iterable, List, Optional, Tuple
 
 from .bpf import MMAPABLE, SLEEPABLE, Assembler, Command, Helper, MapType, ProgramType, bpf, create_map, load_program
 from .btf import Types
 from .errors import Unavailable
-from .files import BASE, read
+from .files import BASE
 from .page_files import frames_at
 
 WINDOW = 65536  # bytes that one call reads at most
@@ -114,7 +114,7 @@ class KernelMemory:
         struct.pack_into("<QQ", self._context, 0, first, second)
         attributes = struct.pack("<IIIIQQIIII", program, 0, 0, 0, 0, 0, 0, 0, 16, 0)
         attributes += struct.pack("<QQ", ctypes.addressof(self._context), 0)
-        return struct.unpack_from("<i", bpf(Command.PROG_TEST_RUN, attributes)[1], 4)[0]
+        return int(struct.unpack_from("<i", bpf(Command.PROG_TEST_RUN, attributes)[1], 4)[0])
 
     def read(self, address: int, size: int) -> bytes:
         """`size` bytes (up to WINDOW) at a kernel address."""
@@ -124,17 +124,18 @@ class KernelMemory:
 
     def word(self, address: int) -> int:
         """The 64-bit number at a kernel address."""
-        return struct.unpack("<Q", self.read(address, 8))[0]
+        return int(struct.unpack("<Q", self.read(address, 8))[0])
 
     def task(self) -> int:
         """The address of the caller's own struct task_struct."""
         self.run(self._reader, 0, 0)
-        return struct.unpack("<Q", self.window[:8])[0]
+        return int(struct.unpack("<Q", self.window[:8])[0])
 
     def links(self, head: int, limit: int = 1 << 20) -> List[int]:
         """The addresses of a list's links, without its head (struct list_head)."""
         for _ in range(TRIES):
-            out, at = [], head
+            out: List[int] = []
+            at = head
             while len(out) < limit:
                 if self.run(self._walker, at, head):
                     break
@@ -228,12 +229,15 @@ class KernelMemory:
         return start
 
 
-def symbols() -> Dict[str, int]:
-    """The addresses of the kernel's functions and variables by name (/proc/kallsyms)."""
+def symbols(wanted: Iterable[str]) -> Dict[str, int]:
+    """The addresses of kernel functions and variables by their names, of those that /proc/kallsyms lists."""
+    names = {name.encode() for name in wanted}
     out: Dict[str, int] = {}
-    for line in read("/proc/kallsyms").splitlines():
-        address, _, name = line.split()[:3]
-        out.setdefault(name, int(address, 16))
+    with open("/proc/kallsyms", "rb") as file:
+        for line in file:
+            words = line.split(None, 3)
+            if len(words) > 2 and words[2] in names:
+                out.setdefault(words[2].decode(), int(words[0], 16))
     return out
 
 

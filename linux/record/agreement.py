@@ -82,7 +82,10 @@ class Agreement:
         """A page that joins the queue by its allocation isn't in the kernel's yet: it is told as the newest."""
         state = self._state
         if page.join:
-            state.lines = [line for line in state.lines if line is not page.join] + [page.join]
+            at = state.place_of_join(page)
+            if at < 0:
+                return
+            state.lines.latest.append(state.lines.latest.pop(at))
             for queue in (state.queue, state.told):
                 queue.remove(page)
                 queue.append(page)
@@ -95,7 +98,7 @@ class Agreement:
     def _is_changing(self) -> bool:
         """Whether something that still runs may change the queue in a way not yet told."""
         for asked in self._state.pending.values():
-            reached = any(self._mappings.reaches(asked, page) for page in self._state.spaces[asked.space])
+            reached = any(self._mappings.reaches(asked, page) for page in self._state.spaces.get(asked.space, ()))
             if asked.kind is Kind.COLLAPSED or reached:
                 return True
         return False
@@ -112,9 +115,9 @@ class Agreement:
             first, last = state.place_of_join(other), state.place_of_join(page)
             if not 0 <= first <= last:
                 return
-            window = state.lines[first : last + 1]
+            window = state.lines.latest[first : last + 1]
             own = [line for line in window if line.page is page]
-            state.lines[first : last + 1] = own + [line for line in window if line.page is not page]
+            state.lines.latest[first : last + 1] = own + [line for line in window if line.page is not page]
             for queue in (state.queue, state.told):
                 queue.remove(page)
                 queue.insert(queue.index(other), page)

@@ -14,6 +14,7 @@ from .records import Record
 
 MMAP, MPROTECT, MUNMAP, BRK, MREMAP, MADVISE = 9, 10, 11, 12, 25, 28
 COLLAPSE = -1  # in the place of a call's number: a collapse takes all mappings of a region away, and makes a page there
+COPIED = -2  # in that place too: a copy on write takes the mapping of a subpage away
 MAP_FIXED, MAP_FIXED_NOREPLACE = 0x10, 0x100000
 EMPTYING = (4, 24, 102)  # advice that takes mappings away: MADV_DONTNEED, _LOCKED, MADV_GUARD_INSTALL
 CUTTING = (10, 11, 12, 13, 14, 15, 16, 17, 18, 19)  # advice that cuts an area in two
@@ -71,7 +72,7 @@ def effects(asked: Record, answer: Optional[int] = None) -> List[Effect]:
         return [Effect(Does.REMOVES, _upward(start), _upward(program_break))] if start < program_break else []
     if number == MREMAP:
         return _moves(start, length, third, answer)
-    if number == COLLAPSE or (number == MADVISE and third in EMPTYING):
+    if number in (COLLAPSE, COPIED) or (number == MADVISE and third in EMPTYING):
         return [Effect(Does.EMPTIES, start, end)]
     if number == MPROTECT or (number == MADVISE and third in CUTTING):
         return [Effect(Does.CUTS, start, end)]

@@ -7,7 +7,7 @@ from typing import Dict, List, Optional, Tuple
 
 from ..common.files import PMD_ORDER
 from ..common.journal import Event
-from ..common.subpages import bits_of
+from ..common.subpages import bits_of, size
 
 
 @dataclass(eq=False)
@@ -29,14 +29,50 @@ class Line:
     event: Event
 
 
+class Tally:
+    """How often each subpage is mapped, as planes of bits: bit i of plane k has the weight 2 ** k."""
+
+    __slots__ = ("_planes",)
+
+    def __init__(self) -> None:
+        self._planes: List[int] = []
+
+    def add(self, bits: int) -> None:
+        """One more mapping of these subpages."""
+        at = 0
+        while bits:
+            if at == len(self._planes):
+                self._planes.append(0)
+            self._planes[at], bits = self._planes[at] ^ bits, self._planes[at] & bits
+            at += 1
+
+    def take(self, bits: int) -> None:
+        """One mapping less of these subpages, each of which is mapped."""
+        at = 0
+        while bits and at < len(self._planes):
+            self._planes[at], bits = self._planes[at] ^ bits, bits & ~self._planes[at]
+            at += 1
+
+    def used(self) -> int:
+        """The subpages that are mapped."""
+        out = 0
+        for plane in self._planes:
+            out |= plane
+        return out
+
+    def total(self) -> int:
+        """All mappings of all subpages."""
+        return sum(size(plane) << at for at, plane in enumerate(self._planes))
+
+
 @dataclass(eq=False)
 class Page:
-    """A huge page from its allocation on. Sets of subpages are numbers."""
+    """A huge page from its allocation on. Sets of subpages are numbers. `own`: mappings by PTEs."""
 
     number: int
     folio: int
     subpages: int
-    own: List[int] = field(default_factory=list)
+    own: Tally = field(default_factory=Tally)
     whole: int = 1
     held: int = 0
     maps: Dict[int, Mapping] = field(default_factory=dict)
@@ -51,24 +87,24 @@ class Page:
     written: int = 0
     changed: int = 0  # when the last call that reached it was recorded
     join: Optional[Line] = None  # the event by which it joined the queue
+    events: int = 0  # that were told of it
+    fills: int = 0  # of these, the ones that only version 3 of a journal has
 
     @staticmethod
     def new(number: int, folio: int, order: int) -> Page:
         subpages = 1 << order
-        return Page(number, folio, subpages, [0] * subpages, held=bits_of(0, subpages))
+        return Page(number, folio, subpages, held=bits_of(0, subpages))
 
     @property
     def every(self) -> int:
         return bits_of(0, self.subpages)
 
     def used(self) -> int:
-        if self.whole:
-            return self.every
-        return sum(1 << i for i, own in enumerate(self.own) if own)
+        return self.every if self.whole else self.own.used()
 
     def counts(self) -> Tuple[int, int, int]:
         """What the kernel counts: mappings by PMD entries, all mappings, subpages that PTEs map. A page below their
         size is mapped by PTEs alone."""
-        pmds = self.whole if self.subpages == 1 << PMD_ORDER else 0
-        own = [own + self.whole - pmds for own in self.own]
-        return pmds, pmds + sum(own), sum(count > 0 for count in own)
+        if self.subpages == 1 << PMD_ORDER:
+            return self.whole, self.whole + self.own.total(), size(self.own.used())
+        return 0, self.own.total() + self.whole * self.subpages, size(self.used())

@@ -9,26 +9,25 @@ reason. docs/LINUX.md has the table.
 
 from __future__ import annotations
 
-from collections import defaultdict
-from typing import Callable, Dict, List
+from collections import defaultdict, deque
+from typing import Callable, Deque, Dict, Iterable, Iterator, List, Optional
 
 from ..common.files import BASE, PMD_ORDER
-from ..common.journal import NodeJournal, journal_text
-from ..common.subpages import bits_of
+from ..common.journal import journal_text
 from .agreement import Agreement
-from .calls import COLLAPSE, MADV_COLLAPSE, MADVISE, has_succeeded
+from .calls import COLLAPSE, COPIED, MADV_COLLAPSE, MADVISE, has_succeeded
 from .folios import Line, Page
 from .mappings import Mappings
-from .records import Kind, Record, lines_with_ends
+from .records import Kind, Record, link
 from .scans import Scans
 from .state import Settings, State
 
-NEVER_MAPPED = "another thread's fault was first"  # why such a page isn't told; it counts as none
 WRITTEN = 3  # bits of a fault's error code: present, written
+MOVES = 1024  # pages that a task has mapped again before it frees the old ones
 
 
 class Journalist:
-    """Makes events of records."""
+    """Makes events of records; what it has made is a node of a journal (common.journal.Node)."""
 
     def __init__(self, settings: Settings) -> None:
         self._state = State(settings)
@@ -37,22 +36,53 @@ class Journalist:
         self._scans = Scans(self._state, self._mappings, self._agreement)
         self._faults: Dict[int, Record] = {}  # the last one of each task
         self._faulted: Dict[int, Page] = {}  # by tasks whose last record was this allocation
-        self._moves: Dict[int, List[Record]] = defaultdict(list)  # by tasks: what they mapped again
+        self._moves: Dict[int, Deque[Record]] = defaultdict(lambda: deque(maxlen=MOVES))  # by tasks: mapped again
+        self._steps: Dict[Kind, Callable[[Record], None]] = {
+            Kind.ENTER: self._enter, Kind.EXIT: self._exit, Kind.FAULT: self._fault, Kind.ALLOC: self._alloc,
+            Kind.FREE: self._free, Kind.FORK: self._mappings.fork, Kind.EXIT_MMAP: self._exit_mmap,
+            Kind.SCAN: self._scans.begin, Kind.SCANNED: self._scans.end, Kind.COPY: self._copy,
+            Kind.COLLAPSED: self._collapsed, Kind.MOVED: self._moved,
+        }
 
     # what comes out
 
     def text(self) -> str:
         """The journal of this node alone."""
-        return journal_text([self.journal()])
+        return journal_text([self])
 
-    def journal(self) -> NodeJournal:
-        """What was told, without the pages that are left out."""
-        return self._state.journal()
+    @property
+    def blocks(self) -> int:
+        """How many blocks the node has."""
+        return self._state.blocks
+
+    @property
+    def order(self) -> int:
+        """The order of its pages."""
+        return self._state.settings.order
+
+    @property
+    def underused(self) -> Optional[int]:
+        """The threshold of zero-filled subpages; None: off."""
+        return self._state.settings.threshold
+
+    @property
+    def fills(self) -> bool:
+        """Whether an event is one that only version 3 of a journal has."""
+        return self._state.fills > 0
+
+    @property
+    def events(self) -> int:
+        """How many lines the journal has."""
+        return self._state.events
+
+    def texts(self) -> Iterator[str]:
+        """The journal's lines, without the pages that are left out."""
+        return self._state.texts()
 
     @property
     def lines(self) -> List[Line]:
-        """All that was told, of the pages that are left out too."""
-        return self._state.lines
+        """The latest lines, of the pages that are left out too."""
+        return self._state.lines.latest
 
     @property
     def seen(self) -> Dict[str, int]:
@@ -61,37 +91,49 @@ class Journalist:
 
     def pages(self) -> int:
         """The pages that were mapped."""
-        return sum(page.lost != NEVER_MAPPED for page in self._state.pages)
+        return self._state.pages - self._state.never_mapped
 
     def lost_pages(self) -> int:
         """Those of them that are left out."""
-        return sum(page.lost not in ("", NEVER_MAPPED) for page in self._state.pages)
+        return self._state.left_out
+
+    def close(self) -> None:
+        """Lets the lines go that are on disk."""
+        self._state.lines.close()
 
     # records
 
     def tell(self, records: List[Record]) -> None:
         """Takes all records of a run."""
-        lines_with_ends(records)
+        link(records)
+        self.follow(records)
+
+    def follow(self, records: Iterable[Record]) -> None:
+        """Takes all records of a run, which are linked."""
+        state = self._state
         for record in records:
-            if record.kind is Kind.EXIT_MMAP:
-                self._state.ends[record.values[0]].append(record)
-        steps: Dict[Kind, Callable[[Record], None]] = {
-            Kind.ENTER: self._enter, Kind.EXIT: self._exit, Kind.FAULT: self._fault, Kind.ALLOC: self._alloc,
-            Kind.FREE: self._free, Kind.FORK: self._mappings.fork, Kind.EXIT_MMAP: self._exit_mmap,
-            Kind.SCAN: self._scans.begin, Kind.SCANNED: self._scans.end, Kind.COPY: self._copy,
-            Kind.COLLAPSED: self._collapsed, Kind.MOVED: self._moved,
-        }
-        for record in records:
-            self._state.now, self._state.teller = record.time, record.task
+            state.now, state.teller = record.time, record.task
+            if record.dies:
+                state.ends[record.newcomer()] = record.dies
+            if record.child_dies:
+                state.ends[record.values[1]] = record.child_dies
             if record.queue is not None and record.time < self._scans.told_until:
                 # begun before the end of a scan whose record came first: the copy may show the queue before that
                 record.queue = None
-                self._state.seen["copies begun before the end of a scan, not used"] += 1
+                state.seen["copies begun before the end of a scan, not used"] += 1
             if record.kind is not Kind.FREE:  # an interrupt frees in any task's name
-                self._state.joining.pop(record.task, None)
-                self._faulted.pop(record.task, None)
+                self._settle(record)
             if not record.done:
-                steps[record.kind](record)
+                self._steps[record.kind](record)
+
+    def _settle(self, record: Record) -> None:
+        """What a task's last record had begun has ended by its next one."""
+        state = self._state
+        state.joining.pop(record.task, None)
+        self._faulted.pop(record.task, None)
+        copied = state.pending.pop((record.task, Kind.COPY), None)
+        if copied:
+            self._mappings.apply(copied, None)
 
     def _enter(self, record: Record) -> None:
         self._state.pending[record.task, record.kind] = record
@@ -108,15 +150,30 @@ class Journalist:
         self._agreement.agree(record.queue)
 
     def _exit_mmap(self, record: Record) -> None:
+        space, state = record.values[0], self._state
+        for key in [key for key, asked in state.pending.items() if asked.space == space and key[1] is Kind.COPY]:
+            self._mappings.apply(state.pending.pop(key), None)
         self._mappings.end_space(record)
         self._agreement.agree(record.queue)
+        self._forget(space)
+
+    def _forget(self, space: int) -> None:
+        """Forgets what the tasks of an address space that has ended had begun."""
+        state = self._state
+        for key in [key for key, asked in state.pending.items() if asked.space == space and key[1] is Kind.ENTER]:
+            del state.pending[key]
+        for task in [task for task, fault in self._faults.items() if fault.space == space]:
+            del self._faults[task]
+        for pages in (self._faulted, state.joining):
+            for task in [task for task, page in pages.items() if not page.live]:
+                del pages[task]
 
     def _fault(self, record: Record) -> None:
         self._faults[record.task] = record
 
     def _alloc(self, record: Record) -> None:
         folio, order = record.values[:2]
-        fault = self._faults.get(record.task)
+        fault = record.fault(self._faults.get(record.task))
         if record.end:
             self._collapses(record, record.end)
             return
@@ -125,27 +182,30 @@ class Journalist:
         if order != self._state.settings.order:
             self._state.seen[f"pages of order {order}, not followed"] += 1
             return
-        if not fault or fault.space != record.space:
+        if not fault:
             asked = self._state.pending.get((record.task, Kind.ENTER))
             fails = asked and asked.values[0] == MADVISE and asked.values[3] == MADV_COLLAPSE
             self._state.seen["collapses that failed" if fails else "allocations without a fault, not followed"] += 1
             return
-        page = self._state.new_page(record.task, record.space, folio, fault.values[0])
+        page = self._state.new_page(record.task, record.space, folio, fault.address)
         self._faulted[record.task] = page
         if page in self._state.queue:
             self._state.joining[record.task] = page  # it joins between this record and the task's next one
 
     def _copy(self, record: Record) -> None:
-        """A base page allocated in a fault on a subpage that is mapped: a copy on write took that mapping away."""
-        fault = self._faults.get(record.task)
-        if not fault or fault.space != record.space or fault.values[1] & WRITTEN != WRITTEN:
+        """A base page allocated in a fault on a subpage that is mapped: a copy on write takes that mapping away. It is
+        followed as a call that unmaps the subpage and has ended by its task's next record: the old frame is freed some
+        microseconds after the new one is allocated."""
+        fault = record.fault(self._faults.pop(record.task, None))
+        if not fault or fault.code & WRITTEN != WRITTEN:
             return
-        for page, mapping in self._state.spaces[record.space].items():
-            i = (fault.values[0] - mapping.base) // BASE
+        for page, mapping in self._state.spaces.get(record.space, {}).items():
+            i = (fault.address - mapping.base) // BASE
             if 0 <= i < page.subpages and mapping.bits >> i & 1:
-                self._mappings.unmap(record, page, mapping, bits_of(i, 1), None)
+                values = (COPIED, mapping.base + BASE * i, BASE, *[0] * 6)
+                asked = Record(Kind.COPY, record.time, record.task, record.space, values, None)
+                self._state.pending[record.task, Kind.COPY] = asked
                 break
-        del self._faults[record.task]
 
     def _free(self, record: Record) -> None:
         block = self._state.settings.page_size << self._state.settings.order
@@ -156,9 +216,7 @@ class Journalist:
             if self._migrated(record.task, page):
                 return
             if self._faulted.get(record.task) is page and page.used() and not self._state.is_ending(page):
-                page.lost = NEVER_MAPPED
-                self._state.seen[f"huge pages given up: {NEVER_MAPPED}"] += 1
-                self._state.gone(page)
+                self._state.give_up(page)
                 return
             page.freed = True
             if not page.used():

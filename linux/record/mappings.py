@@ -53,30 +53,30 @@ class Mappings:
         state, (parent, child) = self._state, record.values[:2]
         if parent == child:
             return
-        for page, mapping in list(state.spaces[parent].items()):
+        for page, mapping in list(state.spaces.get(parent, {}).items()):
             copy = page.maps[child] = state.spaces[child][page] = replace(mapping, since=state.now)
             if mapping.whole:
                 page.whole += 1
                 state.say(record.task, page, "mapwhole")
                 continue
             copy.bits &= page.held  # zero-filled subpages that a split gave back aren't the page's
+            page.own.add(copy.bits)
             for first, count in runs(copy.bits):
                 state.say(record.task, page, "mapsub", first, count)
-                for i in range(first, first + count):
-                    page.own[i] += 1
 
     def end_space(self, record: Record) -> None:
         """An address space has ended."""
         state, space = self._state, record.values[0]
         record.space = space
-        state.ends[space].remove(record)
+        state.ends.pop(space, None)
+        self._remapped.discard(space)
         for page, mapping in sorted(state.spaces.pop(space, {}).items(), key=lambda each: each[1].base):
             self.unmap(record, page, mapping, page.every, record.queue)
 
     def end_early(self, page: Page, queue: List[int]) -> None:
         """A page has gone with its processes, whose end isn't recorded yet."""
         for space, mapping in list(page.maps.items()):
-            self.unmap(self._state.ends[space][0], page, mapping, page.every, queue)
+            self.unmap(self._state.ends[space], page, mapping, page.every, queue)
         self._state.seen["pages told before their process's end"] += 1
 
     def begin_end(self, page: Page, queue: List[int]) -> None:
@@ -84,7 +84,7 @@ class Mappings:
         first of two page tables."""
         for space, mapping in list(page.maps.items()):
             if page not in self._state.queue and self._in_first_table(mapping):
-                self.unmap(self._state.ends[space][0], page, mapping, self._in_first_table(mapping), queue)
+                self.unmap(self._state.ends[space], page, mapping, self._in_first_table(mapping), queue)
         if page in self._state.queue:
             self._state.seen["pages told before their process's end"] += 1
 
@@ -100,8 +100,7 @@ class Mappings:
             if step is None:
                 page.whole, mapping.whole, mapping.bits = page.whole - 1, False, 0
             else:
-                for i in range(step[0], step[0] + step[1]):
-                    page.own[i] -= 1
+                page.own.take(bits_of(*step))
                 mapping.bits &= ~bits_of(*step)
             outcome, given = self._outcome(record, page, before, queue, step is steps[-1])
             if step is None:
@@ -115,7 +114,7 @@ class Mappings:
         if not mapping.bits:
             for space in [space for space, other in page.maps.items() if other is mapping]:
                 del page.maps[space]
-                self._state.spaces[space].pop(page, None)
+                self._state.spaces.get(space, {}).pop(page, None)
 
     def compare(self, record: Record) -> None:
         """Compares what a page counts of its mappings at a call's end with what was told, where no other call or scan
@@ -153,7 +152,7 @@ class Mappings:
 
     def _pages_in(self, space: int, effect: Effect) -> List[Page]:
         """The pages that an address space maps in a range, by their addresses."""
-        found = [(mapping.base, page) for page, mapping in self._state.spaces[space].items()
+        found = [(mapping.base, page) for page, mapping in self._state.spaces.get(space, {}).items()
                  if mapping.base < effect.end and mapping.base + page.subpages * BASE > effect.start]
         return [page for _, page in sorted(found, key=lambda each: each[0])]
 
@@ -196,7 +195,7 @@ class Mappings:
         """A mapping by a PMD entry becomes one by PTEs."""
         mapping.whole = False
         page.whole -= 1
-        page.own = [own + 1 for own in page.own]
+        page.own.add(page.every)
         self._state.say(record.task, page, "splitpmd")
 
     def _parts(self, page: Page, mapping: Mapping, bits: int) -> Iterator[Tuple[int, int]]:

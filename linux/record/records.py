@@ -10,27 +10,37 @@ from typing import Any, Dict, List, Optional, Tuple
 QUEUE_MOST = 500  # pages of a queue that a record carries
 VALUES_AT, COUNT_AT, FOLIOS_AT = 32, 112, 128
 SIZE = FOLIOS_AT + 8 * QUEUE_MOST
-_HEAD = struct.Struct("<16Q")  # kind, time, tid and tgid, mm, nine values, length, count, nothing
+HEAD = struct.Struct("<16Q")  # kind, time, tid and tgid, mm, nine values, length, count, nothing
 
 
 class Kind(enum.IntEnum):
-    """What a record tells; its values in brackets."""
+    """What a record reports; its values in brackets. `how` and what follows it: see `Fault`."""
 
     ENTER = 0  # a system call begins (number, three arguments, program break)
     EXIT = 1  # it ends (number, arguments, answer, and of the page at the first one the folio and map counts: `Counts`)
-    FAULT = 2  # a page fault (address, error code)
-    ALLOC = 3  # a huge page is allocated (folio, order)
+    FAULT = 2  # a page fault (address, error code); only a task's first one after an ALLOC or a COPY of its own
+    ALLOC = 3  # a huge page is allocated (folio, order, how, the fault's address, its error code)
     FREE = 4  # a page is freed in a block where a huge page was made (folio, order)
     FORK = 5  # a process or thread begins (parent's mm, child's mm, child's tgid)
     EXIT_MMAP = 6  # an address space has ended (mm)
     SCAN = 7  # the shrinker begins on the queue (how many it may scan, how many are freeable)
     SCANNED = 8  # it ends (0, how many were freed)
-    COPY = 9  # a base page is allocated, perhaps for a copy on write (folio)
+    COPY = 9  # a base page is allocated, perhaps for a copy on write (folio, how, the fault's address, its error code)
     COLLAPSED = 10  # a region has become a huge page (mm, 1, its folio, its index)
     MOVED = 11  # a page is mapped again by a migration, or by a split that failed (address, folio, order)
 
 
 WITH_QUEUE = (Kind.EXIT, Kind.EXIT_MMAP, Kind.SCAN, Kind.SCANNED, Kind.COLLAPSED)
+BY_FAULT, IN_FAULT, IN_NONE = 0, 1, 2  # how: in the fault of the task's last FAULT record; in this fault; in no fault
+_HOW_AT = {Kind.ALLOC: 2, Kind.COPY: 1}
+
+
+@dataclass(frozen=True)
+class Fault:
+    """A page fault: its address and error code (present, write, ..)."""
+
+    address: int
+    code: int
 
 
 @dataclass(frozen=True)
@@ -45,7 +55,8 @@ class Counts:
 
 @dataclass(eq=False)
 class Record:
-    """`queue`: folios, oldest first; None where none was copied, or its walk didn't end where it began."""
+    """`queue`: folios, oldest first; None where none was copied, or its walk didn't end where it began. The last fields
+    are set by `link` or by a Store."""
 
     kind: Kind
     time: int  # ns
@@ -58,10 +69,25 @@ class Record:
     begun: int = 0  # of an address space's end: when the last of its tasks' other records was made
     later: Optional[List[int]] = None  # of a scan's end without a copy: the next copy, if no scan began before it
     made: Optional[Dict[int, int]] = None  # of a scan: folios that were allocated until its end, and when last
+    dies: Optional[Record] = None  # of the first record of an address space (`newcomer`): the end of that space
+    child_dies: Optional[Record] = None  # of a fork: the end of the child's space
 
     def shown(self) -> Optional[List[int]]:
         """The queue at a scan's end, by its own copy or the next."""
         return self.later if self.queue is None else self.queue
+
+    def fault(self, last: Optional[Record]) -> Optional[Fault]:
+        """The fault in which an ALLOC or COPY was made, where `last` is the task's last FAULT record."""
+        at = _HOW_AT[self.kind]
+        if self.values[at] == IN_FAULT:
+            return Fault(*self.values[at + 1 : at + 3])
+        if self.values[at] == BY_FAULT and last and last.space == self.space:
+            return Fault(*last.values[:2])
+        return None
+
+    def newcomer(self) -> int:
+        """The address space that has pages after this record at the latest; 0: none."""
+        return self.values[0] if self.kind is Kind.COLLAPSED else 0 if self.kind is Kind.FREE else self.space
 
     def counts(self) -> Optional[Counts]:
         """The map counts of the page at a call's address, if one was known there and it wasn't split."""
@@ -71,11 +97,12 @@ class Record:
         return Counts(folio, _count(whole), _count(total), mapped & _SUBPAGES)
 
     def plain(self) -> List[Any]:
+        """The record as JSON can write it."""
         return [int(self.kind), self.time, self.task, self.space, list(self.values), self.queue]
 
 
 _WORD = (1 << 32) - 1
-_SUBPAGES = (1 << 23) - 1  # of _nr_pages_mapped: above it stands whether a PMD entry maps the page
+_SUBPAGES = (1 << 23) - 1  # of _nr_pages_mapped: the bits above it tell whether a PMD entry maps the page
 
 
 def _count(field: int) -> int:
@@ -85,7 +112,7 @@ def _count(field: int) -> int:
 
 def record_of(raw: bytes) -> Record:
     """A record by its bytes."""
-    words = _HEAD.unpack_from(raw)
+    words = HEAD.unpack_from(raw)
     kind, count = Kind(words[0]), words[14]
     queue = None
     if kind in WITH_QUEUE and count <= QUEUE_MOST:
@@ -99,17 +126,27 @@ def record_from(plain: List[Any]) -> Record:
     return Record(Kind(kind), time, task, space, tuple(values), whole(queue))
 
 
+def raw_of(record: Record) -> bytes:
+    """The bytes of a record, as the tap makes them; the task group's number is 0."""
+    queue = [] if record.queue is None else record.queue
+    count = QUEUE_MOST + 1 if record.queue is None else len(queue)
+    head = HEAD.pack(int(record.kind), record.time, record.task, record.space, *record.values, 0, count, 0)
+    return head + struct.pack(f"<{len(queue)}Q", *queue)
+
+
 def whole(queue: Optional[List[int]]) -> Optional[List[int]]:
-    """A queue, if no page stands in it twice: a walk of a list that changes may meet one again."""
+    """A queue, if no page is in it twice: a walk of a list that changes may meet one again."""
     return queue if queue is not None and len({*queue}) == len(queue) else None
 
 
-def lines_with_ends(records: List[Record]) -> None:
-    """Has each scan and each allocation for a collapse know its end, a scan what was allocated until then, a scan's end
-    without a copy the next one, and an address space's end from when on nothing else was recorded of it."""
+def link(records: List[Record]) -> None:
+    """Links each scan and each allocation for a collapse with its end, a scan with what was allocated until then, a
+    scan's end without a copy with the next one, and the first record of each address space with the space's end, which
+    gets the time from when on nothing else was recorded of the space. A Store does the same for records on disk."""
     open_scans: Dict[int, Record] = {}
     allocated: Dict[int, Record] = {}
     last: Dict[int, int] = {}
+    first: Dict[int, Tuple[Record, str]] = {}
     torn: List[Record] = []
     for record in records:
         if torn and record.queue is not None and record.time > torn[-1].time:
@@ -118,8 +155,14 @@ def lines_with_ends(records: List[Record]) -> None:
             torn = []
         if record.kind is Kind.EXIT_MMAP:
             record.begun = last.pop(record.values[0], 0)
+            if record.values[0] in first:
+                newcomer, name = first.pop(record.values[0])
+                setattr(newcomer, name, record)
         elif record.kind is not Kind.FREE:
             last[record.space] = record.time
+            first.setdefault(record.newcomer(), (record, "dies"))
+        if record.kind is Kind.FORK:
+            first.setdefault(record.values[1], (record, "child_dies"))
         if record.kind is Kind.SCAN:
             open_scans[record.task], record.made, torn = record, {}, []
         elif record.kind is Kind.SCANNED and record.task in open_scans:

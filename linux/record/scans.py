@@ -158,9 +158,10 @@ class Scans:
         places = {page: state.place_of_join(page) for page in later}
         if not later or min(places.values()) < 0:
             return
-        late = {i for i, line in enumerate(state.lines) if line.page in later and i >= places[line.page]}
-        sooner = [line for i, line in enumerate(state.lines) if i not in late]
-        state.lines = sooner + [state.lines[i] for i in sorted(late)]
+        lines = state.lines.latest
+        late = {i for i, line in enumerate(lines) if line.page in later and i >= places[line.page]}
+        sooner = [line for i, line in enumerate(lines) if i not in late]
+        state.lines.latest = sooner + [lines[i] for i in sorted(late)]
         for queue in (state.queue, state.told):
             queue.sort(key=lambda page: page in later)  # stable: the later ones go to the end
         state.seen["pages that joined while a scan ran, told after it"] += len(later)
@@ -226,6 +227,8 @@ class Scans:
             page.pins = 0
         state.say(record.task, page, "split", given=given)
         page.held &= ~given
-        page.own, page.whole, page.split = [own + page.whole for own in page.own], 0, True
+        for _ in range(page.whole):
+            page.own.add(page.every)
+        page.whole, page.split = 0, True
         for mapping in page.maps.values():
             mapping.whole = False

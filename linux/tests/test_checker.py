@@ -2,6 +2,7 @@
 
 from __future__ import annotations
 
+import contextlib
 import os
 import random
 import tempfile
@@ -15,8 +16,10 @@ from ..common import program as programs
 from ..common.checker import Checker, find_judge
 from ..common.errors import Unavailable
 from ..common.program import Program
-from ..record.__main__ import judge
-from ..record.journalist import Journalist, Settings
+from ..common.journal import journal_of
+from ..record.journalist import Journalist
+from ..record.judging import JournalFile, Judged, judge
+from ..record.state import Settings
 from ..record.tampering import Spoil, tampered
 from .recordings import recording
 
@@ -42,30 +45,45 @@ def spoilt_copy() -> Tuple[str, int]:
             return copy.text, line
 
 
+def judged_text(text: str, checker: Checker) -> Judged:
+    """A journal's text judged, as thprecord has its file judged."""
+    nodes = journal_of(text)
+    journal = JournalFile(nodes)
+    try:
+        return judge(journal, sum(len(node.events) for node in nodes), checker)
+    finally:
+        journal.close()
+
+
 class ExplainedTest(unittest.TestCase):
     def checker(self, explains: bool) -> Checker:
-        with mock.patch.dict(os.environ, {"PLAIN_EXPLAINS": "1"} if explains else {}):
+        if not explains:
             return Checker(PLAIN_CHECKER)
+        folder = tempfile.TemporaryDirectory()
+        self.addCleanup(folder.cleanup)
+        path = Path(folder.name) / "checker"
+        path.write_text(f'#!/bin/sh\nPLAIN_EXPLAINS=1 exec {PLAIN_CHECKER} "$@"\n')
+        path.chmod(0o755)
+        return Checker(str(path))
 
     def test_an_illegal_journal_is_explained(self) -> None:
         text, line = spoilt_copy()
-        with mock.patch.dict(os.environ, {"PLAIN_EXPLAINS": "1"}):
-            judged = judge(text, self.checker(True))
+        judged = judged_text(text, self.checker(True))
         self.assertEqual((judged.legal, judged.text.split(" (")[0]), (False, f"illegal line {line}"))
         self.assertEqual(judged.why[0], f"line {line}: {text.splitlines()[line - 1]}")
 
     def test_a_checker_that_does_not_explain_is_not_asked_to(self) -> None:
         text, line = spoilt_copy()
-        judged = judge(text, self.checker(False))
+        judged = judged_text(text, self.checker(False))
         self.assertEqual((judged.legal, judged.why), (False, []))
         self.assertTrue(judged.text.startswith(f"illegal line {line}: {text.splitlines()[line - 1]} ("))
 
     def test_a_legal_journal_has_nothing_to_explain(self) -> None:
-        judged = judge(journal_of_one_thread(), self.checker(True))
+        judged = judged_text(journal_of_one_thread(), self.checker(True))
         self.assertEqual((judged.legal, judged.text.split(" (")[0], judged.why), (True, "legal", []))
 
     def test_an_empty_journal_is_no_legal_one(self) -> None:
-        self.assertFalse(judge("thp-journal 1\nnode 0 blocks 8\nend\n", self.checker(True)).legal)
+        self.assertFalse(judged_text("thp-journal 1\nnode 0 blocks 8\nend\n", self.checker(True)).legal)
 
 
 @unittest.skipUnless(BUILT, "there is no thpcheck (make checker, or THPCHECK=PATH)")
@@ -92,10 +110,11 @@ class FoundTest(unittest.TestCase):
         self.addCleanup(made.cleanup)
         self.folder = Path(made.name)
         nothing = self.folder / "nothing"
-        for patch in (mock.patch.object(checkers, "BUILT", nothing), mock.patch.object(programs, "BUILT", nothing),
-                      mock.patch.dict(os.environ, {"PATH": made.name})):
-            patch.start()
-            self.addCleanup(patch.stop)
+        with contextlib.ExitStack() as patches:
+            for module in (checkers, programs):
+                patches.enter_context(mock.patch.object(module, "BUILT", nothing))
+            patches.enter_context(mock.patch.dict(os.environ, {"PATH": made.name}))
+            self.addCleanup(patches.pop_all().close)
         for name in ("THPSPLIT", "THPCHECK"):
             os.environ.pop(name, None)
 

@@ -7,8 +7,9 @@ from typing import List, Optional, Sequence
 
 from ..common.btf import Missing, Types
 from ..record.calls import MREMAP
-from ..record.journalist import Journalist, Settings
+from ..record.journalist import Journalist
 from ..record.records import Kind, Record
+from ..record.state import Settings
 from .made_types import MadeTypes
 from .test_record import BASE, DONTNEED, HUGE, MADVISE, MUNMAP, SPACE, Story, folio_of, frames_of, verdict
 
@@ -266,7 +267,6 @@ class LongScanTest(unittest.TestCase):
         story.look([a, c, b])
         journalist = told(story)
         self.assertEqual((journalist.seen["queues compared"] > 3, journalist.lost_pages()), (True, 0))
-
 
     def test_the_frames_of_a_page_that_it_holds_are_another_page_while_it_runs(self) -> None:
         """Page 1 is freed and page 5 has its frames; both it and page 2, behind it, join before page 0 is split."""

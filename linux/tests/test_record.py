@@ -9,9 +9,10 @@ from pathlib import Path
 from typing import List, Optional, Sequence
 
 from ..common.program import Program
-from ..record.journalist import Journalist, Settings
+from ..record.journalist import Journalist
 from ..record.records import COUNT_AT, FOLIOS_AT, QUEUE_MOST, SIZE, Kind, Record, record_from, record_of
 from ..record.scans import batches_of
+from ..record.state import Settings
 from ..record.tampering import Spoil, tampered
 from .recordings import recording
 

@@ -1,0 +1,135 @@
+"""What is recorded: commands in control groups, from their start to their end."""
+
+from __future__ import annotations
+
+import os
+import signal
+import subprocess
+import time
+from types import FrameType, TracebackType
+from typing import Any, Callable, Dict, List, Optional, Sequence, Type
+
+from ..common.errors import RunFailed
+from ..common.files import read, write
+from ..common.keeper import Keeper
+from ..common.text import escaped
+from ..common.user import User
+
+PATIENCE = 2.0  # seconds from SIGTERM to SIGKILL
+PAUSE = 0.002  # seconds between two looks
+
+
+class Interrupts:
+    """While it is open, SIGINT and SIGTERM are noted (`name`) and don't end the tool; a second SIGINT does."""
+
+    def __init__(self) -> None:
+        self.name = ""
+        self._former: Dict[signal.Signals, Any] = {}
+
+    def __enter__(self) -> Interrupts:
+        for each in (signal.SIGINT, signal.SIGTERM):
+            self._former[each] = signal.signal(each, self._note)
+        return self
+
+    def __exit__(
+        self, kind: Optional[Type[BaseException]], error: Optional[BaseException], trace: Optional[TracebackType]
+    ) -> None:
+        for each, former in self._former.items():
+            signal.signal(each, former)
+
+    def _note(self, number: int, _frame: Optional[FrameType]) -> None:
+        if self.name and number == signal.SIGINT:
+            raise KeyboardInterrupt
+        self.name = signal.Signals(number).name
+
+
+class Commands:
+    """Children in control groups. `take` is called again and again while they run."""
+
+    def __init__(self, keeper: Keeper, take: Callable[[], None]) -> None:
+        self._keeper, self._take = keeper, take
+        self._children: List[subprocess.Popen[bytes]] = []
+        self._groups: List[str] = []
+
+    def start(self, words: Sequence[str], group: str, user: Optional[User]) -> None:
+        """Starts a command in a group, as a user; None: as the tool."""
+
+        def enter() -> None:
+            write(f"{group}/cgroup.procs", os.getpid())
+            if user:
+                user.enter()
+
+        try:
+            child = subprocess.Popen(
+                list(words), preexec_fn=enter, env=user.environment() if user else None, close_fds=True
+            )
+        except (OSError, subprocess.SubprocessError, ValueError) as error:
+            reason = getattr(error, "strerror", None) or str(error)
+            raise RunFailed(f"{escaped(words[0])} can't be started: {reason}") from error
+        self._keeper.own(child.pid)
+        self._children.append(child)
+        self._groups.append(group)
+
+    def is_running(self) -> bool:
+        """Whether one of them runs."""
+        return any([child.poll() is None for child in self._children])
+
+    def end(self) -> None:
+        """Ends all processes of the groups: by SIGTERM, after a while by SIGKILL."""
+        for sent in (signal.SIGTERM, signal.SIGKILL):
+            self._send(sent)
+            until = time.monotonic() + PATIENCE
+            while (self.is_running() or self._members()) and time.monotonic() < until:
+                time.sleep(PAUSE)
+                self._take()
+                if sent is signal.SIGKILL:
+                    self._send(sent)
+
+    def forget(self) -> None:
+        """They have ended."""
+        for child in self._children:
+            self._keeper.disown(child.pid)
+
+    def statuses(self) -> List[str]:
+        """How each of them ended."""
+        out = []
+        for child in self._children:
+            status = child.returncode
+            if status is None:
+                out.append("still runs")
+            else:
+                out.append(f"ended with status {status}" if status >= 0 else f"was killed by {_signal_name(-status)}")
+        return out
+
+    def _members(self) -> List[int]:
+        """The processes of the groups."""
+        out = []
+        for group in set(self._groups):
+            try:
+                out += [int(number) for number in read(f"{group}/cgroup.procs").split() if int(number) > 0]
+            except OSError:
+                continue
+        return out
+
+    def _send(self, number: signal.Signals) -> None:
+        """Signals all processes of the groups. A process is held by its descriptor while its group is looked up once
+        more, so that the signal reaches no other that has its number."""
+        for process in self._members():
+            try:
+                descriptor = os.pidfd_open(process)
+            except OSError:
+                continue
+            try:
+                if process in self._members():
+                    signal.pidfd_send_signal(descriptor, number)
+            except OSError:
+                pass
+            finally:
+                os.close(descriptor)
+
+
+def _signal_name(number: int) -> str:
+    try:
+        return signal.Signals(number).name
+    except ValueError:
+        return f"signal {number}"

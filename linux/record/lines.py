@@ -1,0 +1,95 @@
+"""The lines of a journal while it is made: the latest can still be reordered; older ones are final and go to an unnamed
+temporary file."""
+
+from __future__ import annotations
+
+import tempfile
+from typing import IO, Dict, Iterator, List, Optional
+
+from ..common.errors import RunFailed
+from .folios import Line
+from .store import FOLDER
+
+WINDOW = 20000  # lines that can be reordered
+SLACK = 5000  # lines beyond these that are kept before the oldest go to the file
+
+
+class Lost:
+    """The numbers of the pages that are left out, a bit each."""
+
+    def __init__(self) -> None:
+        self._bits = bytearray()
+
+    def add(self, number: int) -> None:
+        """Leaves a page out."""
+        if number >> 3 >= len(self._bits):
+            self._bits.extend(bytes((number >> 3) + 4096 - len(self._bits)))
+        self._bits[number >> 3] |= 1 << (number & 7)
+
+    def __contains__(self, number: int) -> bool:
+        return number >> 3 < len(self._bits) and bool(self._bits[number >> 3] >> (number & 7) & 1)
+
+
+class Lines:
+    """All lines in order. `latest` may be replaced by a list of the same lines in another order."""
+
+    def __init__(self) -> None:
+        self.latest: List[Line] = []
+        self.final = 0  # how many lines went to the file
+        self._file: Optional[IO[bytes]] = None
+
+    def add(self, line: Line) -> None:
+        """Appends a line, and makes the oldest ones final where there are many more than can be reordered."""
+        self.latest.append(line)
+        if len(self.latest) >= WINDOW + SLACK:
+            self._settle(len(self.latest) - WINDOW)
+
+    def place(self, line: Optional[Line]) -> int:
+        """Where a line is among the latest; -1: nowhere."""
+        for at in range(len(self.latest) - 1, -1, -1):
+            if self.latest[at] is line:
+                return at
+        return -1
+
+    def texts(self, lost: Lost) -> Iterator[str]:
+        """The text of all lines but those of lost pages. A page's number is that of its first line; a lost page takes
+        its number with it."""
+        numbers: Dict[int, str] = {}  # of the pages that live, by their numbers in `latest` and in the file
+        given = 0
+        for text in self._all():
+            caller, word, page, *rest = text.split(" ", 3)
+            number = int(page)
+            if number in lost:
+                continue
+            if number not in numbers:
+                numbers[number] = str(given)
+                given += 1
+            yield " ".join([caller, word, numbers[number], *rest])
+            if rest and rest[0].rpartition(" ")[0].endswith("freed"):
+                del numbers[number]  # this was its last line
+
+    def _all(self) -> Iterator[str]:
+        if self._file:
+            self._file.flush()
+            self._file.seek(0)
+            for line in self._file:
+                yield line[:-1].decode("ascii")
+        for each in self.latest:
+            yield each.event.text()
+
+    def _settle(self, count: int) -> None:
+        """Writes the oldest lines to the file."""
+        try:
+            if not self._file:
+                self._file = tempfile.TemporaryFile(dir=FOLDER)
+            self._file.seek(0, 2)
+            self._file.writelines(line.event.text().encode("ascii") + b"\n" for line in self.latest[:count])
+        except OSError as error:
+            raise RunFailed(f"the journal can't be written to {FOLDER}: {error.strerror}") from error
+        del self.latest[:count]
+        self.final += count
+
+    def close(self) -> None:
+        """Removes the file."""
+        if self._file:
+            self._file.close()

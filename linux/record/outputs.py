@@ -1,0 +1,73 @@
+"""The files that a recording writes: made before it begins, and removed again where nothing was written."""
+
+from __future__ import annotations
+
+import json
+import os
+from typing import IO, List, Optional
+
+from ..common.errors import InputFault, RunFailed
+from ..common.files import create
+from ..common.text import escaped
+from .judging import JournalFile
+from .options import Asked
+from .store import Store
+
+
+class Output:
+    """A new file of a name."""
+
+    def __init__(self, path: str) -> None:
+        self._path = path
+        self._file: IO[bytes] = create(path).detach()  # type: ignore[attr-defined]
+
+    def begin(self) -> IO[bytes]:
+        """The file, empty."""
+        self._file.seek(0)
+        self._file.truncate()
+        return self._file
+
+    def close(self) -> None:
+        """Closes the file, and removes it where nothing was written."""
+        try:
+            self._file.flush()
+            own, found = os.fstat(self._file.fileno()), os.lstat(self._path)
+            if own.st_size == 0 and (own.st_dev, own.st_ino) == (found.st_dev, found.st_ino):
+                os.unlink(self._path)
+            self._file.close()
+        except OSError as error:
+            raise RunFailed(f"{escaped(self._path)} can't be written: {error.strerror}") from error
+
+
+class Outputs:
+    """What --out and --records ask for."""
+
+    def __init__(self, asked: Asked) -> None:
+        self._journal: Optional[Output] = None
+        self._records: List[Output] = []
+        try:
+            self._journal = Output(asked.out) if asked.out is not None else None
+            if asked.records is not None:
+                for number in range(1, asked.groups + 1):
+                    self._records.append(Output(asked.records + (f".{number}" if number > 1 else "")))
+        except InputFault:
+            self.close()
+            raise
+
+    def write_journal(self, journal: JournalFile) -> None:
+        """Writes the journal, in place of an earlier one."""
+        if self._journal:
+            journal.copy_to(self._journal.begin())
+
+    def write_records(self, stores: List[Store]) -> None:
+        """Writes the records of each group, in place of earlier ones: a line of JSON for each."""
+        for output, store in zip(self._records, stores):
+            file = output.begin()
+            for record in store.records():
+                file.write(json.dumps(record.plain()).encode("ascii") + b"\n")
+            file.flush()
+
+    def close(self) -> None:
+        """Closes all files."""
+        for output in [*self._records, *([self._journal] if self._journal else [])]:
+            output.close()

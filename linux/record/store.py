@@ -1,0 +1,191 @@
+"""Records on disk: an unnamed temporary file, written as they come and read back in passes, so that a recording of
+any length needs little memory.
+
+A record in the file is as in the ring: a head of 8 bytes, the record, padding to 8 bytes. Two words of a record that
+the tap leaves 0 become its links: the places in the file of the records that are its `end`, `later`, `dies` or
+`child_dies`.
+"""
+
+from __future__ import annotations
+
+import os
+import struct
+import tempfile
+from typing import Callable, Dict, Iterator, List, Optional, Tuple
+
+from ..common.errors import RunFailed
+from .records import FOLIOS_AT, HEAD, IN_FAULT, QUEUE_MOST, WITH_QUEUE, Kind, Record, record_of, whole
+from .ring import DISCARDED, Bytes, room_of
+from .ring import HEAD as RING_HEAD
+
+FOLDER = "/var/tmp"
+BLOCK = 1 << 20  # bytes that are read at a time
+DIES_AT, LINK_AT = 8 * 13, 8 * 15  # the words of a record that are its links
+_WORD = struct.Struct("<Q")
+_LINKED = frozenset([Kind.SCAN, Kind.SCANNED, Kind.ALLOC, Kind.FORK, Kind.EXIT_MMAP])
+
+Words = Tuple[int, ...]
+
+
+class Store:
+    """Records of one control group."""
+
+    def __init__(self, folder: str = FOLDER) -> None:
+        try:
+            self._file = tempfile.TemporaryFile(dir=folder, buffering=0)
+        except OSError as error:
+            raise RunFailed(f"no temporary file in {folder}: {error.strerror}") from error
+        self._descriptor = self._file.fileno()
+        self._size = 0
+        self.count = 0  # of the records, kept by who writes them
+
+    def write(self, piece: Bytes) -> None:
+        """Appends bytes of the ring."""
+        while len(piece):
+            try:
+                written = os.write(self._descriptor, piece)
+            except OSError as error:
+                raise RunFailed(f"the records can't be written to disk: {error.strerror}") from error
+            self._size += written
+            piece = piece[written:]
+
+    def append(self, raw: bytes) -> None:
+        """Appends one record."""
+        self.write((_WORD.pack(len(raw)) + raw).ljust(room_of(len(raw)), b"\0"))
+        self.count += 1
+
+    def link(self) -> None:
+        """Links the records, all of which have come: what records.link does in memory."""
+        linker = _Linker(self._patch)
+        for at, block, place in self._walk():
+            linker.see(at, HEAD.unpack_from(block, place), block, place)
+
+    def records(self) -> Iterator[Record]:
+        """The linked records in order."""
+        ends: Dict[int, Record] = {}  # ends of scans, which were read with their scans, by their places
+        for at, block, place in self._walk():
+            record = ends.pop(at, None)
+            if record is None:
+                record = record_of(block[place : place + FOLIOS_AT + 8 * QUEUE_MOST])
+            dies, link = (_WORD.unpack_from(block, place + where)[0] for where in (DIES_AT, LINK_AT))
+            if dies:
+                record.dies = self._record_at(dies)
+            if link and record.kind in _LINKED:
+                self._set_link(record, at, link)
+                if record.kind is Kind.SCAN and record.end:
+                    ends[link] = record.end
+            yield record
+
+    def close(self) -> None:
+        """Removes the records."""
+        self._file.close()
+
+    def _set_link(self, record: Record, at: int, link: int) -> None:
+        if record.kind is Kind.EXIT_MMAP:
+            record.begun = link
+        elif record.kind is Kind.FORK:
+            record.child_dies = self._record_at(link)
+        elif record.kind is Kind.SCANNED:
+            record.later = self._record_at(link).queue
+        else:
+            record.end = self._record_at(link)
+            if record.kind is Kind.SCAN:
+                record.made = self._made(at, link)
+                later = self._word_at(link + LINK_AT)
+                record.end.later = self._record_at(later).queue if later else None
+
+    def _record_at(self, at: int) -> Record:
+        raw = os.pread(self._descriptor, FOLIOS_AT + 8 * QUEUE_MOST, at)
+        record = record_of(raw)
+        if record.kind is Kind.EXIT_MMAP:
+            record.begun = _WORD.unpack_from(raw, LINK_AT)[0]
+        return record
+
+    def _word_at(self, at: int) -> int:
+        return int(_WORD.unpack(os.pread(self._descriptor, 8, at))[0])
+
+    def _made(self, at: int, end: int) -> Dict[int, int]:
+        """The folios that were allocated between a scan's start and end, and when last."""
+        out: Dict[int, int] = {}
+        for _, block, place in self._walk(at - RING_HEAD, end):
+            kind, time, _, _, folio = struct.unpack_from("<5Q", block, place)
+            if kind == Kind.ALLOC:
+                out[folio] = time
+        return out
+
+    def _walk(self, at: int = 0, end: Optional[int] = None) -> Iterator[Tuple[int, bytes, int]]:
+        """The records from a place in the file to another, each as its place, a block of the file, and its place in the
+        block."""
+        end = self._size if end is None else end
+        while at < end:
+            block, place = os.pread(self._descriptor, BLOCK, at), 0
+            while place + RING_HEAD <= len(block) and at + place < end:
+                head = struct.unpack_from("<I", block, place)[0]
+                if place + room_of(head) > len(block):
+                    break
+                if not head & DISCARDED:
+                    yield at + place + RING_HEAD, block, place + RING_HEAD
+                place += room_of(head)
+            if not place:
+                raise RunFailed("the records on disk end within a record")
+            at += place
+
+    def _patch(self, at: int, value: int) -> None:
+        os.pwrite(self._descriptor, _WORD.pack(value), at)
+
+
+class _Linker:
+    """Looks at all records in order, by their words, and sets links."""
+
+    def __init__(self, patch: Callable[[int, int], None]) -> None:
+        self._patch = patch
+        self._scans: Dict[int, int] = {}  # those that run, by task: their places
+        self._allocated: Dict[int, Tuple[int, int]] = {}  # by task: place and folio
+        self._last: Dict[int, int] = {}  # by address space: the time of its last record
+        self._first: Dict[int, int] = {}  # by address space: where its end's place goes
+        self._torn: List[int] = []  # scans' ends without a copy: their places
+        self._torn_time = 0
+
+    def see(self, at: int, words: Words, block: bytes, place: int) -> None:
+        """Takes the next record."""
+        kind, time, task, space = words[0], words[1], words[2] & 0xFFFFFFFF, words[3]
+        if self._torn or kind == Kind.SCANNED:
+            has_queue = self._has_queue(words, block, place)
+            if self._torn and has_queue and time > self._torn_time:
+                for end in self._torn:
+                    self._patch(end + LINK_AT, at)
+                self._torn = []
+        if kind == Kind.EXIT_MMAP:
+            self._space_ends(at, words[4])
+        elif kind != Kind.FREE:
+            self._last[space] = time
+            self._first.setdefault(words[4] if kind == Kind.COLLAPSED else space, at + DIES_AT)
+        if kind == Kind.FORK:
+            self._first.setdefault(words[5], at + LINK_AT)
+        elif kind == Kind.SCAN:
+            self._scans[task], self._torn = at, []
+        elif kind == Kind.SCANNED and task in self._scans:
+            self._patch(self._scans.pop(task) + LINK_AT, at)
+            if not has_queue:
+                self._torn.append(at)
+                self._torn_time = time
+        elif kind == Kind.ALLOC and words[6] != IN_FAULT:  # perhaps for a collapse
+            self._allocated[task] = (at, words[4])
+        elif kind == Kind.COLLAPSED and task in self._allocated:
+            alloc, folio = self._allocated.pop(task)
+            if folio == words[6]:
+                self._patch(alloc + LINK_AT, at)
+
+    def _space_ends(self, at: int, space: int) -> None:
+        begun = self._last.pop(space, 0)
+        if begun:
+            self._patch(at + LINK_AT, begun)
+        first = self._first.pop(space, 0)
+        if first:
+            self._patch(first, at)
+
+    def _has_queue(self, words: Words, block: bytes, place: int) -> bool:
+        count = words[14]
+        if words[0] not in WITH_QUEUE or count > QUEUE_MOST:
+            return False
+        return whole(list(struct.unpack_from(f"<{count}Q", block, place + FOLIOS_AT))) is not None
