@@ -49,7 +49,7 @@ def find_hierarchy(mounts: Optional[str] = None, own: Optional[str] = None) -> H
 def checked_group(path: str) -> str:
     """Returns the real path of a control group's folder. InputFault where the folder isn't one: its files could be anybody's,
     and a link could lead anywhere."""
-    real = os.path.realpath(path)
+    real = os.path.realpath(path) if "\0" not in path else ""
     for folder, _, _ in hierarchies():
         try:
             is_inside = real == folder or real.startswith(folder.rstrip("/") + "/")

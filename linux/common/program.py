@@ -72,6 +72,7 @@ def find_program(given: Optional[str] = None) -> str:
 
 
 Stream = Union[int, IO[bytes], None]
+ENVIRONMENT = {"PATH": os.defpath, "LC_ALL": "C.UTF-8"}  # of the programs that run as nobody: nothing of root's
 
 
 def start(
@@ -86,7 +87,7 @@ def start(
             word, descriptors = command_of(path, user)
             return subprocess.Popen(
                 [word, *options], stdin=stdin, stdout=stdout, stderr=stderr, cwd=empty, pass_fds=descriptors,
-                env={"PATH": os.defpath, "LC_ALL": "C.UTF-8"}, **user.rights(),
+                env=ENVIRONMENT, **user.rights(),
             )
         except (OSError, ValueError) as error:
             raise Unavailable(f"{escaped(path)} can't be run: {getattr(error, 'strerror', None) or error}") from error

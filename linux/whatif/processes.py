@@ -7,6 +7,7 @@ from dataclasses import dataclass, field
 from typing import List, Set
 
 from ..common.errors import InputFault
+from ..common.groups import checked_group
 from ..common.text import escaped
 from . import proc
 from .proc import has_memory, members
@@ -27,13 +28,11 @@ class Choice:
         return ", ".join(words + (["all processes"] if self.everything else []))
 
     def check(self) -> None:
-        """InputFault for a process or a control group that doesn't exist."""
+        """Resolves the control groups' paths. InputFault for a process or a control group that doesn't exist."""
         for number in self.processes:
             if not os.path.isdir(f"{proc.ROOT}/{number}"):
                 raise InputFault(f"no process {number}")
-        for path in self.groups:
-            if "\0" in path or not os.path.exists(f"{path}/cgroup.procs"):
-                raise InputFault(f"{escaped(path)} is no control group: it has no cgroup.procs")
+        self.groups = [checked_group(path) for path in self.groups]
 
     def find(self) -> List[int]:
         """Returns the processes now, except this one where all are asked for, and threads of the kernel."""
