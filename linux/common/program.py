@@ -82,6 +82,7 @@ def start(
     where it can't be run."""
     user = nobody()
     with tempfile.TemporaryDirectory(prefix="leversorrel-") as empty:
+        os.chmod(empty, 0o555)
         descriptors: List[int] = []
         try:
             word, descriptors = command_of(path, user)

@@ -1,0 +1,180 @@
+"""Text from outside, words of a command line, a tool's files, users and helpers; errors and their statuses."""
+
+from __future__ import annotations
+
+import os
+import random
+import stat
+import subprocess
+import sys
+import tempfile
+import unittest
+from pathlib import Path
+from typing import List, Union
+from unittest import mock
+
+from ..common import helpers, user
+from ..common.errors import FAILED, INCONCLUSIVE, USAGE, InputFault, RunFailed, Unavailable, status_of
+from ..common.files import OwnFolder, create, read, read_input
+from ..common.groups import checked_group
+from ..common.program import start
+from ..common.text import escaped, lines, text_lines
+from ..common.words import Words, seconds, whole
+
+ROOT = Path(__file__).resolve().parent.parent.parent
+ODD = ("\x0b", "\x0c", "\x1c", "\x1d", "\x1e", "\x85", "\u2028", "\u2029", "\r", "\x1b[2J", "\ud800", "\udcff", "\0")
+
+
+class TextTest(unittest.TestCase):
+    def test_nothing_but_printable_ascii_comes_out(self) -> None:
+        chance = random.Random(1)
+        texts: List[Union[str, bytes]] = [*ODD, bytes(range(256)), "".join(ODD)]
+        texts += [bytes(chance.randrange(256) for _ in range(50)) for _ in range(100)]
+        for text in texts:
+            self.assertRegex(escaped(text), r"^[ -~]*$")
+        self.assertEqual(escaped("a\\b\nc\u2028"), r"a\\b\x0ac\xe2\x80\xa8")
+
+    def test_different_texts_are_escaped_differently(self) -> None:
+        texts = [bytes([first, second]) for first in range(256) for second in (92, 120, 10)]
+        self.assertEqual(len({escaped(text) for text in texts}), len(texts))
+
+    def test_lines_end_at_line_feeds_alone(self) -> None:
+        for odd in ODD:
+            self.assertEqual(text_lines(f"a{odd}b\nc\n"), [f"a{odd}b", "c"])
+        self.assertEqual((lines(b"a\x0b\r\n\nb"), lines(b"")), ([b"a\x0b\r", b"", b"b"], []))
+
+
+class WordsTest(unittest.TestCase):
+    def test_numbers_are_within_limits(self) -> None:
+        parser = Words(prog="x", add_help=False)
+        parser.add_argument("--count", type=whole(1, 9))
+        parser.add_argument("--time", type=seconds(0.5, 60))
+        asked = parser.parse_args(["--count", "9", "--time", "0.5"])
+        self.assertEqual((asked.count, asked.time), (9, 0.5))
+        for option, texts in (("--count", ("0", "10", "1.0", "1e1", "", "x", "9" * 400, "\u0661", "-1", " 1", "\udcff")),
+                              ("--time", ("nan", "inf", "-1", "1e1", "61", "", "9" * 400, "0x1", "1_0", "\u0661"))):
+            for text in texts:
+                with self.assertRaises(InputFault) as caught:
+                    parser.parse_args([f"{option}={text}"])
+                self.assertRegex(str(caught.exception), r"^[ -~]{1,200}$")
+
+
+class FilesTest(unittest.TestCase):
+    def setUp(self) -> None:
+        made = tempfile.TemporaryDirectory()
+        self.addCleanup(made.cleanup)
+        self.folder = Path(made.name)
+
+    def test_a_new_file_is_its_owners_alone(self) -> None:
+        os.umask(os.umask(0))
+        with create(self.folder / "new") as file:
+            file.write("text")
+        self.assertEqual(stat.S_IMODE((self.folder / "new").stat().st_mode), 0o600)
+
+    def test_what_exists_is_never_written(self) -> None:
+        target = self.folder / "target"
+        target.write_text("precious")
+        (self.folder / "link").symlink_to(target)
+        (self.folder / "dangling").symlink_to(self.folder / "nothing")
+        os.link(target, self.folder / "hard")
+        os.mkfifo(self.folder / "pipe")
+        for name in ("target", "link", "dangling", "hard", "pipe", ".", "no/where", "nul\0"):
+            with self.assertRaises(InputFault, msg=name):
+                create(self.folder / name)
+        self.assertEqual((target.read_text(), (self.folder / "nothing").exists()), ("precious", False))
+
+    def test_a_folder_is_the_callers_own(self) -> None:
+        folder = OwnFolder(self.folder / "made")
+        for text in ("one", "two"):  # an earlier file is replaced
+            with folder.create("file") as file:
+                file.write(text)
+        self.assertEqual((self.folder / "made/file").read_text(), "two")
+        self.assertEqual(stat.S_IMODE((self.folder / "made").stat().st_mode), 0o700)
+        for name in ("", ".", "..", "a/b", "../x"):
+            with self.assertRaises(InputFault):
+                folder.create(name)
+        folder.close()
+        os.chmod(self.folder / "made", 0o777)
+        (self.folder / "link").symlink_to(self.folder)
+        for name in ("made", "link", "made/file", "no/where"):
+            with self.assertRaises(InputFault, msg=name):
+                OwnFolder(self.folder / name)
+
+    def test_inputs_are_regular_files_of_a_limited_size(self) -> None:
+        (self.folder / "text").write_bytes(b"a\r\nb\xff")
+        self.assertEqual(read_input(self.folder / "text"), b"a\r\nb\xff")
+        os.mkfifo(self.folder / "pipe")
+        for path in map(str, (self.folder, self.folder / "pipe", self.folder / "none", "/dev/zero", "nul\0")):
+            with self.assertRaises(InputFault, msg=path):
+                read_input(path)
+        with self.assertRaisesRegex(InputFault, "more than"):
+            read_input(self.folder / "text", 3)
+
+    def test_no_line_end_is_translated(self) -> None:
+        (self.folder / "text").write_bytes(b"a\r\nb\rc\xff")
+        self.assertEqual(read(self.folder / "text"), "a\r\nb\rc\udcff")
+
+    def test_a_folder_that_is_no_control_group(self) -> None:
+        (self.folder / "cgroup.procs").write_text("1\n")
+        for path in (str(self.folder), "/", "/proc/self", "nul\0", "", "/sys/fs/cgroup/../../../tmp"):
+            with self.assertRaisesRegex(InputFault, "is no control group"):
+                checked_group(path)
+
+
+class UserTest(unittest.TestCase):
+    def test_an_unknown_user_is_named(self) -> None:
+        for name in ("no-such-user", "4294967", "", "\udcff", "\0", "9" * 50):
+            with self.assertRaises(InputFault):
+                user.user_for(name)
+
+    def test_programs_run_without_rights_in_an_empty_folder(self) -> None:
+        code = "import os; print(os.getuid(), os.getgroups(), os.listdir('.'), sorted(os.environ), os.path.exists('/proc/self/fd/9'))"
+        child = start(sys.executable if os.geteuid() else "/usr/bin/python3", ["-IS", "-c", code], stdout=subprocess.PIPE)
+        told, _ = child.communicate()
+        number = os.geteuid() or user.NOBODY
+        groups = os.getgroups() if os.geteuid() else []
+        self.assertEqual(told.decode().strip(), f"{number} {groups} [] ['LC_ALL', 'PATH'] False")
+
+    def test_the_user_behind_sudo(self) -> None:
+        if os.geteuid():
+            self.skipTest("not root")
+        with mock.patch.dict(os.environ, {"SUDO_UID": str(user.NOBODY), "SUDO_COMMAND": "x"}):
+            found = user.user_for(None)
+            self.assertEqual((found.name, found.is_caller), ("nobody", False))
+            self.assertNotIn("SUDO_COMMAND", found.environment())
+            self.assertEqual(found.environment()["USER"], "nobody")
+
+
+class HelperTest(unittest.TestCase):
+    def test_a_compiler_that_fails_is_reported_in_a_line(self) -> None:
+        with tempfile.TemporaryDirectory() as name, mock.patch.object(helpers, "own_folder_of_helpers", lambda: Path(name)):
+            for compiler in ("false", "true", "no-such-compiler", "sh -c 'echo \x1b >&2; exit 1'"):
+                with mock.patch.dict(os.environ, {"CC": compiler}), self.assertRaises(Unavailable) as caught:
+                    helpers.helper("whatif/known.c")
+                self.assertNotIn("\n", str(caught.exception))
+            self.assertEqual(list(Path(name).iterdir()), [])
+
+    def test_only_what_nobody_else_can_write_is_trusted(self) -> None:
+        with tempfile.TemporaryDirectory() as name:
+            path = Path(name) / "helper"
+            path.write_text("")
+            self.assertEqual(helpers.is_trusted(path), os.geteuid() == 0)
+            path.chmod(0o777)
+            self.assertFalse(helpers.is_trusted(path))
+
+
+class ErrorsTest(unittest.TestCase):
+    def test_each_error_is_one_line_with_a_status(self) -> None:
+        errors = {RunFailed("x\ny"): FAILED, InputFault("\u2028"): USAGE, OSError(28, "full", "a\nb"): FAILED,
+                  ZeroDivisionError("z\n"): FAILED, MemoryError(): FAILED, RecursionError("deep"): FAILED,
+                  Unavailable("none"): 77, KeyboardInterrupt(): 130}
+        for error, status in errors.items():
+            with mock.patch("sys.stderr") as out:
+                self.assertEqual(status_of("tool", error), status)
+            written = "".join(each.args[0] for each in out.write.call_args_list)
+            self.assertRegex(written, r"^tool: [ -~]*\n$")
+        self.assertEqual(INCONCLUSIVE, 4)
+
+
+if __name__ == "__main__":
+    unittest.main()
