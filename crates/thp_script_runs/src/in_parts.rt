@@ -3,6 +3,7 @@ ghost use Rattle.std.specs.Prelude.{◌≡◌, [], All, IfOk, List};
 ghost use Rattle.thp_cell.specs.Views.{PassState};
 ghost use Rattle.thp_sections.specs.declared.answer_log.Answers.TheVariants.{Kept as KeptAnswers};
 ghost use Rattle.thp_sections.specs.Fronts.{Fronts};
+ghost use Rattle.thp_sections.specs.Holdings.{KeepsNode};
 ghost use Rattle.thp_sections.specs.Passes.{fronts_in};
 ghost use Rattle.thp_text.specs.Parts.{behind_setup};
 ghost use Rattle.thp_text.specs.Scripts.{IsScriptFor};
@@ -39,7 +40,7 @@ pub fn new_cells<N: Recorder>(
     share(alloc, nodes, settings.workers + 1)
 }
 
-/// Begins a run on new nodes, of whose `setup` no command has come.
+/// Begins a run on new nodes, of whose `setup` no command has come. The passes keep the nodes for it.
 pub fn begin_run<'a, N: Recorder>(
     alloc: Global,
     settings: &Settings,
@@ -49,6 +50,7 @@ pub fn begin_run<'a, N: Recorder>(
     requires { AreNew settings.now cells.now passes.items }
     ensures begun { IfOk result (λ r. HasBegun settings.now cells.now passes.items (fronts_in r.0) [] (fronts_in r.0) r.1) }
     ensures answers { settings.now.report ≡ Report.Answers → IfOk result (λ r. r.1.answers.are ≡ KeptAnswers) }
+    ensures kept { IfOk result (λ r. All KeepsNode r.0.held) }
 {
     let callers = settings.workers + 1;
     let nodes = open(alloc, cells, passes)?;
