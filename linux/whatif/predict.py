@@ -158,6 +158,8 @@ class Predictor:
         for index, script in enumerate(self.scripts):
             node = -1
             for line in self._report("journal", script, threshold):
+                if b" split " not in line and not line.startswith(b"node "):
+                    continue
                 found = re.fullmatch(rb"node ([0-9]{1,4}) .*|[0-9]+ split ([0-9]{1,6}) ([0-9,-]{1,4000})", line)
                 if found and found[1] is not None:
                     node = int(found[1])
