@@ -22,7 +22,7 @@ from .predict import DEFAULT, OFF, Predictor, Row, Share, highest_with, label, t
 from .processes import Choice
 from .rights import demand_root
 from .scripts import Script, Spool, read_script
-from .snapshot import NAME, Snapshot, Taker, show_progress, told, warnings, write
+from .snapshot import NAME, Snapshot, Taker, guess_of, show_progress, told, warnings, write
 from .stored import from_json
 from .table import (
     FRAMES_A_MEBIBYTE,
@@ -286,7 +286,8 @@ def command_watch(asked: argparse.Namespace) -> int:
         snapshot = taker.take(choice)
         thresholds = with_today(given, None if asked.thresholds else snapshot.today)
         rows = Predictor(write(snapshot).scripts, program).run(thresholds)
-        notes = [last_line(snapshot.left_out)] if any(snapshot.left_out.values()) else []
+        notes = ([snapshot.note] if snapshot.note else []) + ([guess_of(snapshot)] if snapshot.lacking else [])
+        notes += [last_line(snapshot.left_out)] if any(snapshot.left_out.values()) else []
         return Look(rows, snapshot.today, notes + warnings(snapshot))
 
     watch(look_once, asked.seconds, asked.rounds)

@@ -20,7 +20,7 @@ from bisect import bisect_right
 from collections import Counter, defaultdict
 from concurrent.futures import ThreadPoolExecutor
 from dataclasses import replace
-from typing import Callable, Dict, List, Optional, Sequence, Tuple
+from typing import Callable, Dict, List, Optional, Sequence, Set, Tuple
 
 from ..common.direct_map import DirectMap
 from ..common.errors import Unavailable
@@ -140,6 +140,7 @@ class Reader:
         self._sample: List[Tuple[Folio, Folio]] = []
         self.folios: Dict[int, Folio] = {}  # by frame
         self.left_out: Counter[str] = Counter()
+        self.denied: Set[int] = set()  # processes whose content may not be read
         self.others = 0  # anonymous pages that aren't huge, base pages
         self.by_pmd: Counter[int] = Counter()  # PMD mappings by process
         self.spent: Dict[str, float] = defaultdict(float)  # seconds by step
@@ -252,6 +253,7 @@ class Reader:
                         wanted &= ~self._read_mapping(folio, mapping, file, wanted, data)
                 if folio.known == folio.full:
                     folio.known = folio.full  # one object for all pages
+        self.denied |= memory.denied
 
     def _read_mapping(self, folio: Folio, mapping: Mapping, memory: int, wanted: int, data: int) -> int:
         """Reads those of the wanted subpages that a process maps; returns which are known then."""
@@ -330,6 +332,7 @@ class OpenFiles:
     def __init__(self, name: str, most: int = OPEN) -> None:
         self._name, self._most = name, most
         self._open: Dict[int, int] = {}
+        self.denied: Set[int] = set()  # processes whose file may not be opened
 
     def of(self, process: int) -> int:
         """Returns the process's open file; -1 where it can't be opened."""
@@ -338,8 +341,10 @@ class OpenFiles:
                 self.close()
             try:
                 self._open[process] = os.open(path_of(process, self._name), os.O_RDONLY | os.O_CLOEXEC)
-            except OSError:
-                self._open[process] = -1  # it ended: what nobody else maps stays unknown
+            except OSError as error:
+                self._open[process] = -1  # what nobody else maps stays unknown
+                if isinstance(error, PermissionError):
+                    self.denied.add(process)
         return self._open[process]
 
     def numbers(self, process: int, first: int, count: int) -> Sequence[int]:

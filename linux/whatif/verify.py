@@ -129,7 +129,8 @@ class Result:
     @property
     def outcome(self) -> Outcome:
         """Exact: each page and each frame as predicted, and the counters too."""
-        if self.differing:
+        said = self.statistics()
+        if self.differing or any(self.added[name] < said[name] for name in said):  # others only add to the counters
             return Outcome.DIFFERS
         if not self.is_undisturbed:
             return Outcome.INCONCLUSIVE
