@@ -62,7 +62,8 @@ class ExplainedTest(unittest.TestCase):
         folder = tempfile.TemporaryDirectory()
         self.addCleanup(folder.cleanup)
         path = Path(folder.name) / "checker"
-        path.write_text(f'#!/bin/sh\nPLAIN_EXPLAINS=1 exec {PLAIN_CHECKER} "$@"\n')
+        path.write_text("#!/usr/bin/env python3\nimport os, sys\nos.environ['PLAIN_EXPLAINS'] = '1'\n"
+                        f"os.execv('{PLAIN_CHECKER}', ['checker', *sys.argv[1:]])\n")
         path.chmod(0o755)
         return Checker(str(path))
 
