@@ -18,7 +18,7 @@
 #include <unistd.h>
 
 enum { BASE = 4096, BLOCK = 512, PMD_ORDER = 9, CHUNK = 64, REGIONS = 256, RECENT = 64, TEXT = 1 << 16,
-       LINE = 256 };
+       LINE = 256, BLOCKS = 1 << 18, TOUCHES = 16 };
 
 /* include/uapi/linux/fs.h: PAGEMAP_SCAN (Linux 6.7), for machines whose headers are older */
 enum { IS_FILE = 4, IS_PRESENT = 8, IS_ZERO_FRAME = 32, IS_HUGE = 64 };
@@ -38,7 +38,11 @@ struct piece {
     uint64_t set[BLOCK / 64];
 };
 
+/* Whether a block of frames has huge anonymous pages, once it was touched often: most memory has none. */
+struct known { uint32_t block, touches; enum { UNKNOWN, NONE, SOME } state; };
+
 struct walk {
+    struct known *known;                /* BLOCKS of them, of all processes of a look */
     int map, flags_file, process, with_small;
     struct piece *out;
     long found, most, lost, small, others, changed;
@@ -89,6 +93,18 @@ static int read_block(struct walk *w, uint64_t block) {
     return 0;
 }
 
+/* Whether a block of frames is known to have no huge anonymous page. */
+static int is_plain(struct walk *w, uint64_t block) {
+    struct known *k = &w->known[block % BLOCKS];
+    if (k->block != (uint32_t)block) *k = (struct known){ .block = (uint32_t)block };
+    if (k->state == UNKNOWN && ++k->touches >= TOUCHES && !read_block(w, block)) {
+        k->state = NONE;
+        for (int i = 0; i < BLOCK; i++)
+            if (is_ours(w->block_flags[i])) k->state = SOME;
+    }
+    return k->state == NONE;
+}
+
 /* Finds the huge page around a frame of the block that was read: returns its order and fills `head`, or -1. */
 static int order_around(struct walk *w, uint64_t frame, uint64_t *head) {
     if (w->order >= 0 && frame - w->head < 1ul << w->order) { *head = w->head; return w->order; }
@@ -105,6 +121,7 @@ static int order_around(struct walk *w, uint64_t frame, uint64_t *head) {
 /* Takes `count` subpages at `address` in consecutive frames of one block. */
 static void take_frames(struct walk *w, uint64_t address, uint64_t frame, long count, int by_pmd) {
     uint64_t flags[BLOCK];
+    if (!by_pmd && is_plain(w, frame / BLOCK)) { w->others += count; return; }
     if (w->block == frame / BLOCK)
         memcpy(flags, w->block_flags + frame % BLOCK, count * 8);
     else if (pread(w->flags_file, flags, count * 8, frame * 8) != count * 8) { w->changed += count; return; }
@@ -168,12 +185,13 @@ struct sums { int64_t lost, small, others, changed; };
 
 /* Fills `out` with at most `most` pieces; returns how many, or -errno. `sums`: pieces that had no room, pages below
  * PMD size that weren't asked for, anonymous base pages beside them, base pages whose flags no longer fit their page
- * table. */
-long walk_process(int pid, int flags_file, int with_small, struct piece *out, long most, struct sums *sums) {
+ * table. `known`: BLOCKS entries, zero before the first process. */
+long walk_process(int pid, int flags_file, int with_small, struct known *known, struct piece *out, long most,
+                  struct sums *sums) {
     char path[64];
     struct region regions[REGIONS];
-    struct walk w = { .flags_file = flags_file, .process = pid, .with_small = with_small, .out = out, .most = most,
-                      .block = ~0ul, .order = -1, .entries_at = ~0ul };
+    struct walk w = { .known = known, .flags_file = flags_file, .process = pid, .with_small = with_small,
+                      .out = out, .most = most, .block = ~0ul, .order = -1, .entries_at = ~0ul };
     snprintf(path, sizeof path, "/proc/%d/pagemap", pid);
     w.map = open(path, O_RDONLY | O_CLOEXEC);
     if (w.map < 0) return -errno;

@@ -44,6 +44,7 @@ OPEN = 64  # files of processes' memory that one task has open
 MEMORY = 512  # MiB that a look keeps at most, if no other limit is given
 PIECE_COST, FOLIO_COST = 400, 2600  # bytes of a mapping and of a huge page, with all that is made of them
 MOST_LOCKED = 1 << 20  # locked areas of a process
+KNOWN = 12 << 18  # bytes that pages.c has for blocks of frames
 
 
 class Piece(ctypes.Structure):
@@ -75,7 +76,7 @@ def load_library() -> ctypes.CDLL:
     """Loads the C helper. Unavailable where it isn't built and there is no compiler."""
     library = ctypes.CDLL(helper("whatif/pages.c", ["-shared", "-fPIC"]))
     number, long, pointer = ctypes.c_int, ctypes.c_long, ctypes.c_void_p
-    library.walk_process.argtypes = [number, number, number, pointer, long, pointer]
+    library.walk_process.argtypes = [number, number, number, pointer, pointer, long, pointer]
     library.walk_process.restype = long
     library.find_locked.argtypes = [number, pointer, long]
     library.find_locked.restype = long
@@ -130,6 +131,7 @@ class Reader:
         self._progress = progress or (lambda what, done, of: None)
         self._most = (memory << 20) // (PIECE_COST + FOLIO_COST)
         self._room, self._span_room = Room(self._most * PIECE.size), Room(MOST_LOCKED * 16)
+        self._known = Room(KNOWN)
         self._files = [open_numbers(f"/proc/kpage{name}") for name in ("flags", "count")]
         try:
             self._files.append(open_numbers("/proc/kpagecgroup"))
@@ -163,7 +165,13 @@ class Reader:
         used = self._pieces * PIECE_COST + len(self.folios) * FOLIO_COST + self._spans * 16
         most = max(0, min(self._most, ((self._memory << 20) - used) // (PIECE_COST + FOLIO_COST)))
         found = self._library.walk_process(
-            process, self._files[0], self._with_small, self._room.address, most, ctypes.byref(sums)
+            process,
+            self._files[0],
+            self._with_small,
+            self._known.address,
+            self._room.address,
+            most,
+            ctypes.byref(sums),
         )
         if found in (-errno.ENOTTY, -errno.EINVAL):
             raise Unavailable("this kernel has no PAGEMAP_SCAN (before Linux 6.7)")
