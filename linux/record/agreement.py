@@ -116,8 +116,8 @@ class Agreement:
             if not 0 <= first <= last:
                 return
             window = state.lines.latest[first : last + 1]
-            own = [line for line in window if line.page is page]
-            state.lines.latest[first : last + 1] = own + [line for line in window if line.page is not page]
+            own = [line for line in window if line.page == page.number]
+            state.lines.latest[first : last + 1] = own + [line for line in window if line.page != page.number]
             for queue in (state.queue, state.told):
                 queue.remove(page)
                 queue.insert(queue.index(other), page)

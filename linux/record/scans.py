@@ -159,7 +159,8 @@ class Scans:
         if not later or min(places.values()) < 0:
             return
         lines = state.lines.latest
-        late = {i for i, line in enumerate(lines) if line.page in later and i >= places[line.page]}
+        begins = {page.number: place for page, place in places.items()}
+        late = {i for i, line in enumerate(lines) if line.page in begins and i >= begins[line.page]}
         sooner = [line for i, line in enumerate(lines) if i not in late]
         state.lines.latest = sooner + [lines[i] for i in sorted(late)]
         for queue in (state.queue, state.told):
