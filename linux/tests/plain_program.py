@@ -1,15 +1,18 @@
 #!/usr/bin/env python3
-"""A stand-in for `thpsplit`: the plain reading of the model in tests/model.py. $PLAIN_BUG plants a bug in it.
+"""A stand-in for `thpsplit`: the plain reading of the model in tests/model.py. $PLAIN_BUG injects a bug into it.
 
     unmap-short       a range unmapped is one subpage short
-    back-at-head      what is put back stands at the queue's head
+    back-at-head      what is put back joins the queue at its head
     splits-pinned     a pinned page is split
     forgets-free      a freed page stays in the queue
+
+The tools run their programs with an environment of their own: `spoilt` makes a program that sets the variable.
 """
 
 from __future__ import annotations
 
 import os
+import shlex
 import sys
 from pathlib import Path
 from typing import Callable, Dict, List
@@ -63,6 +66,15 @@ class ForgetsFree(Node):
 BUGS: Dict[str, type] = {
     "unmap-short": UnmapShort, "back-at-head": BackAtHead, "splits-pinned": SplitsPinned, "forgets-free": ForgetsFree,
 }
+
+
+def spoilt(bug: str, folder: str) -> str:
+    """Makes a program with a bug in a folder, and returns its path."""
+    path = os.path.join(folder, f"plain-{bug}")
+    with open(path, "w", encoding="ascii") as file:
+        file.write(f'#!/bin/sh\nPLAIN_BUG={bug} exec {shlex.quote(str(Path(__file__).resolve()))} "$@"\n')
+    os.chmod(path, 0o755)
+    return path
 
 
 def run_of(text: str, words: List[str]) -> Run:

@@ -3,8 +3,8 @@
 from __future__ import annotations
 
 import dataclasses
-import os
 import random
+import tempfile
 import unittest
 from pathlib import Path
 from typing import Callable, List, Tuple
@@ -19,6 +19,7 @@ from ..replay.known import Known
 from ..replay.running import Follower, StoredKernel
 from ..replay.sayings import Unsayable, story_of
 from ..replay.seen import PageSeen, Seen, seen_of
+from .plain_program import spoilt
 
 HERE = Path(__file__).resolve().parent
 PLAIN = str(HERE / "plain_program.py")
@@ -29,9 +30,9 @@ def stored(name: str) -> Tuple[Script, List[Seen]]:
     return script, [seen_of(line) for line in (HERE / f"stored/{name}.looks").read_text().splitlines()]
 
 
-def followed(script: Script, looks: List[Seen]) -> str:
+def followed(script: Script, looks: List[Seen], program: str = PLAIN) -> str:
     zeros = any(switch is not None for switch in script.options.underused)
-    return Follower().follow(story_of(script, Program(PLAIN)), zeros, StoredKernel(looks))
+    return Follower().follow(story_of(script, Program(program)), zeros, StoredKernel(looks))
 
 
 def with_counter(look: Seen, counter: Counter, more: int) -> Seen:
@@ -50,7 +51,7 @@ class StoredTest(unittest.TestCase):
         for look in stored("fork")[1]:
             self.assertEqual(seen_of(look.line()), look)
 
-    def spoilt(self, name: str, at: int, spoil: Callable[[Seen], Seen], told: str) -> None:
+    def differs_if(self, name: str, at: int, spoil: Callable[[Seen], Seen], told: str) -> None:
         script, looks = stored(name)
         looks[at] = spoil(looks[at])
         with self.assertRaisesRegex(Differs, told):
@@ -59,7 +60,7 @@ class StoredTest(unittest.TestCase):
     def test_each_thing_compared_is_told_by_name(self) -> None:
         for counter in Counter:
             told = "failed" if counter is Counter.SPLIT_FAILED else f"{counter.value}, kernel .*command 4: scan 0 8"
-            self.spoilt("first", 4, lambda look, counter=counter: with_counter(look, counter, 1), told)
+            self.differs_if("first", 4, lambda look, counter=counter: with_counter(look, counter, 1), told)
 
     def test_a_map_count_is_told_by_subpage(self) -> None:
         def spoil(look: Seen) -> Seen:
@@ -67,7 +68,7 @@ class StoredTest(unittest.TestCase):
             counts = (*page.counts[:300], 2, *page.counts[301:])
             return dataclasses.replace(look, pages={(0, 0): PageSeen(page.whole, counts, page.mapped)})
 
-        self.spoilt("first", 3, spoil, "map count of page 0 of node 0, subpage 300, kernel 2, thpsplit 1")
+        self.differs_if("first", 3, spoil, "map count of page 0 of node 0, subpage 300, kernel 2, thpsplit 1")
 
     def test_frames_are_told(self) -> None:
         def fewer(look: Seen) -> Seen:
@@ -79,17 +80,17 @@ class StoredTest(unittest.TestCase):
             page = look.pages[0, 0]
             return dataclasses.replace(look, pages={(0, 0): PageSeen(511, page.counts, page.mapped)})
 
-        self.spoilt("first", 4, fewer, "frames of page 0 of node 0, kernel 256-299,301-511, thpsplit 256-511")
-        self.spoilt("first", 2, broken, "frames of page 0 of node 0, kernel 511, thpsplit 512")
+        self.differs_if("first", 4, fewer, "frames of page 0 of node 0, kernel 256-299,301-511, thpsplit 256-511")
+        self.differs_if("first", 2, broken, "frames of page 0 of node 0, kernel 511, thpsplit 512")
 
     def test_the_order_of_a_queue_is_told(self) -> None:
         script, looks = stored("pins")
         at = next(i for i, look in enumerate(looks) if len(look.queues[0] or []) == 3)
-        self.spoilt("pins", at, lambda look: dataclasses.replace(look, queues=[(look.queues[0] or [])[::-1]]),
+        self.differs_if("pins", at, lambda look: dataclasses.replace(look, queues=[(look.queues[0] or [])[::-1]]),
                     r"queue of node 0, kernel \[2, 1, 0\], thpsplit \[0, 1, 2\]")
 
     def test_a_strange_frame_in_a_queue_is_told(self) -> None:
-        self.spoilt("first", 3, lambda look: dataclasses.replace(look, queues=[[0, -4096]]), "frame 0x1000")
+        self.differs_if("first", 3, lambda look: dataclasses.replace(look, queues=[[0, -4096]]), "frame 0x1000")
 
     def test_queues_that_were_not_read_are_not_compared(self) -> None:
         script, looks = stored("pins")
@@ -105,8 +106,8 @@ class StoredTest(unittest.TestCase):
 class PlantedTest(unittest.TestCase):
     def planted(self, bug: str, name: str, told: str) -> None:
         script, looks = stored(name)
-        with mock.patch.dict(os.environ, {"PLAIN_BUG": bug}), self.assertRaisesRegex(Differs, told):
-            followed(script, looks)
+        with tempfile.TemporaryDirectory() as folder, self.assertRaisesRegex(Differs, told):
+            followed(script, looks, spoilt(bug, folder))
 
     def test_an_unmap_that_is_one_short(self) -> None:
         told = r"map count of page 0 of node 0, subpage 255, kernel 0, thpsplit 1 \(command 3: unmap"
