@@ -5,7 +5,7 @@ from __future__ import annotations
 import signal
 import sys
 from pathlib import Path
-from typing import Callable, NoReturn
+from typing import NoReturn
 
 from .text import escaped
 
@@ -65,10 +65,3 @@ def status_of(name: str, error: BaseException) -> int:
         text = f"internal error: {type(error).__name__}: {error} (at {place_of(error)})"
     print(f"{name}: {escaped(text)}", file=sys.stderr, flush=True)
     return status
-
-
-def run_tool(name: str, main: Callable[[], int]) -> NoReturn:
-    """See tool.py."""
-    from . import tool
-
-    tool.run_tool(name, main)

@@ -17,8 +17,9 @@ from dataclasses import dataclass
 from typing import Dict, List, NoReturn, Optional, Sequence, Tuple
 
 from ..common.checker import Judge, find_judge
-from ..common.errors import DIFFERS, DONE, SKIPPED, run_tool
+from ..common.errors import DIFFERS, DONE, SKIPPED
 from ..common.files import read
+from ..common.tool import run_tool
 
 QUEUE_WORDS = ("taken", "split", "back", "queued")
 NEEDED = 0.99  # of the copies are to be illegal

@@ -17,13 +17,14 @@ from itertools import chain
 from typing import Dict, Iterable, List, NoReturn, Optional, Sequence, Set, Tuple
 
 from ..common import machine
-from ..common.errors import DIFFERS, DONE, INCONCLUSIVE, InputFault, Unavailable, run_tool
+from ..common.errors import DIFFERS, DONE, INCONCLUSIVE, InputFault, Unavailable
 from ..common.files import PMD_ORDER, OwnFolder
 from ..common.keeper import Keeper, recover
 from ..common.kernel_memory import KernelMemory
 from ..common.program import Program
 from ..common.script import LEAST_ORDER, MARK, MOST_NODES, Script, read_script
 from ..common.text import escaped
+from ..common.tool import run_tool
 from ..common.words import Words, whole
 from .bench import Bench
 from .generator import Shape, scripts
