@@ -7,7 +7,7 @@ import json
 import os
 import sys
 import time
-from contextlib import ExitStack, contextmanager
+from contextlib import ExitStack, contextmanager, suppress
 from typing import Any, Callable, Dict, Iterator, List, NoReturn, Optional, Sequence
 
 from ..common.errors import DONE, InputFault
@@ -68,7 +68,14 @@ class Output:
         """Writes a text. InputFault where that isn't possible."""
         try:
             self._file.write(text)
-            self._file.flush()
+        except OSError as error:
+            raise InputFault(f"{escaped(self.path)} can't be written: {error.strerror}") from error
+
+    def close(self) -> bool:
+        """Closes the file; returns whether it holds anything."""
+        try:
+            self._file.close()
+            return os.stat(self.path).st_size > 0
         except OSError as error:
             raise InputFault(f"{escaped(self.path)} can't be written: {error.strerror}") from error
 
@@ -83,10 +90,12 @@ def output(path: Optional[str]) -> Iterator[Optional[Output]]:
     out, is_done = Output(path), False
     try:
         yield out
-        is_done = os.stat(path).st_size > 0
+        is_done = out.close()
     finally:
         if not is_done:
             os.unlink(path)
+            with suppress(InputFault):
+                out.close()
 
 
 def read_scripts(paths: Sequence[str]) -> List[Script]:
