@@ -6,8 +6,12 @@ from __future__ import annotations
 
 import os
 import sys
+from pathlib import Path
 
-from plain_program import first_illegal
+sys.path[:0] = [str(Path(__file__).resolve().parent.parent.parent / "tests")]
+sys.dont_write_bytecode = True
+
+from script import first_illegal  # noqa: E402
 
 
 def main() -> int:

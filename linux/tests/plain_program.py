@@ -15,7 +15,7 @@ import os
 import shlex
 import sys
 from pathlib import Path
-from typing import Callable, Dict, List
+from typing import Callable, Dict, List, Set, Tuple, Type, Union
 
 ROOT = Path(__file__).resolve().parent.parent.parent
 sys.path[:0] = [str(ROOT / "tests"), str(ROOT)]
@@ -41,7 +41,7 @@ class BackAtHead(Node):
             self.flight(caller).insert(0, self.flight(caller).pop())
             return kept(caller)
 
-        self.returned = returned  # type: ignore[method-assign]
+        setattr(self, "returned", returned)
         return super().scan(caller, most)
 
 
@@ -56,14 +56,14 @@ class SplitsPinned(Node):
 
 
 class ForgetsFree(Node):
-    def lost(self, caller: int, number: int, held: set, used: set, *words: object) -> str:
+    def lost(self, caller: int, number: int, held: Set[int], used: Set[int], *words: Union[int, str]) -> str:
         """A page that its last unmap frees only says that it stays."""
         answer = super().lost(caller, number, held, used, *words)
         self.journal[-1] = self.journal[-1].replace(" freed ", " stays ")
         return answer.replace("freed ", "stays ")
 
 
-BUGS: Dict[str, type] = {
+BUGS: Dict[str, Type[Node]] = {
     "unmap-short": UnmapShort, "back-at-head": BackAtHead, "splits-pinned": SplitsPinned, "forgets-free": ForgetsFree,
 }
 
@@ -84,7 +84,7 @@ def run_of(text: str, words: List[str]) -> Run:
     if kind:
         run.nodes = [kind(node.blocks, node.order, node.underused) for node in run.nodes]
         RANGE_CALLS["unmap"] = kind.unmap_sub
-    sections: List[tuple] = []
+    sections: List[Tuple[int, List[str]]] = []
     for line in text.splitlines():
         if line and not line.startswith("#"):
             words = line.split()
