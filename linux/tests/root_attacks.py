@@ -215,9 +215,9 @@ def spoilt_streams() -> Optional[str]:
             if wrong:
                 return f"{closed} closed: {wrong}"
         with open("/dev/full", "wb") as full:
-            wrong = call(words, stdout=full).wrong([FAILED], "No space left")
-        if wrong:
-            return f"full: {wrong}"
+            ended = call(words, stdout=full)
+        if ended.wrong([FAILED]) or b"No space left" not in ended.problems:
+            return f"full: {ended.status}, {ended.problems!r}"
     return None
 
 
