@@ -15,6 +15,7 @@ import enum
 import json
 import os
 import random
+import shutil
 import signal
 import subprocess
 import time
@@ -385,6 +386,8 @@ def verify(task: Task, program: Program) -> int:
     After TURN seconds another tool may have the lock for a while."""
     seen: Counter[str] = Counter()
     todo = [(number, threshold) for number in range(task.rounds) for threshold in task.thresholds][::-1]
+    if task.command and not shutil.which(task.command[0]):
+        raise InputFault(f"{escaped(task.command[0])} can't be run: there is no such program")
     folder = OwnFolder(task.keep) if task.keep else None
     waits = task.wait
     while todo:
