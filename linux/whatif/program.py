@@ -46,11 +46,11 @@ def progress() -> Optional[Callable[[str, int, int], None]]:
         return None
     began = time.monotonic()
 
-    def show(what: str, done: int, of: int) -> None:
+    def show_late(what: str, done: int, of: int) -> None:
         if time.monotonic() - began > SLOW:
             show_progress(what, done, of)
 
-    return show
+    return show_late
 
 
 def look(asked: argparse.Namespace, choice: Choice) -> Snapshot:

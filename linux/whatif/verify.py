@@ -15,6 +15,7 @@ import enum
 import json
 import os
 import random
+import shutil
 import signal
 import subprocess
 import time
@@ -60,7 +61,7 @@ class Outcome(enum.Enum):
     """What a trial says of the prediction."""
 
     EXACT = "exact"
-    INCONCLUSIVE = "inconclusive: all pages as predicted, but others moved the counters"
+    INCONCLUSIVE = "inconclusive: others moved the counters, or the pages weren't held still"
     DIFFERS = "DIFFERS"
 
 
@@ -112,6 +113,7 @@ class Result:
     beside: Dict[int, int]  # what came of pages that no script says
     added: Dict[Statistic, int]  # to the kernel's counters
     is_undisturbed: bool = True  # nobody else moved the counters
+    problem: str = ""  # why the pages weren't held still for the whole time, where they were to be
     differing: List[int] = field(default_factory=list)
 
     def statistics(self) -> Dict[Statistic, int]:
@@ -130,6 +132,8 @@ class Result:
     def outcome(self) -> Outcome:
         """Exact: each page and each frame as predicted, and the counters too."""
         said = self.statistics()
+        if self.problem:
+            return Outcome.INCONCLUSIVE
         if self.differing or any(self.added[name] < said[name] for name in said):  # others only add to the counters
             return Outcome.DIFFERS
         if not self.is_undisturbed:
@@ -164,9 +168,9 @@ class Bench:
         task, group = self.task, self.groups.add(f"trial{self._made}")
         self.keeper.set(PTES_NONE, threshold)
         with self._pages(group, threshold, chance), ExitStack() as stack:
-            is_undisturbed = is_quiet(WINDOW)
+            is_undisturbed, hold = is_quiet(WINDOW), None
             if (task.command or task.change) and not task.running:
-                stack.enter_context(held(lambda: members(group), [], self.keeper, task.freeze_limit))
+                hold = stack.enter_context(held(lambda: members(group), [], self.keeper, task.freeze_limit))
             snapshot = self._taker.take(Choice(groups=[group]))
             before = counts([])
             self.groups.reclaim(group)
@@ -178,7 +182,7 @@ class Bench:
             said = self._said(made, threshold)
         remove_group(group)
         result = self._result(snapshot, made, said, came, {k: v or 0 for k, v in added.items()}, threshold)
-        result.is_undisturbed = is_undisturbed
+        result.is_undisturbed, result.problem = is_undisturbed, hold.problem if hold else ""
         if is_undisturbed and not result.differing and not result.are_counters_right:
             result.is_undisturbed = is_quiet(LONG_WINDOW)
         return result
@@ -329,7 +333,7 @@ def count_result(seen: Counter[str], result: Result) -> None:
     outcome = result.outcome
     seen["trials"] += 1
     seen["trials exact"] += outcome is Outcome.EXACT
-    seen["trials inconclusive: pages as said, but others moved the counters"] += outcome is Outcome.INCONCLUSIVE
+    seen["trials inconclusive: others moved the counters, or the hold ended"] += outcome is Outcome.INCONCLUSIVE
     seen["trials that differ"] += outcome is Outcome.DIFFERS
     seen["trials in which the plain judge says what came"] += result.judged == result.came
     seen["pages"] += len(result.folios)
@@ -346,6 +350,8 @@ def count_result(seen: Counter[str], result: Result) -> None:
 
 def verdict_of(result: Result) -> str:
     """Returns the outcome in words."""
+    if result.problem:
+        return f"inconclusive: not held still the whole time: {escaped(result.problem)}"
     if result.differing:
         return f"{len(result.differing)} pages DIFFER"
     return "the counters DIFFER" if result.outcome is Outcome.DIFFERS else str(result.outcome.value)
@@ -385,6 +391,8 @@ def verify(task: Task, program: Program) -> int:
     After TURN seconds another tool may have the lock for a while."""
     seen: Counter[str] = Counter()
     todo = [(number, threshold) for number in range(task.rounds) for threshold in task.thresholds][::-1]
+    if task.command and not shutil.which(task.command[0]):
+        raise InputFault(f"{escaped(task.command[0])} can't be run: there is no such program")
     folder = OwnFolder(task.keep) if task.keep else None
     waits = task.wait
     while todo:

@@ -274,7 +274,8 @@ class Scripts(unittest.TestCase):
 
 WORDS = """now snapshot what-if target watch verify --pid --cgroup --all --freeze --freeze-limit --wait --memory
 --orders --queued seen all --no-kernel --thresholds --json --by-process --by-cgroup --svg --program -o --facts --rounds
---seed --pages --change --after --running --enabled always --keep --verbose --user -- -1 0 1 60 61 nan inf -inf 1e999 0x1 1_0 -
+--seed --pages --change --after --running --enabled always --keep --verbose --user -- -1 0 1 60 61 nan inf
+-inf 1e999 0x1 1_0 -
 off off,0,511 512 1,,2 root nobody /dev/zero /dev/null /proc/self/mem / /nowhere/x FIFO JSON SCRIPT NEW --help --js
 --nothing""".split()
 WORDS += ["9" * 5000, " 1", "\u0661", "", "a\nb", "\x1b[31m", "\udcff", "no such"]

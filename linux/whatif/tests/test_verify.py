@@ -42,6 +42,11 @@ class Outcomes(unittest.TestCase):
         more.added[Statistic.SPLIT] = 1000
         self.assertIs(more.outcome, Outcome.INCONCLUSIVE)
 
+    def test_a_hold_that_ended_decides_nothing(self) -> None:
+        one = result(problem="the limit of 1 s was met", differing=[1024])
+        self.assertIs(one.outcome, Outcome.INCONCLUSIVE)
+        self.assertIn("the limit of 1 s was met", told(5, one))
+
     def test_others_only_add_to_the_counters(self) -> None:
         less = result(is_undisturbed=False)
         less.added[Statistic.SPLIT] = 0
