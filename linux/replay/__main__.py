@@ -23,7 +23,7 @@ from ..common.keeper import Keeper, recover
 from ..common.kernel_memory import KernelMemory
 from ..common.program import Program
 from ..common.script import LEAST_ORDER, MARK, MOST_NODES, Script, read_script
-from ..common.text import escaped
+from ..common.text import escaped, text_lines
 from ..common.tool import run_tool
 from ..common.words import Words, whole
 from .bench import Bench
@@ -208,7 +208,7 @@ def replay(asked: argparse.Namespace) -> int:
     found = asked_scripts(asked)
     if asked.show:
         for script in found:
-            print(script.text)
+            print("".join(f"{escaped(line)}\n" for line in text_lines(script.text)))
         return DONE
     return run_all(asked, found)
 

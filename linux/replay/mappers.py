@@ -15,7 +15,7 @@ import socket
 import subprocess
 from typing import Dict, List, Optional, Tuple
 
-from ..common.errors import RunFailed
+from ..common.errors import RunFailed, Unavailable
 from ..common.files import BASE, read_bytes
 from ..common.helpers import helper
 from ..common.keeper import Keeper
@@ -89,14 +89,12 @@ class Line:
             socket.send_fds(self._end, [text.encode()], [] if passed is None else [passed])
             data, carried = self._receive(self._end)
             is_done, number = parse_reply(data)
-        except socket.timeout as error:
+        except BaseException as error:  # a signal, too: the reply to this command must not be taken for the next one's
             self.close()
-            raise RunFailed(f"a mapping process sends no reply for {PATIENCE:.0f} s") from error
-        except OSError as error:
-            self.close()
-            raise RunFailed(f"a mapping process has ended: {error.strerror}") from error
-        except RunFailed:
-            self.close()
+            if isinstance(error, socket.timeout):
+                raise RunFailed(f"a mapping process sends no reply for {PATIENCE:.0f} s") from error
+            if isinstance(error, OSError):
+                raise RunFailed(f"a mapping process has ended: {error.strerror}") from error
             raise
         if is_done:
             return number, carried
@@ -179,7 +177,10 @@ class Mapper:
             raise RunFailed("a mapping process has ended") from error
 
     def _open_pagemap(self) -> NumberFile:
-        pagemap = NumberFile(f"/proc/{number_of(self.pidfd)}/pagemap")
+        try:
+            pagemap = NumberFile(f"/proc/{number_of(self.pidfd)}/pagemap")
+        except Unavailable as error:
+            raise RunFailed(str(error)) from error
         if has_ended(self.pidfd):
             pagemap.close()
             raise RunFailed("a mapping process has ended")

@@ -169,6 +169,8 @@ class Runner:
                 letters_met = self._once(script, zero_filled)
                 return Outcome(Result.AGREES, letters_met, str(differences[-1]) if differences else "")
             except (Unsayable, InputFault) as reason:
+                if differences:
+                    return Outcome(Result.INCONCLUSIVE, "", f"{reason}; an earlier try differs: {differences[-1]}")
                 return Outcome(Result.SKIPPED, "", str(reason))
             except Differs as difference:
                 differences.append(difference)

@@ -21,7 +21,7 @@ import time
 from contextlib import contextmanager
 from functools import partial
 from pathlib import Path
-from typing import Dict, Iterator, List, Optional, Set, Tuple
+from typing import Callable, Dict, Iterator, List, Optional, Set, Tuple
 
 ROOT = Path(__file__).resolve().parent.parent.parent
 sys.path.insert(0, str(ROOT))
@@ -252,19 +252,24 @@ def leaves_no_mapper(tool: Tool) -> Optional[str]:
     before = mappers()
     for number in range(KILLS):
         process = tool.start("--random", "1000", "--quiet", "--no-memory")
-        end = time.monotonic() + 20
-        while not mappers() - before and time.monotonic() < end:
-            time.sleep(0.01)
-        time.sleep(0.07 * number)
-        seen = mappers() - before
-        process.kill()
-        process.communicate(timeout=SECONDS)
-        end = time.monotonic() + 5
-        while mappers() - before and time.monotonic() < end:
-            time.sleep(0.02)
-        if not seen or mappers() - before:
+        try:
+            wait_until(lambda: bool(mappers() - before), 20)
+            time.sleep(0.07 * number)
+            seen = mappers() - before
+        finally:
+            process.kill()
+            process.communicate(timeout=SECONDS)
+        if not seen or not wait_until(lambda: not mappers() - before, 5):
             return f"moment {number}: {len(seen)} mapping processes before the kill, {mappers() - before} after it"
     return None
+
+
+def wait_until(is_so: Callable[[], bool], seconds: float) -> bool:
+    """Waits until something is so, and returns whether it is."""
+    end = time.monotonic() + seconds
+    while not is_so() and time.monotonic() < end:
+        time.sleep(0.02)
+    return is_so()
 
 
 def main() -> int:

@@ -19,7 +19,7 @@ from ..replay.__main__ import shape_of, words
 from ..replay.expecting import CountersDiffer, Differs
 from ..replay.generator import Generator, Shape, scripts
 from ..replay.known import Known
-from ..replay.running import Follower, Result, StoredKernel, judged
+from ..replay.running import Follower, Result, Runner, StoredKernel, judged
 from ..replay.sayings import Unsayable, story_of
 from ..replay.seen import PageSeen, Seen, seen_of
 from .plain_program import spoilt
@@ -175,6 +175,19 @@ class JudgedTest(unittest.TestCase):
 
     def test_tries_that_differ_at_other_places_are_inconclusive(self) -> None:
         self.assertIs(self.outcome([CountersDiffer("a", "here"), CountersDiffer("a", "there")]), Result.INCONCLUSIVE)
+
+    def test_tries_are_run_until_one_agrees(self) -> None:
+        script = script_of("x", "setup\n")
+        for ends, wanted, text in (
+            ([Differs("a"), "F"], Result.AGREES, "agrees (but for F), at another try after: a"),
+            ([Unsayable("b")], Result.SKIPPED, "skipped: b"),
+            ([Differs("a"), Unsayable("b")], Result.INCONCLUSIVE, "inconclusive: b; an earlier try differs: a"),
+            ([Differs("a")] * 3, Result.DIFFERS, "differs: a"),
+        ):
+            runner = Runner(mock.Mock(), mock.Mock(), Follower())
+            with self.subTest(text), mock.patch.object(runner, "_once", side_effect=ends):
+                outcome = runner.run(script)
+            self.assertEqual((outcome.result, outcome.line()), (wanted, text))
 
     def test_noise_seen_earlier_counts(self) -> None:
         quiet = Quiet([9], lambda _seconds: None, mock.Mock(side_effect=[
