@@ -7,7 +7,7 @@ import sys
 from pathlib import Path
 from typing import NoReturn
 
-from .text import escaped
+from .text import one_line
 
 DONE, DIFFERS, USAGE, FAILED, INCONCLUSIVE, BUSY, SKIPPED = 0, 1, 2, 3, 4, 75, 77
 
@@ -63,5 +63,5 @@ def status_of(name: str, error: BaseException) -> int:
         text = f"{where}{error.strerror or error} (at {place_of(error)})"
     else:
         text = f"internal error: {type(error).__name__}: {error} (at {place_of(error)})"
-    print(f"{name}: {escaped(text)}", file=sys.stderr, flush=True)
+    print(f"{name}: {one_line(text)}", file=sys.stderr, flush=True)
     return status
