@@ -274,9 +274,10 @@ def check_noise(pages: Pages) -> Optional[str]:
 
 def check_memory(pages: Pages, gibibytes: int) -> Optional[str]:
     """Looks at so many GiB of huge pages within a limit of memory."""
-    room = os.sysconf("SC_AVPHYS_PAGES") * os.sysconf("SC_PAGE_SIZE") >> 30
+    found = re.search(rb"^MemAvailable: +([0-9]+) kB$", Path("/proc/meminfo").read_bytes(), re.MULTILINE)
+    room = int(found[1]) >> 20 if found else 0
     if room < gibibytes + 1:
-        raise Missing(f"{room} GiB are free, not {gibibytes + 1}")
+        raise Missing(f"{room} GiB are available, not {gibibytes + 1}")
     with pages.run("plain", gibibytes << 10, SECONDS):
         look = Call(["now", "--all", "--by-process", "--json"])
     if look.wrong(DONE):
