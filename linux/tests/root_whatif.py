@@ -282,10 +282,12 @@ def check_memory(pages: Pages, gibibytes: int) -> Optional[str]:
         look = Call(["now", "--all", "--by-process", "--json"])
     if look.wrong(DONE):
         return look.wrong(DONE)
-    seen = look.json()["rows"][0]["pages"]
+    seen, counted = look.json()["rows"][0]["pages"], look.json()["sums"]["kernel"] >> 21
     print(f"   {gibibytes} GiB: {seen} huge pages, {look.seconds:.1f} s, {look.peak:.0f} MiB")
-    if seen < gibibytes * 512:
-        return f"{seen} huge pages are seen"
+    if seen < counted * 0.95:
+        return f"{seen} huge pages are seen, {counted} are mapped by the kernel's own count"
+    if seen < gibibytes * 256:
+        raise Missing(f"the kernel gave {seen} huge pages: memory is in pieces")
     return None if look.peak <= MOST_MEMORY else f"{look.peak:.0f} MiB"
 
 
