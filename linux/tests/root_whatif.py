@@ -274,17 +274,20 @@ def check_noise(pages: Pages) -> Optional[str]:
 
 def check_memory(pages: Pages, gibibytes: int) -> Optional[str]:
     """Looks at so many GiB of huge pages within a limit of memory."""
-    room = os.sysconf("SC_AVPHYS_PAGES") * os.sysconf("SC_PAGE_SIZE") >> 30
+    found = re.search(rb"^MemAvailable: +([0-9]+) kB$", Path("/proc/meminfo").read_bytes(), re.MULTILINE)
+    room = int(found[1]) >> 20 if found else 0
     if room < gibibytes + 1:
-        raise Missing(f"{room} GiB are free, not {gibibytes + 1}")
+        raise Missing(f"{room} GiB are available, not {gibibytes + 1}")
     with pages.run("plain", gibibytes << 10, SECONDS):
         look = Call(["now", "--all", "--by-process", "--json"])
     if look.wrong(DONE):
         return look.wrong(DONE)
-    seen = look.json()["rows"][0]["pages"]
+    seen, counted = look.json()["rows"][0]["pages"], look.json()["sums"]["kernel"] >> 21
     print(f"   {gibibytes} GiB: {seen} huge pages, {look.seconds:.1f} s, {look.peak:.0f} MiB")
-    if seen < gibibytes * 512:
-        return f"{seen} huge pages are seen"
+    if seen < counted * 0.95:
+        return f"{seen} huge pages are seen, {counted} are mapped by the kernel's own count"
+    if seen < gibibytes * 256:
+        raise Missing(f"the kernel gave {seen} huge pages: memory is in pieces")
     return None if look.peak <= MOST_MEMORY else f"{look.peak:.0f} MiB"
 
 

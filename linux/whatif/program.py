@@ -138,7 +138,7 @@ def show(
     began = time.monotonic()
     rows = predictor.run(thresholds)
     names = {number: name for script in scripts for number, name in script.processes().items()}
-    shares = {t: predictor.by_process(t) for t in thresholds} if asked.by_process else {}
+    shares = predictor.shares(thresholds) if asked.by_process else {}
     groups = predictor.by_group(thresholds) if asked.by_cgroup else {}
     left_out = dict(snapshot.left_out) if snapshot else left_out_of(scripts)
     if svg:
