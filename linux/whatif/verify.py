@@ -25,7 +25,7 @@ from dataclasses import dataclass, field
 from typing import Dict, Iterator, List, Optional, Sequence, Set
 
 from ..common.counters import Counter as Statistic
-from ..common.counters import counts
+from ..common.counters import Quiet, counts
 from ..common.errors import DIFFERS, DONE, INCONCLUSIVE, InputFault, RunFailed
 from ..common.files import BASE, COLLAPSE_SLEEP, PMD_ORDER, PTES_NONE, SWITCH, THP, OwnFolder, size_folder
 from ..common.groups import Groups
@@ -67,10 +67,7 @@ class Outcome(enum.Enum):
 
 def is_quiet(seconds: float) -> bool:
     """Watches the kernel's counters of splits for some time; returns whether none of them moved."""
-    before = counts([]).machine
-    time.sleep(seconds)
-    now = counts([]).machine
-    return all(now[name] == before[name] for name in (*COMPARED, Statistic.SPLIT_FAILED))
+    return Quiet([]).window(seconds)
 
 
 @dataclass(frozen=True)
