@@ -75,6 +75,8 @@ class Scans:
         """Tells a scan that another task still runs, where what it puts back stands before a page newly in the queue.
         The queue shows what it put back: when the scan's end is recorded, a page of these may have been freed, and its
         place be another page's that stands elsewhere in the queue."""
+        if not self._state.scans:
+            return
         told = {page.folio for page in self._state.queue}
         for start in [scan.start for scan in self._state.scans.values()]:
             end = start.end and start.end.shown()
