@@ -65,11 +65,6 @@ class Outcome(enum.Enum):
     DIFFERS = "DIFFERS"
 
 
-def is_quiet(seconds: float) -> bool:
-    """Watches the kernel's counters of splits for some time; returns whether none of them moved."""
-    return Quiet([]).window(seconds)
-
-
 @dataclass(frozen=True)
 class Task:
     """What is to be tried."""
@@ -165,7 +160,7 @@ class Bench:
         task, group = self.task, self.groups.add(f"trial{self._made}")
         self.keeper.set(PTES_NONE, threshold)
         with self._pages(group, threshold, chance), ExitStack() as stack:
-            is_undisturbed, hold = is_quiet(WINDOW), None
+            is_undisturbed, hold = Quiet([]).window(WINDOW), None
             if (task.command or task.change) and not task.running:
                 hold = stack.enter_context(held(lambda: members(group), [], self.keeper, task.freeze_limit))
             snapshot = self._taker.take(Choice(groups=[group]))
@@ -174,14 +169,14 @@ class Bench:
             added = counts([]).since(before).machine
             came = became(snapshot, self._frames)
             stack.close()
-            is_undisturbed = is_undisturbed and is_quiet(WINDOW)
+            is_undisturbed = is_undisturbed and Quiet([]).window(WINDOW)
             made = write(snapshot)
             said = self._said(made, threshold)
         remove_group(group)
         result = self._result(snapshot, made, said, came, {k: v or 0 for k, v in added.items()}, threshold)
         result.is_undisturbed, result.problem = is_undisturbed, hold.problem if hold else ""
         if is_undisturbed and not result.differing and not result.are_counters_right:
-            result.is_undisturbed = is_quiet(LONG_WINDOW)
+            result.is_undisturbed = Quiet([]).window(LONG_WINDOW)
         return result
 
     @contextmanager

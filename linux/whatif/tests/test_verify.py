@@ -5,13 +5,10 @@ from __future__ import annotations
 import unittest
 from collections import Counter
 from typing import Any, Dict
-from unittest import mock
 
 from ...common.counters import Counter as Statistic
-from ...common.counters import Counts
-from .. import verify
 from ..snapshot import Snapshot
-from ..verify import Outcome, Result, count_result, is_quiet, told
+from ..verify import Outcome, Result, count_result, told
 from .made_up import folio
 
 NUMBERS = {Statistic.SPLIT: 1, Statistic.UNDERUSED: 1, Statistic.SPLIT_FAILED: 0}
@@ -60,11 +57,3 @@ class Outcomes(unittest.TestCase):
         self.assertEqual([seen[name] for name in names], [3, 1, 1])
         self.assertEqual(sum(count for name, count in seen.items() if name.startswith("trials inconclusive")), 1)
         self.assertTrue(told(5, result(is_undisturbed=False)).endswith(Outcome.INCONCLUSIVE.value))
-
-    def test_quiet(self) -> None:
-        def counted(split: int) -> Counts:
-            return Counts({**{each: 7 for each in Statistic}, Statistic.SPLIT: split}, {})
-
-        for second, is_so in ((1, True), (2, False)):
-            with mock.patch.object(verify, "counts", side_effect=[counted(1), counted(second)]):
-                self.assertEqual(is_quiet(0), is_so)
