@@ -22,7 +22,7 @@ import time
 from collections import Counter
 from contextlib import ExitStack, contextmanager
 from dataclasses import dataclass, field
-from typing import Dict, Iterator, List, Optional, Sequence, Set
+from typing import Dict, Iterator, List, Optional, Sequence, Set, Tuple
 
 from ..common.counters import Counter as Statistic
 from ..common.counters import Quiet, counts
@@ -107,6 +107,7 @@ class Result:
     is_undisturbed: bool = True  # nobody else moved the counters
     problem: str = ""  # why the pages weren't held still for the whole time, where they were to be
     differing: List[int] = field(default_factory=list)
+    moved: int = 0  # pages that differ, but were moved to other frames meanwhile (compaction)
 
     def statistics(self) -> Dict[Statistic, int]:
         """The two counters that the prediction says: pages of PMD size split, and those of them as underused."""
@@ -128,7 +129,7 @@ class Result:
             return Outcome.INCONCLUSIVE
         if self.differing or any(self.added[name] < said[name] for name in said):  # others only add to the counters
             return Outcome.DIFFERS
-        if not self.is_undisturbed:
+        if self.moved or not self.is_undisturbed:
             return Outcome.INCONCLUSIVE
         return Outcome.EXACT if self.are_counters_right else Outcome.DIFFERS
 
@@ -167,13 +168,15 @@ class Bench:
             before = counts([])
             self.groups.reclaim(group)
             added = counts([]).since(before).machine
-            came = became(snapshot, self._frames)
+            came, moved = became(snapshot, self._frames)
             stack.close()
             is_undisturbed = is_undisturbed and Quiet([]).window(WINDOW)
             made = write(snapshot)
             said = self._said(made, threshold)
         remove_group(group)
         result = self._result(snapshot, made, said, came, {k: v or 0 for k, v in added.items()}, threshold)
+        result.moved = len(moved.intersection(result.differing))
+        result.differing = [frame for frame in result.differing if frame not in moved]
         result.is_undisturbed, result.problem = is_undisturbed, hold.problem if hold else ""
         if is_undisturbed and not result.differing and not result.are_counters_right:
             result.is_undisturbed = Quiet([]).window(LONG_WINDOW)
@@ -299,11 +302,12 @@ def remove_group(path: str) -> None:
             time.sleep(0.01)
 
 
-def became(snapshot: Snapshot, frames: Frames) -> Dict[int, int]:
+def became(snapshot: Snapshot, frames: Frames) -> Tuple[Dict[int, int], Set[int]]:
     """Which frames came back, by page: of those that are no longer whole, each subpage that no process of the
     snapshot maps where it was. Frames that are a huge page, but nobody's where they were, came back altogether and
-    are in use again."""
+    are in use again. Also the pages that were moved: a subpage with data is mapped where it was, from another frame."""
     out: Dict[int, int] = {}
+    moved: Set[int] = set()
     with OpenFiles("pagemap", FILES) as maps:
         for folio in snapshot.folios:
             flags = frames.flags(folio.frame, folio.size)
@@ -311,12 +315,16 @@ def became(snapshot: Snapshot, frames: Frames) -> Dict[int, int]:
             is_held: Set[int] = set()
             for mapping in folio.mappings:
                 entries = maps.numbers(mapping.process, mapping.address // BASE, folio.size)
-                is_held |= {i for i, entry in enumerate(entries) if frame_of_entry(entry) == folio.frame + i}
+                now = [frame_of_entry(entry) for entry in entries]
+                is_held |= {i for i, frame in enumerate(now) if frame == folio.frame + i}
+                others = sum(1 << i for i, frame in enumerate(now) if frame and frame != folio.frame + i)
+                if others & mapping.subset & ~folio.zeros:
+                    moved.add(folio.frame)
                 if is_whole and is_held:
                     break
             if not (is_whole and is_held):
                 out[folio.frame] = folio.full & ~sum(1 << i for i in is_held)
-    return out
+    return out, moved
 
 
 def count_result(seen: Counter[str], result: Result) -> None:
@@ -325,7 +333,7 @@ def count_result(seen: Counter[str], result: Result) -> None:
     outcome = result.outcome
     seen["trials"] += 1
     seen["trials exact"] += outcome is Outcome.EXACT
-    seen["trials inconclusive: others moved the counters, or the hold ended"] += outcome is Outcome.INCONCLUSIVE
+    seen["trials inconclusive: others moved counters or pages, or the hold ended"] += outcome is Outcome.INCONCLUSIVE
     seen["trials that differ"] += outcome is Outcome.DIFFERS
     seen["trials in which the plain judge says what came"] += result.judged == result.came
     seen["pages"] += len(result.folios)
@@ -346,6 +354,8 @@ def verdict_of(result: Result) -> str:
         return f"inconclusive: not held still the whole time: {escaped(result.problem)}"
     if result.differing:
         return f"{len(result.differing)} pages DIFFER"
+    if result.moved:
+        return f"inconclusive: {result.moved} pages were moved by others"
     return "the counters DIFFER" if result.outcome is Outcome.DIFFERS else str(result.outcome.value)
 
 
