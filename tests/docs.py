@@ -27,7 +27,7 @@ FOREIGN = {"transhuge", "admin", "guide", "split_huge_page", "cargo", "rustc"}
 """Words of other projects, which our tree needn't name."""
 
 DOCUMENTS = ["README.md", "CONTRIBUTING.md",
-             *(f"docs/{name}.md" for name in ("MAP", "MODEL", "PROVED", "TESTS", "LINUX", "WHATIF", "C"))]
+             *(f"docs/{name}.md" for name in ("MAP", "MODEL", "PROVED", "TESTS", "LINUX", "WHATIF", "SECURITY", "C"))]
 PATH = re.compile(r"`((?:crates|docs|tests|examples|bench|linux|c|rust)/[A-Za-z0-9_./*-]*)`")
 CRATE = re.compile(r"`((?:thp|tests|bench|demo)_[a-z_]+|thpsplit|thpcheck|thpdraw)`")
 
