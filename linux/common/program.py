@@ -92,7 +92,9 @@ def start(
                 env=ENVIRONMENT, **user.rights(),
             )
         except (OSError, ValueError) as error:
-            raise Unavailable(f"{escaped(path)} can't be run: {getattr(error, 'strerror', None) or error}") from error
+            reason = getattr(error, "strerror", None) or str(error)
+            rights = "" if user.is_caller else " as user nobody (CAP_SETUID, CAP_SETGID)"
+            raise Unavailable(f"{escaped(path)} can't be run{rights}: {reason}") from error
         finally:
             for each in descriptors:
                 os.close(each)
