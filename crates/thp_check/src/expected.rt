@@ -4,9 +4,9 @@ ghost use Rattle.thp_check.specs.Reasons.{with_frames, with_outcome};
 ghost use Rattle.thp_check.specs.Explanations.{expected, or_a_split, or_this, page_of, this};
 
 use crate::Misfit;
-use crate::pieces::{put_last, put_line, put_words};
+use crate::pieces::{put_last, put_words};
 use std::alloc::AllocError;
-use thp_journal_writer::{page_told, put};
+use thp_journal_writer::{page_told, put, put_event_line};
 use thp_model::{Event, Outcome, PageId, SubSet, What};
 
 // What could stand in the place of what a caller did, in lines.
@@ -48,7 +48,7 @@ fn put_this(text: &mut Vec<u8>, caller: u32, what: &What) -> Result<(), AllocErr
     ensures { OnOk result (text.new.items ≡ text.old.items ++ this caller what.now) }
 {
     put(text, b"expected: ")?;
-    put_line(
+    put_event_line(
         text,
         &Event {
             caller,
@@ -94,7 +94,7 @@ fn put_or(text: &mut Vec<u8>, caller: u32, what: &What) -> Result<(), AllocError
     ensures { OnOk result (text.new.items ≡ text.old.items ++ or_this caller what.now) }
 {
     put(text, b"or: ")?;
-    put_line(
+    put_event_line(
         text,
         &Event {
             caller,

@@ -4,10 +4,9 @@ ghost use Rattle.thp_check.specs.Explanations.{explanation};
 
 use crate::Misfit;
 use crate::expected::put_expected;
-use crate::pieces::put_line;
 use crate::told_reasons::put_why;
 use std::alloc::AllocError;
-use thp_journal_writer::{put, put_number};
+use thp_journal_writer::{put, put_event_line, put_number};
 use thp_model::Event;
 
 /// Writes the event that stands on a line of a journal and doesn't fit for this reason, in the words of that line, then what
@@ -25,7 +24,7 @@ pub fn put_explanation(
     put(text, b"line ")?;
     put_number(text, line, b':')?;
     put(text, b" ")?;
-    put_line(text, event)?;
+    put_event_line(text, event)?;
     put_expected(text, event.caller, &event.what, misfit)?;
     put(text, b"why: ")?;
     put_why(text, event.caller, &event.what, misfit)

@@ -1,23 +1,12 @@
-//! Pieces of the text: a line of a journal, and numbers among words.
+//! Pieces of the text: words, and numbers among them.
 ghost use Rattle.std.specs.Prelude.{◌≡◌, ◌++◌, codes, OnOk};
 ghost use Rattle.std.specs.Fmt.{decimal};
-ghost use Rattle.thp_journal_writer.specs.EventLines.{event_line};
 ghost use Rattle.thp_journal_writer.specs.Journals.{ended};
 ghost use Rattle.thp_check.specs.Explanations.{caller_is, in_flight_of, page_is};
 
 use std::alloc::AllocError;
-use thp_journal_writer::{Version, put, put_event, put_number};
-use thp_model::{Event, PageId};
-
-// The line of an event of any kind.
-pub(crate) fn put_line(text: &mut Vec<u8>, event: &Event) -> Result<(), AllocError>
-    ensures { OnOk result (text.new.items ≡ text.old.items ++ ended (event_line event.now)) }
-{
-    match put_event(text, Version::Underused, event) {
-        Ok(()) => Ok(()),
-        Err(_) => Err(AllocError),
-    }
-}
+use thp_journal_writer::{put, put_number};
+use thp_model::PageId;
 
 // Words, and a line feed.
 pub(crate) fn put_words(text: &mut Vec<u8>, words: &str) -> Result<(), AllocError>

@@ -11,8 +11,9 @@ use crate::sets::put_set;
 use std::alloc::AllocError;
 use thp_model::{Event, Outcome, PageId, SubSet, What};
 
-/// Writes the line of an event, with its line feed.
-pub(crate) fn put_event_line(text: &mut Vec<u8>, event: &Event) -> Result<(), AllocError>
+/// Writes the line of an event of any kind, with its line feed, whatever version of a text could contain it. On error a prefix of
+/// the line may be in the text.
+pub fn put_event_line(text: &mut Vec<u8>, event: &Event) -> Result<(), AllocError>
     ensures { OnOk result (text.new.items ≡ text.old.items ++ ended (event_line event.now)) }
 {
     put_number(text, u64::from(event.caller), b' ')?;

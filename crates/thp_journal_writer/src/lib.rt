@@ -13,7 +13,7 @@ mod totals_lines;
 mod version;
 mod writer;
 
-pub use events::{page_told, put_outcome};
+pub use events::{page_told, put_event_line, put_outcome};
 pub use node_history::NodeHistory;
 pub use numbers::{put, put_number};
 pub use put_fault::PutFault;
