@@ -2,7 +2,7 @@
 ghost use Rattle.std.specs.Prelude.{◌≡◌};
 ghost use Rattle.thp_node.specs.Batches.{IsInFront};
 ghost use Rattle.thp_cell.specs.Views.{HasCaller};
-ghost use Rattle.thp_cell.specs.Calls.{at_front};
+ghost use Rattle.thp_cell.specs.Calls.{at_front, letting_go};
 
 use crate::steps::{
     allocate, cell_of, count_is, freed, is_allocation, pin_page, queue_page, queued, refuse_page,
@@ -17,7 +17,7 @@ use thp_node::{Batch, NewFault, Node, Tried};
 // Takes the node for a hold, which nobody has.
 fn hold_node(rt: &impl Abort, cell: &NodeCell, pass: Pass) -> Hold
     requires { pass.cell ≡ cell.now }
-    ensures { result ≡ at_front pass result.front }
+    ensures { result ≡ at_front (letting_go pass) result.front }
 {
     match cell.hold(pass) {
         Ok(hold) => hold,
@@ -28,7 +28,7 @@ fn hold_node(rt: &impl Abort, cell: &NodeCell, pass: Pass) -> Hold
 // A pass whose hold is refused, since another has the node.
 fn refused_hold(rt: &impl Abort, cell: &NodeCell, pass: Pass) -> Pass
     requires { pass.cell ≡ cell.now }
-    ensures { result ≡ pass }
+    ensures { result ≡ letting_go pass }
 {
     match cell.hold(pass) {
         Ok(_) => panic!(rt; "two holds"),
@@ -41,8 +41,8 @@ fn call_round_a_hold(rt: &impl Abort, cell: &NodeCell, a: Pass, mut b: Pass) -> 
     requires a_cell { a.cell ≡ cell.now }
     requires b_cell { b.cell ≡ cell.now }
     requires caller { HasCaller b 1 }
-    ensures a { result.0 ≡ at_front a result.0.front }
-    ensures b { result.1 ≡ at_front b result.1.front }
+    ensures a { result.0 ≡ at_front (letting_go a) result.0.front }
+    ensures b { result.1 ≡ at_front (letting_go b) result.1.front }
 {
     let hold = hold_node(rt, cell, a);
     assert!(rt; cell.alloc_page(&mut b, 1) == Err(CellFault::Busy));

@@ -1,6 +1,6 @@
 //! A shared node.
 ghost use Rattle.std.specs.Prelude.{◌≡◌};
-ghost use Rattle.thp_cell.specs.Calls.{at_front};
+ghost use Rattle.thp_cell.specs.Calls.{at_front, letting_go};
 ghost use Rattle.thp_cell.specs.Views.{HasAll, HasCaller};
 
 use crate::sets::SMALL;
@@ -91,7 +91,7 @@ fn called(cell: &NodeCell, pass: &mut Pass) -> Result<(PageId, u32, Tried), Cell
 // The node is held, and let go.
 fn held(cell: &NodeCell, pass: Pass) -> Pass
     requires { pass.cell ≡ cell.now }
-    ensures { result ≡ at_front pass result.front }
+    ensures { result ≡ at_front (letting_go pass) result.front }
 {
     match cell.hold(pass) {
         Ok(hold) => let_go(cell, hold),

@@ -1,5 +1,5 @@
 -- What contracts see of what a pass's handle leads to, and what the calls do to it.
-use Rattle.std.specs.Prelude.{◌≡◌, ℕ, ◌<◌, ◌≤◌, ◌⊎◌, ◌*◌, [], List, Bool, length, ⊤, Option, None, Some, IsSome, IfSome, Result, Ok, Err, OnOk, IfOk, IfErr}
+use Rattle.std.specs.Prelude.{◌≡◌, ℕ, ◌<◌, ◌≤◌, ◌⊎◌, ◌*◌, [], List, Bool, false, length, ⊤, Option, None, Some, IsSome, IfSome, Result, Ok, Err, OnOk, IfOk, IfErr}
 use Rattle.thp_model.specs.declared.events.Outcome.{Outcome}
 use Rattle.thp_model.specs.declared.events.What.{What}
 use Rattle.thp_model.specs.declared.page_call.Done.{Done}
@@ -80,10 +80,11 @@ IsLowPass s = s.pass.shape.order ≤ max_order
 
 -- ---- passes that are divided and joined, and the cell's ends
 
--- the pass of all callers of a new cell
+-- the pass of all callers of a new cell. It doesn't keep the node between its calls, and no call of the library changes that
 pub record IsNewPass (s : Shape) (callers : ℕ) (p : PassState) : Type 0 where
   pub callers_are : p.callers ≡ callers
   pub all : HasAll p
+  pub free : p.keeps ≡ false
   pub shape : p.shape ≡ s
   pub front : p.front ≡ []
 

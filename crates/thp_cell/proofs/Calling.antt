@@ -1,5 +1,5 @@
 -- One call of the node within a hold.
-use Rattle.std.proofs.Common.{◌≡◌, ◌⊎◌, inl, inr, ⊎_elim, arith, ℕ, ◌<◌, ◌≤◌, true, List, [], ◌∷◌, ◌++◌, refl, sym, ap, ◌∙◌, subst, Option, Some, None, Result, Ok, Err}
+use Rattle.std.proofs.Common.{◌≡◌, ◌⊎◌, inl, inr, ⊎_elim, arith, ℕ, ◌<◌, ◌≤◌, Bool, true, List, [], ◌∷◌, ◌++◌, refl, sym, ap, ◌∙◌, subst, Option, Some, None, Result, Ok, Err}
 use Rattle.std.specs.Prelude.{IfOk, IfErr}
 use Rattle.std.proofs.lemmas.List.{append-nil}
 use Rattle.std.proofs.lemmas.List.Elements.{All-append, All-weaker}
@@ -15,7 +15,7 @@ use Rattle.thp_node.specs.Calls.{Did, DidAlloc, Refused}
 use Rattle.thp_cell.specs.Rule.{AllBelow, Since, Adds}
 use Rattle.atomic_table.specs.Table.{rest}
 use Rattle.atomic_table.specs.Lent.{seat_with}
-use Rattle.thp_cell.specs.Seats.{Place, pass_state, known_state, HasTaken, IsKept, IsNumbered}
+use Rattle.thp_cell.specs.Seats.{Place, pass_state, known_state, HasTaken, IsKept}
 use Rattle.thp_cell.specs.Views.{PassState, HasCaller, part}
 use Rattle.thp_cell.specs.Calls.{at_front, Called, Follows, IsRefused}
 use Rattle.thp_cell.proofs.Fronts.{adds_none, adds_by, adds_more, known_more, whole_front}
@@ -51,9 +51,9 @@ pub went_alloc : (r : Result ℕ Refusal) (old new : NodeState) (first end c : �
 went_alloc (Ok p) old new first end c why m from below legal did refused = went_on old new first end c _ from below did.did
 went_alloc (Err e) old new first end c why m from below legal did refused = went_nowhere old new first end legal refused.same
 
--- the seat t has the slot, with the node `old`, which a pass that was p took or kept
-pub record Holds (p : PassState) (t : Place) (old : NodeState) : Type 0 where
-  pub same : pass_state t ≡ at_front p t.me.0.front
+-- the seat t has the slot, with the node `old`, which a pass that was p took, or kept already
+pub record Holds (keeps : Bool) (p : PassState) (t : Place) (old : NodeState) : Type 0 where
+  pub same : pass_state keeps t ≡ at_front p t.me.0.front
   pub callers : p.first < p.end
   pub inside : p.end ≤ p.callers
   pub has_node : t.me.0.has_node ≡ true
@@ -65,10 +65,10 @@ pub record Holds (p : PassState) (t : Place) (old : NodeState) : Type 0 where
   pub known : AllBelow p.callers old.journal
 
 -- what was taken is the node that the slot was then read to have
-pub holds : (p : PassState) (s t : Place) (y : NodeState) → known_state s ≡ p → HasTaken (known_state s) t → t.me.1 ≡ (0, y) ∷ [] → Holds p t y
-holds p s t y is has read =
+pub holds : (keeps : Bool) (p : PassState) (s t : Place) (y : NodeState) → known_state keeps s ≡ p → HasTaken (known_state keeps s) t → t.me.1 ≡ (0, y) ∷ [] → Holds keeps p t y
+holds keeps p s t y is has read =
     let same : has.node ≡ y = same_node has.node y (sym has.slot ∙ read) in
-    let held : Holds (known_state s) t has.node = record {
+    let held : Holds keeps (known_state keeps s) t has.node = record {
       same = has.same;
       callers = has.callers;
       inside = has.inside;
@@ -80,10 +80,10 @@ holds p s t y is has read =
       legal = has.legal;
       known = has.known;
     } in
-    subst (λ (q : PassState). Holds q t y) is (subst (λ (x : NodeState). Holds (known_state s) t x) same held)
+    subst (λ (q : PassState). Holds keeps q t y) is (subst (λ (x : NodeState). Holds keeps (known_state keeps s) t x) same held)
 
 -- the node may be released, or kept, as the call left it
-pub may_leave : (p : PassState) (t : Place) (old new : NodeState) → Holds p t old → Went old new p.first p.end → IsKept (seat_with t 0 new)
+pub may_leave : {keeps : Bool} (p : PassState) (t : Place) (old new : NodeState) → Holds keeps p t old → Went old new p.first p.end → IsKept (seat_with t 0 new)
 may_leave p t old new held went =
     let is = sym held.same in record {
       lent = record {
@@ -100,24 +100,20 @@ may_leave p t old new held went =
     }
 
 -- the pass after the call: its front is the node's journal
-pub after : (p : PassState) (t u : Place) (old new : NodeState) → Holds p t old → known_state u ≡ known_state (seat_with t 0 new) → known_state u ≡ at_front p new.journal
+pub after : {keeps : Bool} (p : PassState) (t u : Place) (old new : NodeState) → Holds keeps p t old → known_state keeps u ≡ known_state keeps (seat_with t 0 new) → known_state keeps u ≡ at_front p new.journal
 after p t u old new held left = left ∙ ap (λ (q : PassState). at_front q new.journal) held.same
 
--- its numbers are what they were
-pub numbered_after : (first end : ℕ) (p q : PassState) (h : History) → IsNumbered first end p → q ≡ at_front p h → IsNumbered first end q
-numbered_after first end p q h n is = subst (IsNumbered first end) (sym is) record { first_is = n.first_is; end_is = n.end_is; few = n.few; order = n.order }
-
 -- what is left of a batch is in front of its flight still, when the node is taken out
-pub still_in_front : (p : PassState) (t : Place) (old : NodeState) (b : BatchState) → Holds p t old → HasCaller p b.caller → IsInFront p.front b → IsInFront old.journal b
+pub still_in_front : {keeps : Bool} (p : PassState) (t : Place) (old : NodeState) (b : BatchState) → Holds keeps p t old → HasCaller p b.caller → IsInFront p.front b → IsInFront old.journal b
 still_in_front p t old b held has front = batch_stays p.shape p old.journal b held.since (subst (λ z. IsLegal z old.journal) held.shape held.legal) has front
 
 -- batches that stay in front through the call stay so through the hold
-pub batches_stay : (p q : PassState) (t : Place) (old new : NodeState) (b : BatchState) → Holds p t old → q ≡ at_front p new.journal → HasCaller p b.caller → IsInFront p.front b
+pub batches_stay : {keeps : Bool} (p q : PassState) (t : Place) (old new : NodeState) (b : BatchState) → Holds keeps p t old → q ≡ at_front p new.journal → HasCaller p b.caller → IsInFront p.front b
     → (IsInFront old.journal b → IsInFront new.journal b) → IsInFront q.front b
 batches_stay p q t old new b held is has front stays = subst (λ (x : PassState). IsInFront x.front b) (sym is) (stays (still_in_front p t old b held has front))
 
 -- a call that was refused
-pub refused : (p q : PassState) (t : Place) (old new : NodeState) (why : Shape → History → Option Refusal) (m : Shape → History → ℕ) (r : Refusal) → Holds p t old → q ≡ at_front p new.journal
+pub refused : {keeps : Bool} (p q : PassState) (t : Place) (old new : NodeState) (why : Shape → History → Option Refusal) (m : Shape → History → ℕ) (r : Refusal) → Holds keeps p t old → q ≡ at_front p new.journal
     → Refused old new (why old.shape old.journal) (m old.shape old.journal) r → IsRefused p q (why q.shape q.front) (m q.shape q.front) r
 refused p q t old new why m r held is not_done =
     let journal : new.journal ≡ old.journal = ap (λ (x : NodeState). x.journal) not_done.same in
@@ -135,7 +131,7 @@ refused p q t old new why m r held is not_done =
     some_event x = let few = x.2 in omega arith
 
 -- a call that recorded events
-pub called : (p q : PassState) (t : Place) (old new : NodeState) (c : ℕ) (es : List Event) (Says : Shape → History → List Event → Type 0) → Holds p t old → HasCaller p c → q ≡ at_front p new.journal
+pub called : {keeps : Bool} (p q : PassState) (t : Place) (old new : NodeState) (c : ℕ) (es : List Event) (Says : Shape → History → List Event → Type 0) → Holds keeps p t old → HasCaller p c → q ≡ at_front p new.journal
     → Did old new c es → Says old.shape old.journal es → Called p q c (Says p.shape)
 called p q t old new c es Says held has is did says =
     let front : new.journal ≡ old.journal ++ es = did.journal in

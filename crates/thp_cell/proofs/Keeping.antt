@@ -5,9 +5,9 @@ use Rattle.atomic_table.specs.Lent.{seat_with}
 use Rattle.thp_model.specs.Legal.{IsLegal}
 use Rattle.thp_node.specs.NodeState.{NodeState}
 use Rattle.thp_cell.specs.Rule.{Adds, AllBelow}
-use Rattle.thp_cell.specs.Calls.{at_front, Follows}
+use Rattle.thp_cell.specs.Calls.{at_front, keeping, Follows}
 use Rattle.thp_cell.specs.Views.{PassState}
-use Rattle.thp_cell.specs.Seats.{Place, front_in, pass_state, known_state, IsFree, IsIn, IsKept, HasTaken}
+use Rattle.thp_cell.specs.Seats.{Place, front_in, pass_state, known_state, IsFree, IsIn, IsKept, IsNumbered, HasTaken}
 use Rattle.thp_cell.proofs.Fronts.{since_same}
 use Rattle.thp_cell.proofs.Passes.{follows}
 
@@ -18,19 +18,19 @@ pub in_kept : (keeps : Bool) (s : Place) → keeps ≡ true → IsIn keeps s →
 in_kept keeps s is held = subst (λ b. IsIn b s) is held
 
 -- a seat without the slot knows its front
-pub free_state : (s : Place) → s.me.1 ≡ [] → known_state s ≡ pass_state s
-free_state s none = ap (λ l. at_front (pass_state s) (front_in l s.me.0.front)) none
+pub free_state : (keeps : Bool) (s : Place) → s.me.1 ≡ [] → known_state keeps s ≡ pass_state keeps s
+free_state keeps s none = ap (λ l. at_front (pass_state keeps s) (front_in l s.me.0.front)) none
 
 -- and one with the slot the node's journal
-kept_front : (s : Place) (node : NodeState) → s.me.1 ≡ (0, node) ∷ [] → (known_state s).front ≡ node.journal
+kept_front : (s : Place) (node : NodeState) → s.me.1 ≡ (0, node) ∷ [] → front_in s.me.1 s.me.0.front ≡ node.journal
 kept_front s node slot = ap (λ l. front_in l s.me.0.front) slot
 
 -- nothing changed for a pass that keeps its node
-pub follows_kept : (p : PassState) (s : Place) → known_state s ≡ p → IsKept s → Follows p p
-follows_kept p s is k =
+pub follows_kept : (keeps : Bool) (p : PassState) (s : Place) → known_state keeps s ≡ p → IsKept s → Follows p p
+follows_kept keeps p s is k =
     let lent = k.lent in
     let front = kept_front s lent.node lent.slot in
-    let q = known_state s in
+    let q = known_state keeps s in
     subst (λ (x : PassState). Follows x x) is (follows q q refl (since_same q.first q.end q.front) (subst (AllBelow s.me.0.callers) (sym front) k.known)
     (subst (IsLegal s.me.0.shape) (sym front) (subst (λ z. IsLegal z lent.node.journal) lent.shape lent.legal)))
 
@@ -52,14 +52,21 @@ kept_of p s has =
     }
 
 -- and its pass knows the node's journal
-pub taken_state : (p : PassState) (s : Place) (has : HasTaken p s) → known_state s ≡ at_front p has.node.journal
-taken_state p s has = ap (at_front (pass_state s)) (kept_front s has.node has.slot) ∙ ap (λ (q : PassState). at_front q has.node.journal) has.same
+taken_state : (p : PassState) (s : Place) (has : HasTaken p s) → known_state true s ≡ at_front (keeping p) has.node.journal
+taken_state p s has =
+    ap (at_front (pass_state true s)) (kept_front s has.node has.slot) ∙ ap (λ (q : PassState). at_front (keeping q) has.node.journal) has.same
 
-pub follows_taken : (p q : PassState) (s : Place) → p ≡ q → HasTaken p s → Follows q (known_state s)
+pub follows_taken : (p q : PassState) (s : Place) → p ≡ q → HasTaken p s → Follows (keeping q) (known_state true s)
 follows_taken p q s is has =
+    let r = keeping p in
     let legal : IsLegal p.shape has.node.journal = subst (λ z. IsLegal z has.node.journal) has.shape has.legal in
-    let at : Follows p (at_front p has.node.journal) = follows p (at_front p has.node.journal) refl has.since has.known legal in
-    subst (λ (x : PassState). Follows x (known_state s)) is (subst (Follows p) (sym (taken_state p s has)) at)
+    let at : Follows r (at_front r has.node.journal) = follows r (at_front r has.node.journal) refl has.since has.known legal in
+    subst (λ (x : PassState). Follows (keeping x) (known_state true s)) is (subst (Follows r) (sym (taken_state p s has)) at)
+
+-- its numbers are what they were
+pub numbered_taken : (first end : ℕ) (p : PassState) (s : Place) → IsNumbered first end p → HasTaken p s → IsNumbered first end (known_state true s)
+numbered_taken first end p s n has =
+    subst (IsNumbered first end) (sym (taken_state p s has)) record { first_is = n.first_is; end_is = n.end_is; few = n.few; order = n.order }
 
 -- a node that was only looked at lies in its slot as it did
 pub same_seat : (s : Place) (node : NodeState) → s.me.1 ≡ (0, node) ∷ [] → seat_with s 0 node ≡ s

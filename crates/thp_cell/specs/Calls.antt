@@ -1,5 +1,5 @@
 -- What the calls of a cell do to a pass.
-use Rattle.std.specs.Prelude.{◌≡◌, ◌≢◌, ℕ, ◌⊎◌, ◌<◌, List, ◌++◌, All, Option, None, Some}
+use Rattle.std.specs.Prelude.{◌≡◌, ◌≢◌, ℕ, ◌⊎◌, ◌<◌, true, false, List, ◌++◌, All, Option, None, Some}
 use Rattle.std.specs.List.{filter}
 use Rattle.thp_model.specs.declared.events.Event.{Event}
 use Rattle.thp_model.specs.declared.refusal.Refusal.{Refusal}
@@ -17,6 +17,14 @@ use Rattle.thp_cell.specs.declared.fault.CellFault.TheVariants as fault
 -- the pass with another front
 abbrev pub at_front : PassState → History → PassState
 at_front p h = record p { front = h }
+
+-- the pass, which keeps its node
+abbrev pub keeping : PassState → PassState
+keeping p = record p { keeps = true }
+
+-- the pass, which doesn't
+abbrev pub letting_go : PassState → PassState
+letting_go p = record p { keeps = false }
 
 -- the parts of the pass's callers are the same
 abbrev pub PartsStay : PassState → PassState → Type 0
@@ -65,9 +73,10 @@ pub record Called (p q : PassState) (c : ℕ) (Says : History → List Event →
   pub other_parts : (d : ℕ) → HasCaller p d → d ≢ c → part q d ≡ part p d
   pub says : Says found own
 
--- another pass has the node: front and parts are as they were, and the pass hasn't all callers
+-- another pass has the node: front and parts are as they were, and the pass neither keeps the node nor has all callers
 pub record IsBusy (p q : PassState) : Type 0 where
   pub same : q ≡ p
+  pub free : p.keeps ≡ false
   pub shared : HasAll p → ⊥
 
 -- the call recorded nothing. It was refused with r for the reason that there is at the front, or else for want of memory,
@@ -81,16 +90,17 @@ abbrev pub Failed : PassState → PassState → Option Refusal → ℕ → CellF
 Failed p q why m fault.Busy = IsBusy p q
 Failed p q why m (fault.Refused r) = IsRefused p q why m r
 
--- the callers below `at`, and those from it on
+-- the callers below `at`, and those from it on; neither part keeps the node
 abbrev pub below : PassState → ℕ → PassState
-below p at = record p { end = at }
+below p at = record p { end = at; keeps = false }
 
 abbrev pub from : PassState → ℕ → PassState
-from p at = record p { first = at }
+from p at = record p { first = at; keeps = false }
 
--- one front begins the other, and the longer is the new one; it has no other event of the callers of either
+-- one front begins the other, and the longer is the new one; it has no other event of the callers of either. The new pass
+-- doesn't keep the node
 pub record IsJoined (p q r : PassState) : Type 0 where
-  pub callers : r ≡ record p { end = q.end; front = r.front }
+  pub callers : r ≡ record p { end = q.end; keeps = false; front = r.front }
   pub longer : (r.front ≡ p.front) ⊎ (r.front ≡ q.front)
   pub left : Since p.first p.end p.front r.front
   pub right : Since q.first q.end q.front r.front

@@ -13,13 +13,15 @@ use Rattle.thp_cell.specs.Views.{PassState, HasAll}
 abbrev pub Place : Type 0
 Place = Seat NodeState Knows
 
-abbrev pub pass_state : Place → PassState
-pass_state s = record {
+-- what the table knows of a seat, whose holder keeps the node or doesn't
+abbrev pub pass_state : Bool → Place → PassState
+pass_state keeps s = record {
   cell = s.table_id;
   callers = s.me.0.callers;
   shape = s.me.0.shape;
   first = s.me.0.first;
   end = s.me.0.end;
+  keeps = keeps;
   front = s.me.0.front;
 }
 
@@ -29,8 +31,8 @@ front_in [] front = front
 front_in ((k, node) ∷ slots) front = node.journal
 
 -- what the holder of a seat knows
-abbrev pub known_state : Place → PassState
-known_state s = at_front (pass_state s) (front_in s.me.1 s.me.0.front)
+abbrev pub known_state : Bool → Place → PassState
+known_state keeps s = at_front (pass_state keeps s) (front_in s.me.1 s.me.0.front)
 
 -- the seat has callers, all of them the cell's, and a legal front, and hasn't the slot
 pub record IsFree (s : Place) : Type 0 where
@@ -81,7 +83,7 @@ IsIn false s = IsFree s
 -- The seat has the slot with the node, as a pass that was p took it or kept it: the journal is the front of the pass and then events
 -- of other callers alone, and what the table knows of it is a front, and then events of the pass's callers alone.
 pub record HasTaken (p : PassState) (s : Place) : Type 0 where
-  pub same : pass_state s ≡ at_front p s.me.0.front
+  pub same : pass_state p.keeps s ≡ at_front p s.me.0.front
   pub callers : p.first < p.end
   pub inside : p.end ≤ p.callers
   pub has_node : s.me.0.has_node ≡ true
@@ -95,9 +97,10 @@ pub record HasTaken (p : PassState) (s : Place) : Type 0 where
 
 -- another pass has the node: nothing changed
 pub record FoundBusy (keeps : Bool) (old new : Place) : Type 0 where
-  pub same : known_state new ≡ known_state old
+  pub same : known_state keeps new ≡ known_state keeps old
+  pub free : keeps ≡ false
   pub still : IsIn keeps new
-  pub shared : HasAll (known_state old) → ⊥
+  pub shared : HasAll (known_state keeps old) → ⊥
 
 -- the numbers of a pass, and its pages are none too large
 pub record IsNumbered (first end : ℕ) (p : PassState) : Type 0 where

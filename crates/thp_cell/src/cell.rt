@@ -6,7 +6,7 @@ ghost use Rattle.thp_model.specs.Legal.{IsLegal};
 ghost use Rattle.thp_model.specs.Places.{queue};
 ghost use Rattle.thp_node.specs.JournalLaws.{StandsOnce, StandsWhole, TakesOldest, LeavesFreedAlone, NothingEnters, HasFramesOnce, KeepsFrames};
 ghost use Rattle.thp_cell.specs.Views.{HasCaller, HasAll, part};
-ghost use Rattle.thp_cell.specs.Calls.{Follows, PartsStay, BatchesStay, IsBusy, IsJoined, below, from};
+ghost use Rattle.thp_cell.specs.Calls.{Follows, PartsStay, BatchesStay, IsBusy, IsJoined, below, from, keeping, letting_go};
 
 mod batch_calls;
 mod list_calls;
@@ -61,6 +61,7 @@ impl<R: Recorder> NodeCell<R> {
         ensures callers { IfOk result (λ r. r.1.callers ≡ callers) }
         ensures all { IfOk result (λ r. HasAll r.1) }
         ensures few { IfOk result (λ r. (0 < callers) × (callers ≤ max_callers)) }
+        ensures free { IfOk result (λ r. r.1.keeps ≡ false) }
         ensures shape { IfOk result (λ r. r.1.shape ≡ node.shape) }
         ensures front { IfOk result (λ r. r.1.front ≡ node.journal) }
         ensures legal { IfOk result (λ r. IsLegal r.1.shape r.1.front) }
@@ -95,7 +96,7 @@ impl<R: Recorder> NodeCell<R> {
         }
     }
 
-    /// Divides the callers of a pass: those below `at`, and those from it on.
+    /// Divides the callers of a pass: those below `at`, and those from it on. A node that the pass keeps is let go.
     pub fn split(&self, pass: Pass<R>, at: u32) -> (Pass<R>, Pass<R>)
         requires cell { pass.cell ≡ self.now }
         requires after { pass.first < at }
@@ -144,7 +145,8 @@ impl<R: Recorder> NodeCell<R> {
         self.table.shared.split_seat::<SplitAt<C>>(seat)
     }
 
-    /// Joins two passes whose callers adjoin. One front begins the other, and the new pass has the longer.
+    /// Joins two passes whose callers adjoin. One front begins the other, and the new pass has the longer. A node that one of
+    /// them keeps is let go.
     pub fn join(&self, left: Pass<R>, right: Pass<R>) -> Pass<R>
         requires left_cell { left.cell ≡ self.now }
         requires right_cell { right.cell ≡ self.now }
@@ -183,12 +185,12 @@ impl<R: Recorder> NodeCell<R> {
         }
     }
 
-    /// Takes the node for a hold without events: no other pass reaches it before the release. Refused where another pass
-    /// has the node, which a pass of all callers never meets.
+    /// Takes the node for a hold without events: no other pass reaches it before the release. A node that the pass keeps is
+    /// let go first. Refused where another pass has the node, which a pass of all callers never meets.
     pub fn hold(&self, pass: Pass<R>) -> Result<Hold<R>, (Pass<R>, Busy)>
         requires { pass.cell ≡ self.now }
-        ensures follows { IfOk result (λ h. Follows pass h) }
-        ensures busy { IfErr result (λ e. IsBusy pass e.0) }
+        ensures follows { IfOk result (λ h. Follows (letting_go pass) h) }
+        ensures busy { IfErr result (λ e. IsBusy (letting_go pass) e.0) }
     {
         let Pass {
             first,
@@ -234,7 +236,7 @@ impl<R: Recorder> NodeCell<R> {
     /// which a pass of all callers never meets.
     pub fn keep(&self, pass: &mut Pass<R>) -> Result<(), Busy>
         requires { pass.old.cell ≡ self.now }
-        ensures follows { OnOk result (Follows pass.old pass.new) }
+        ensures follows { OnOk result (Follows (keeping pass.old) pass.new) }
         ensures busy { OnErr result (IsBusy pass.old pass.new) }
     {
         if !self.enter(&mut pass.seat, pass.keeps) {
@@ -247,7 +249,7 @@ impl<R: Recorder> NodeCell<R> {
     /// Lets a node go that the pass keeps, if it does.
     pub fn let_go(&self, pass: &mut Pass<R>)
         requires { pass.old.cell ≡ self.now }
-        ensures { pass.new ≡ pass.old }
+        ensures { pass.new ≡ letting_go pass.old }
     {
         self.settle(&mut pass.seat, pass.keeps);
         pass.keeps = false;
@@ -309,7 +311,7 @@ impl<R: Recorder> NodeCell<R> {
         requires cell { seat.old.table_id ≡ self.now }
         requires is { IsIn keeps seat.old }
         ensures same_cell { seat.new.table_id ≡ seat.old.table_id }
-        ensures took { result ≡ true → HasTaken (known_state seat.old) seat.new }
+        ensures took { result ≡ true → HasTaken (known_state keeps seat.old) seat.new }
         ensures busy { result ≡ false → FoundBusy keeps seat.old seat.new }
     {
         if keeps {
@@ -325,7 +327,7 @@ impl<R: Recorder> NodeCell<R> {
         requires kept { IsKept seat.old }
         ensures same_cell { seat.new.table_id ≡ seat.old.table_id }
         ensures is { IsIn keeps seat.new }
-        ensures same { known_state seat.new ≡ known_state seat.old }
+        ensures same { known_state keeps seat.new ≡ known_state keeps seat.old }
     {
         if !keeps {
             self.unlock(seat);
@@ -338,7 +340,7 @@ impl<R: Recorder> NodeCell<R> {
         requires is { IsIn keeps seat.old }
         ensures same_cell { seat.new.table_id ≡ seat.old.table_id }
         ensures free { IsFree seat.new }
-        ensures same { known_state seat.new ≡ known_state seat.old }
+        ensures same { known_state false seat.new ≡ known_state false seat.old }
     {
         if keeps {
             self.unlock(seat);

@@ -11,7 +11,8 @@ use thp_node::{Kept, Node, Recorder};
 
 /// What a thread reaches the node of a cell with: some of the cell's callers.
 ///
-/// Contracts see which cell it is of, its callers and its front: the history of the node that it knows of.
+/// Contracts see which cell it is of, its callers, whether it keeps the node between its calls, and its front: the history of
+/// the node that it knows of.
 #[derive(Drop)]
 pub struct Pass<R: Recorder = Kept> {
     // the callers: from `first` on and below `end`
@@ -28,9 +29,9 @@ impl<R: Recorder> Model for Pass<R> {
 
     ghost Value = { PassState };
 
-    ghost view = { λ p. known_state p.seat };
+    ghost view = { λ p. known_state p.keeps p.seat };
 
-    ghost invariant = { λ p. IsNumbered p.first p.end (known_state p.seat) × IsIn p.keeps p.seat };
+    ghost invariant = { λ p. IsNumbered p.first p.end (known_state p.keeps p.seat) × IsIn p.keeps p.seat };
 }
 
 impl<R: Recorder> Pass<R> {
@@ -60,7 +61,8 @@ impl<R: Recorder> Pass<R> {
     }
 }
 
-/// A pass that has the node, which no other pass can reach meanwhile. It is spent by `NodeCell::release` alone.
+/// A pass that has the node, which no other pass can reach meanwhile. It is spent by `NodeCell::release` alone, which gives a
+/// pass that doesn't keep the node.
 pub struct Hold<R: Recorder = Kept> {
     // the callers: from `first` on and below `end`
     pub(crate) first: u32,
@@ -69,12 +71,13 @@ pub struct Hold<R: Recorder = Kept> {
 }
 
 impl<R: Recorder> Model for Hold<R> {
+    ghost use Rattle.std.specs.Prelude.{false};
     ghost use Rattle.thp_cell.specs.Views.{PassState};
     ghost use Rattle.thp_cell.specs.Seats.{pass_state, IsNumbered, HoldsNode};
 
     ghost Value = { PassState };
 
-    ghost view = { λ h. pass_state h.seat };
+    ghost view = { λ h. pass_state false h.seat };
 
-    ghost invariant = { λ h. IsNumbered h.first h.end (pass_state h.seat) × HoldsNode h.seat };
+    ghost invariant = { λ h. IsNumbered h.first h.end (pass_state false h.seat) × HoldsNode h.seat };
 }

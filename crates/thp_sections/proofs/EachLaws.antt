@@ -1,15 +1,17 @@
 -- The passes of all nodes, divided and joined one by one.
-use Rattle.std.proofs.Common.{◌≡◌, ◌∙◌, ◌++◌, ◌<◌, ap, ℕ, zero, suc, List, [], ◌∷◌, length, map, refl, sym, subst, arith, append_assoc, get_or, Option, Some, None}
+use Rattle.std.proofs.Common.{◌≡◌, ◌∙◌, ◌++◌, ◌+◌, ◌<◌, ◌≤◌, ap, ℕ, zero, suc, List, [], ◌∷◌, length, map, set, refl, sym, subst, arith, append_assoc, get_or, Option, Some, None}
 use Rattle.std.specs.Prelude.{slice_get}
 use Rattle.std.specs.List.{All}
 use Rattle.std.proofs.lemmas.List.{append-nil, length-map}
+use Rattle.std.proofs.lemmas.List.Elements.{All-nil, All-cons, All-head, All-tail}
 use Rattle.std.proofs.lemmas.Option.{slice_get-get_or}
+use Rattle.thp_sections.specs.Fronts.{HasAll}
 use Rattle.thp_model.specs.History.{History, events_of}
 use Rattle.thp_model.specs.Legal.{IsLegal}
 use Rattle.thp_cell.specs.Views.{PassState}
 use Rattle.thp_sections.specs.Halves.{IsSplit, CanJoin, IsJoined}
-use Rattle.thp_sections.specs.Holdings.{Held}
-use Rattle.thp_sections.specs.Passes.{cell_in, shape_in, front_in, batch_in, fronts_of, IsOf, Agree, IsCut, low_part, high_part, Adjoins, IsJoint, EachAdjoins, EachJoint}
+use Rattle.thp_sections.specs.Holdings.{Held, keeping_node, KeepsNode}
+use Rattle.thp_sections.specs.Passes.{cell_in, shape_in, front_in, batch_in, fronts_of, IsOf, Agree, IsCut, IsOfAll, low_part, high_part, Adjoins, IsJoint, EachAdjoins, EachJoint}
 use Rattle.thp_sections.proofs.PartLaws.{lower_open, upper_open}
 
 -- ---- the loops
@@ -180,3 +182,79 @@ module _ (callers first end callers' first' end' : ℕ) (ls rs : List Held) (lef
       };
       legal = λ n. at_joint (λ l r h. IsLegal (shape_in l) (front_in l) → IsLegal (shape_in r) (front_in r) → IsLegal (shape_in h) (front_in h)) (λ a b. a) (λ l r h x a b. x.legal) ls rs hs j n;
     }
+
+-- ---- nodes that are kept
+
+-- the first n nodes are kept
+unfoldable pub kept_to : ℕ → List Held → List Held
+kept_to n [] = []
+kept_to zero (h ∷ hs) = h ∷ hs
+kept_to (suc n) (h ∷ hs) = keeping_node h ∷ kept_to n hs
+
+pub kept_none : (hs : List Held) → kept_to 0 hs ≡ hs
+unfolding kept_to
+kept_none [] = refl
+kept_none (h ∷ hs) = refl
+
+pub length-kept : (n : ℕ) (hs : List Held) → length (kept_to n hs) ≡ length hs
+unfolding kept_to
+length-kept n [] = refl
+length-kept zero (h ∷ hs) = refl
+length-kept (suc n) (h ∷ hs) = ap suc (length-kept n hs)
+
+-- one more
+pub kept_more : (n : ℕ) (hs : List Held) (h : Held) → slice_get (kept_to n hs) n ≡ Some h → set (kept_to n hs) n (keeping_node h) ≡ kept_to (n + 1) hs
+unfolding kept_to
+kept_more n [] h is = refl
+kept_more zero (x ∷ hs) h is = let same : x ≡ h = cc in ap (λ y. keeping_node y ∷ hs) (sym same) ∙ ap (λ l. keeping_node x ∷ l) (sym (kept_none hs))
+kept_more (suc n) (x ∷ hs) h is =
+    let next : suc (n + 1) ≡ suc n + 1 = omega arith in
+    ap (λ l. keeping_node x ∷ l) (kept_more n hs h is) ∙ ap (λ k. kept_to k (x ∷ hs)) next
+
+-- all of them
+pub kept_all : (n : ℕ) (hs : List Held) → length hs ≤ n → kept_to n hs ≡ map keeping_node hs
+unfolding kept_to
+kept_all n [] le = refl
+kept_all zero (h ∷ hs) le = absurd (omega (arith, le))
+kept_all (suc n) (h ∷ hs) le = ap (λ l. keeping_node h ∷ l) (kept_all n hs (omega (arith, le)))
+
+pub each_keeps : (hs : List Held) → All KeepsNode (map keeping_node hs)
+each_keeps [] = All-nil KeepsNode
+each_keeps (h ∷ hs) = All-cons KeepsNode (keeping_node h) (map keeping_node hs) refl (each_keeps hs)
+
+-- their passes have all callers still
+pub kept_of_all : (n k : ℕ) (hs : List Held) (h : Held) → All IsOfAll hs → slice_get (kept_to n hs) k ≡ Some h → IsOfAll h
+unfolding kept_to
+kept_of_all n k [] h all is = absurd (cc)
+kept_of_all zero zero (x ∷ hs) h all is = let same : x ≡ h = cc in subst IsOfAll same (All-head IsOfAll x hs all)
+kept_of_all zero (suc k) (x ∷ hs) h all is = kept_of_all zero k hs h (All-tail IsOfAll x hs all) (ap (λ l. slice_get l k) (kept_none hs) ∙ is)
+kept_of_all (suc n) zero (x ∷ hs) h all is =
+    let same : keeping_node x ≡ h = cc in
+    let whole = All-head IsOfAll x hs all in
+    subst IsOfAll same record { from = whole.from; to = whole.to }
+kept_of_all (suc n) (suc k) (x ∷ hs) h all is = kept_of_all n k hs h (All-tail IsOfAll x hs all) is
+
+module _ (callers first end : ℕ) (held : List Held) where
+  -- and what is known of the nodes is what it was
+  pub kept_fronts : fronts_of callers first end (map keeping_node held) ≡ fronts_of callers first end held
+  kept_fronts = λ i. record {
+    cells = same_all cell_in keeping_node held (λ h. refl) i;
+    nodes = length-map held keeping_node i;
+    shape = λ n. same_at shape_in keeping_node held (λ k h e. refl) n i;
+    front = λ n. same_at front_in keeping_node held (λ k h e. refl) n i;
+    callers = callers;
+    first = first;
+    end = end;
+    batches = λ c n. same_at (batch_in c) keeping_node held (λ k h e. refl) n i;
+  }
+
+  pub kept_agree : Agree callers first end held → Agree callers first end (map keeping_node held)
+  kept_agree agree = record {
+    few = rw (length-map held keeping_node) agree.few;
+    each = of_each (IsOf callers first end) (IsOf callers first end) keeping_node held (λ h of. record { callers_are = of.callers_are; first_is = of.first_is; end_is = of.end_is }) agree.each;
+  }
+
+  pub agree_of_all : HasAll (fronts_of callers first end held) → Agree callers first end held → All IsOfAll held
+  agree_of_all all agree k d less =
+      let is = agree.each k (get_or held k d) (slice_get-get_or held k d less) in
+      record { from = is.first_is ∙ all.low; to = is.end_is ∙ all.high ∙ sym is.callers_are }

@@ -1,5 +1,5 @@
 -- What the holder of a pass of one node has, and what a step does to it.
-use Rattle.std.specs.Prelude.{◌≡◌, ◌≢◌, ◌<◌, ℕ, ◌+◌, ◌-◌, nat_le, List, [], ◌++◌, All, Option, Some, None, Result, Ok, Err, length, slice_get, take, drop, if◌then◌else◌}
+use Rattle.std.specs.Prelude.{◌≡◌, ◌≢◌, ◌<◌, ℕ, ◌+◌, ◌-◌, nat_le, true, List, [], ◌++◌, All, Option, Some, None, Result, Ok, Err, length, slice_get, take, drop, if◌then◌else◌}
 use Rattle.atomic_table.specs.Seated.{TableId}
 use Rattle.thp_model.specs.declared.events.Event.{Event}
 use Rattle.thp_model.specs.declared.refusal.Refusal.TheVariants.{OutOfMemory}
@@ -8,7 +8,7 @@ use Rattle.thp_model.specs.declared.page_call.Done.{Done}
 use Rattle.thp_node.specs.Batches.{BatchState, IsInFront}
 use Rattle.thp_cell.specs.declared.fault.CellFault.{CellFault}
 use Rattle.thp_cell.specs.declared.fault.CellFault.TheVariants.{Busy, Refused}
-use Rattle.thp_cell.specs.Calls.{at_front, below, from}
+use Rattle.thp_cell.specs.Calls.{at_front, below, from, keeping}
 use Rattle.thp_cell.specs.Rule.{IsOther}
 use Rattle.thp_cell.specs.Views.{PassState, HasAll, HasCaller}
 use Rattle.thp_sections.specs.declared.steps.Step.{Step}
@@ -20,6 +20,14 @@ use Rattle.thp_sections.specs.Does.{Open, Reaction, Does, leaves, open_of, refus
 pub record Held : Type 0 where
   pub pass : PassState
   pub batches : List (Option BatchState)
+
+-- the same, whose pass keeps the node
+abbrev pub keeping_node : Held → Held
+keeping_node h = record h { pass = keeping h.pass }
+
+-- the pass keeps the node between its calls
+abbrev pub KeepsNode : Held → Type 0
+KeepsNode h = h.pass.keeps ≡ true
 
 -- Each caller has its place. An open batch is its caller's, and what is left of it comes first in the caller's flight.
 pub record IsHeld (cell : TableId) (pass : PassState) (batches : List (Option BatchState)) : Type 0 where

@@ -29,7 +29,7 @@ pub trait Passes: Steps + Sized {
         ensures { IfOk result (λ r. IsJoined (Self.fronts self) (Self.fronts other) (Self.fronts r)) };
 
     /// Keeps the nodes for the steps that follow, up to a division of the callers, where that spares each step to take and release its
-    /// node. Contracts see nothing of it.
+    /// node. What the holder knows of them stays; [`NodePasses`](crate::NodePasses) also specifies that each node is kept.
     fn keep_nodes(&mut self)
         requires { HasAll (Self.fronts self.old) }
         ensures { Self.fronts self.new ≡ Self.fronts self.old }

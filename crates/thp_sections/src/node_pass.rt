@@ -5,7 +5,7 @@ ghost use Rattle.thp_node.specs.Batches.{no_batch};
 ghost use Rattle.thp_cell.specs.Calls.{IsJoined, PartsStay};
 ghost use Rattle.thp_cell.specs.Views.{HasAll, HasCaller};
 ghost use Rattle.thp_sections.specs.Does.{answer_of, IsStep};
-ghost use Rattle.thp_sections.specs.Holdings.{batch_of, lower_part, loss_reply, page_reply, unit_reply, upper_part, HeldDone, IsShut, IsSomeBatch, OpenStay};
+ghost use Rattle.thp_sections.specs.Holdings.{batch_of, lower_part, loss_reply, page_reply, unit_reply, upper_part, HeldDone, IsShut, IsSomeBatch, OpenStay, keeping_node};
 
 use crate::reply::Reply;
 use crate::steps::{NodeCall, Step};
@@ -74,7 +74,7 @@ impl<'a, R: Recorder> NodePass<'a, R> {
     /// pass is taken out. Only who has all callers can ask for it.
     pub(crate) fn keep(&mut self)
         requires { HasAll self.old.pass }
-        ensures { self.new ≡ self.old }
+        ensures { self.new ≡ keeping_node self.old }
     {
         // a pass of all callers never finds the node busy
         let _ = self.cell.keep(&mut self.pass);

@@ -1,7 +1,8 @@
 //! Passes of all nodes, with the open batches of their callers.
 ghost use Rattle.std.specs.Prelude.{◌≡◌, ◌<◌, ◌++◌, All, IfOk, map};
 ghost use Rattle.thp_sections.specs.Does.{answer_of, IsStep};
-ghost use Rattle.thp_sections.specs.Fronts.{Goes, HasCaller, StepDone};
+ghost use Rattle.thp_sections.specs.Fronts.{Goes, HasAll, HasCaller, StepDone};
+ghost use Rattle.thp_sections.specs.Holdings.{keeping_node};
 ghost use Rattle.thp_sections.specs.Passes.{fronts_in, fronts_of, high_part, low_part, Agree, EachAdjoins, EachJoint, IsCut, IsOfAll};
 
 use crate::halves::Passes;
@@ -148,7 +149,11 @@ impl<'a, R: Recorder> Passes for NodePasses<'a, R> {
         })
     }
 
-    fn keep_nodes(&mut self) {
+    fn keep_nodes(&mut self)
+        requires { HasAll (fronts_in self.old) }
+        ensures fronts { fronts_in self.new ≡ fronts_in self.old }
+        ensures kept { self.new ≡ record self.old { held = map keeping_node self.old.held } }
+    {
         keep_each(&mut self.nodes);
     }
 }
@@ -156,7 +161,7 @@ impl<'a, R: Recorder> Passes for NodePasses<'a, R> {
 /// Keeps each node for the steps that follow.
 fn keep_each<'a, R: Recorder>(nodes: &mut Vec<NodePass<'a, R>>)
     requires { All IsOfAll nodes.old.items }
-    ensures { nodes.new.items ≡ nodes.old.items }
+    ensures { nodes.new.items ≡ map keeping_node nodes.old.items }
 {
     for index in 0..nodes.len() {
         nodes[index].keep();

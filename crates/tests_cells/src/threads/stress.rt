@@ -1,6 +1,6 @@
 //! Four threads with mixed calls on a shared node. Each keeps a log of what it was answered, which is to be its part of the
 //! journal, and the journal passes the check of a history.
-ghost use Rattle.std.specs.Prelude.{◌≡◌, ◌<◌, ◌≤◌, ◌+◌, IfSome};
+ghost use Rattle.std.specs.Prelude.{◌≡◌, ◌<◌, ◌≤◌, ◌+◌, false, IfSome};
 ghost use Rattle.std.specs.Thread.{IsSync};
 ghost use Rattle.thp_node.specs.Batches.{IsInFront};
 ghost use Rattle.thp_cell.specs.Views.{HasCaller, HasAll};
@@ -281,10 +281,10 @@ fn split_in_four(cell: &NodeCell, pass: Pass) -> ((Pass, Pass), (Pass, Pass))
     requires cell { pass.cell ≡ cell.now }
     requires all { HasAll pass }
     requires four { pass.callers ≡ 4 }
-    ensures first { result.0.0 ≡ record pass { first = 0; end = 1 } }
-    ensures second { result.0.1 ≡ record pass { first = 1; end = 2 } }
-    ensures third { result.1.0 ≡ record pass { first = 2; end = 3 } }
-    ensures fourth { result.1.1 ≡ record pass { first = 3; end = 4 } }
+    ensures first { result.0.0 ≡ record pass { first = 0; end = 1; keeps = false } }
+    ensures second { result.0.1 ≡ record pass { first = 1; end = 2; keeps = false } }
+    ensures third { result.1.0 ≡ record pass { first = 2; end = 3; keeps = false } }
+    ensures fourth { result.1.1 ≡ record pass { first = 3; end = 4; keeps = false } }
 {
     let (low, high) = cell.split(pass, 2);
     (cell.split(low, 1), cell.split(high, 3))

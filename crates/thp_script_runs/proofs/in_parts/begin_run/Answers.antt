@@ -1,6 +1,7 @@
 use Rattle.std.proofs.Common.{◌≡◌, ◌∙◌, ◌+◌, ap, arith, subst, sym, None, ℕ}
 use Rattle.thp_sections.specs.Fronts.{Fronts}
 use Rattle.thp_sections.specs.Passes.{fronts_in}
+use Rattle.thp_sections.proofs.EachLaws.{each_keeps}
 use Rattle.thp_script_runs.proofs.BegunLaws.{new_few, new_fresh}
 use Rattle.thp_script_runs.proofs.SharingLaws.{agree_new, fresh_some, is_new}
 use Rattle.thp_script_runs.proofs.in_parts.begin_run.Goals as goal
@@ -20,6 +21,9 @@ begin_section-requires g c =
     let s = c.args.settings.now in
     let ps = c.args.passes.items in
     let held = c.in_ok-nodes.nodes.items in
-    let is : fronts_in c.keep_nodes.new.self ≡ fronts_in (record { callers = s.workers + 1; first = 0; end = s.workers + 1; held = held }) = c.keep_nodes.ensures ∙ ap fronts_in c.new-passes.ensures in
+    let is : fronts_in c.keep_nodes.new.self ≡ fronts_in (record { callers = s.workers + 1; first = 0; end = s.workers + 1; held = held }) = c.keep_nodes.ensures.fronts ∙ ap fronts_in c.new-passes.ensures in
     let new = is_new (s.workers + 1) ps held c.in_ok-nodes.ensures (new_fresh s c.args.cells.now ps c.requires) s.workers (omega arith) in
     subst (λ (f : Fronts). (n : ℕ) → f.batches 0 n ≡ None) (sym is) (λ n. new.batches 0 n)
+
+pub returns-clause-kept : goal.returns-clause-kept
+returns-clause-kept g c = rw c.keep_nodes.ensures.kept (each_keeps _)

@@ -1,5 +1,5 @@
 -- Each split leaves all of a pass but its first or its last caller.
-use Rattle.std.proofs.Common.{ℕ, ap, ◌∙◌, arith}
+use Rattle.std.proofs.Common.{ℕ, ap, ◌∙◌, arith, false}
 use Rattle.thp_cell.specs.Views.{PassState}
 use Rattle.thp_cell.specs.Calls.{below, from}
 use Rattle.tests_cells.proofs.threads.stress.split_in_four.Goals as goal
@@ -25,7 +25,7 @@ split-requires-2-clause-before c = omega (arith, ap (λ (p : PassState). p.end) 
 pub returns-clause-first : goal.returns-clause-first
 returns-clause-first c =
     c.split.ensures.left ∙ (ap (λ (p : PassState). below p 1) c.split-low.ensures.left
-    ∙ ap (λ (n : ℕ). record c.args.pass { first = n; end = 1 }) c.requires.all.from)
+    ∙ ap (λ (n : ℕ). record c.args.pass { first = n; end = 1; keeps = false }) c.requires.all.from)
 
 pub returns-clause-second : goal.returns-clause-second
 returns-clause-second c = c.split.ensures.right ∙ ap (λ (p : PassState). from p 1) c.split-low.ensures.left
@@ -36,4 +36,4 @@ returns-clause-third c = c.split-2.ensures.left ∙ ap (λ (p : PassState). belo
 pub returns-clause-fourth : goal.returns-clause-fourth
 returns-clause-fourth c =
     c.split-2.ensures.right ∙ (ap (λ (p : PassState). from p 3) c.split-low.ensures.right
-    ∙ ap (λ (n : ℕ). record c.args.pass { first = 3; end = n }) (c.requires.all.to ∙ c.requires.four))
+    ∙ ap (λ (n : ℕ). record c.args.pass { first = 3; end = n; keeps = false }) (c.requires.all.to ∙ c.requires.four))

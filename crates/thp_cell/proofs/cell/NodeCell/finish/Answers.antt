@@ -1,11 +1,12 @@
 -- The node is in the slot at the end, and its journal is the pass's front.
-use Rattle.std.proofs.Common.{◌≡◌, ◌∙◌, ◌<◌, arith, subst, ap, sym}
+use Rattle.std.proofs.Common.{◌≡◌, ◌∙◌, ◌<◌, arith, subst, ap, sym, false}
 use Rattle.std.specs.List.{All}
 use Rattle.std.proofs.lemmas.List.Elements.{All-weaker}
 use Rattle.thp_model.specs.declared.events.Event.{Event}
 use Rattle.thp_model.specs.History.{events_of}
 use Rattle.thp_node.specs.NodeState.{NodeState}
 use Rattle.thp_cell.specs.Rule.{IsOwn}
+use Rattle.thp_cell.specs.Calls.{letting_go}
 use Rattle.thp_cell.specs.Steps.{IsWhole}
 use Rattle.thp_cell.specs.Views.{PassState, HasAll}
 use Rattle.thp_cell.specs.Seats.{Place, pass_state}
@@ -19,7 +20,7 @@ record EndsPass (p : PassState) (node : NodeState) : Type 0 where
   journal : node.journal ≡ p.front
   callers : All (λ (e : Event). e.caller < p.callers) node.journal
 
-ends_pass : (p : PassState) (s : Place) (node : NodeState) → pass_state s ≡ p → HasAll p → EndsWith s.me.0 node → EndsPass p node
+ends_pass : (p : PassState) (s : Place) (node : NodeState) → pass_state false s ≡ p → HasAll p → EndsWith s.me.0 node → EndsPass p node
 ends_pass p s node is all e = subst (λ x. EndsPass x node) is record {
   shape = e.shape;
   journal = e.journal;
@@ -27,16 +28,17 @@ ends_pass p s node is all e = subst (λ x. EndsPass x node) is record {
       (λ x own. let last : s.me.0.end ≡ s.me.0.callers = (subst HasAll (sym is) all).to in let under = own.1 in omega arith) node.journal e.callers;
 }
 
-is_whole : (p : PassState) (s : Place) → pass_state s ≡ p → HasAll p → IsWhole s.me.0
+is_whole : (p : PassState) (s : Place) → pass_state false s ≡ p → HasAll p → IsWhole s.me.0
 is_whole p s is all = let whole = subst HasAll (sym is) all in record { from = whole.from; to = whole.to }
 
 pub returns : goal.returns
 returns g c =
     let free = c.settle.ensures.free in
     let s = c.settle.new.seat in
-    let is = sym (free_state s free.no_slot) ∙ (c.settle.ensures.same ∙ c.pass.view_is) in
-    let t = ends _ _ _ s.me.0 _ _ _ free.no_node free.callers (is_whole _ s is c.requires.all) c.close_with-closed.ensures.values.2 c.take-node.ensures.value in
-    let e = ends_pass c.args.pass s c.take-node.result is c.requires.all t in record {
+    let is = sym (free_state false s free.no_slot) ∙ (c.settle.ensures.same ∙ ap letting_go c.pass.view_is) in
+    let all : HasAll (letting_go c.args.pass) = record { from = c.requires.all.from; to = c.requires.all.to } in
+    let t = ends _ _ _ s.me.0 _ _ _ free.no_node free.callers (is_whole _ s is all) c.close_with-closed.ensures.values.2 c.take-node.ensures.value in
+    let e = ends_pass (letting_go c.args.pass) s c.take-node.result is all t in record {
       shape = e.shape;
       journal = e.journal;
       legal = t.legal;
