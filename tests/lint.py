@@ -35,7 +35,7 @@ def checked(words: list[str]) -> str | None:
 def main() -> None:
     """Checks all sources."""
     tally = Tally()
-    tests = sorted(str(path.relative_to(ROOT)) for path in ROOT.glob("tests/*.py"))
+    tests = sorted(str(path.relative_to(ROOT)) for path in [*ROOT.glob("tests/*.py"), *ROOT.glob("tests/edits/*.py")])
     with tempfile.TemporaryDirectory() as cache:
         strict = ["mypy", "--strict", "--cache-dir", cache]
         tally.run("types of linux/", partial(checked, [*strict, "linux"]))

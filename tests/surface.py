@@ -84,17 +84,36 @@ def handles_are_kept() -> str | None:
     return None if text == "Handles allowed: Threads, Wait.\n" else repr(text)
 
 
-def nobody_waits() -> str | None:
-    """No library asks for `Wait`, `Net`, `Processes` or `Abort` by a bound, and only those that start threads for `Threads`.
+def handles_in(text: str) -> set[str]:
+    """The handles that a text requires by a bound.
 
-    A bound is named alone or behind a module; what stands behind a type, as `Quantity::Wait`, is a variant of it.
+    A bound is named alone or after a module; what comes after a type, as in `Quantity::Wait`, is a variant of it.
     """
+    return set(re.findall(r"(?:(?<!:)[:+(]|impl|\b[a-z_]\w*::) *(Wait|Net|Processes|Abort|Threads)\b", text))
+
+
+def nobody_waits() -> str | None:
+    """No library asks for `Wait`, `Net`, `Processes` or `Abort` by a bound, and only those that start threads for `Threads`."""
     wrong = []
     for crate in libraries():
-        text = "\n".join(path.read_text() for path in sources(crate))
-        bounds = set(re.findall(r"(?:(?<!:)[:+(]|impl|\b[a-z_]\w*::) *(Wait|Net|Processes|Abort|Threads)\b", text))
+        bounds = handles_in("\n".join(path.read_text() for path in sources(crate)))
         wrong += [f"{crate}: {bound}" for bound in sorted(bounds) if bound != "Threads" or crate not in WITH_THREADS]
     return ", ".join(wrong) or None
+
+
+LOCK = (
+    "fn lock(&self, seat: &mut Seat<Node<R>, Knows>) -> bool",
+    "fn lock<W: Wait>(&self, seat: &mut Seat<Node<R>, Knows>, rt: &W) -> bool",
+)
+"""The lock step of a cell, which returns false if another pass has the node, and one that sleeps until the node is free."""
+
+
+def a_mutex_round_the_node() -> str | None:
+    """A lock step that sleeps requires the handle `Wait`, which `nobody_waits` refuses."""
+    text = (ROOT / "crates/thp_cell/src/cell.rt").read_text()
+    if text.count(LOCK[0]) != 1 or "Wait" in handles_in(text):
+        return f"cell.rt has no lock step `{LOCK[0]}`, or waits already"
+    return None if handles_in(text.replace(*LOCK)) == {"Wait"} else "a lock step that sleeps is not refused"
 
 
 def main() -> None:
@@ -105,6 +124,7 @@ def main() -> None:
     tally = Tally()
     tally.run("HANDLES is as it was", handles_are_kept)
     tally.run("no library waits, and only those listed start threads", nobody_waits)
+    tally.run("a_mutex_round_the_node is refused", a_mutex_round_the_node)
     tally.run("links of pages are read as listed", links_are_read_as_listed)
     tally.end()
 
