@@ -34,7 +34,7 @@ CHECKERS = ("crates/thpcheck/out/thpcheck", "crates/thpcheck/out/thpcheck.by-rat
 DRAWERS = ("crates/thpdraw/out/thpdraw", "crates/thpdraw/out/thpdraw.by-rattle")
 """And of the one that draws them."""
 
-BY_EACH = ("tests/examples.py", "tests/rows.py", "tests/outside.py", "tests/large.py")
+BY_EACH = ("tests/examples.py", "tests/rows.py", "tests/outside.py", "tests/large.py", "tests/workers.py")
 """What looks at a program."""
 
 BY_ONE = ("tests/spoilt.py",)
