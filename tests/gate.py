@@ -34,7 +34,8 @@ CHECKERS = ("crates/thpcheck/out/thpcheck", "crates/thpcheck/out/thpcheck.by-rat
 DRAWERS = ("crates/thpdraw/out/thpdraw", "crates/thpdraw/out/thpdraw.by-rattle")
 """And of the one that draws them."""
 
-BY_EACH = ("tests/examples.py", "tests/rows.py", "tests/outside.py", "tests/large.py", "tests/workers.py")
+BY_EACH = ("tests/examples.py", "tests/rows.py", "tests/outside.py", "tests/large.py", "tests/workers.py",
+           "tests/streams.py")
 """What looks at a program."""
 
 BY_ONE = ("tests/spoilt.py",)
@@ -145,6 +146,7 @@ def main() -> None:
     checkers = made_since(began, CHECKERS)
     for program in checkers:
         gate.add(f"checker.py {Path(program).name}", [sys.executable, "tests/checker.py", program])
+        gate.add(f"streams.py {Path(program).name}", [sys.executable, "tests/streams.py", program])
     drawers = made_since(began, DRAWERS)
     for program in drawers:
         gate.add(f"drawer.py {Path(program).name}", [sys.executable, "tests/drawer.py", program])

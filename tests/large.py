@@ -116,6 +116,11 @@ def numbered(caller: int, answers: Sequence[bytes]) -> bytes:
     return b"".join(b"%d %d %s\n" % (caller, place, answer) for place, answer in enumerate(answers, 1))
 
 
+def long_script(section: bytes) -> bytes:
+    """A section with as many commands as 16 MiB can hold: pins of one page, most of them refused."""
+    return section + b"alloc 0\n" + b"pin 0 0\n" * ((MOST_BYTES - len(section)) // len(b"pin 0 0\n") - 1)
+
+
 def most_commands() -> Iterator[Case]:
     """As many commands as 16 MiB can hold, by setup and by a worker: no command has fewer than 8 bytes with its line feed."""
     answered = words("--report answers")
@@ -126,7 +131,7 @@ def most_commands() -> Iterator[Case]:
         name, counts = f"{count} commands of {section.decode().rstrip()}", section + b"count 0\n" * count
         yield Case(f"{name}, counts, totals", Call((), counts), Ended(0, totals()))
         yield Case(f"{name}, counts, answers", Call(answered, counts), Ended(0, numbered(caller, [b"count 0"] * count)))
-        pins = section + b"alloc 0\n" + b"pin 0 0\n" * (count - 1)
+        pins = long_script(section)
         answers = [b"page 0", *[b"ok"] * MOST_PINS, *[b"refused too-many"] * (count - 1 - MOST_PINS)]
         yield Case(f"{name}, pins, totals", Call((), pins), Ended(0, totals(pages=1, frames_held=SIZE)))
         yield Case(f"{name}, pins, answers", Call(answered, pins), Ended(0, numbered(caller, answers)))
