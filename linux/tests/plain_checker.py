@@ -19,7 +19,7 @@ def main() -> int:
     if "--help" in words:
         print("Usage: thpcheck [--explain]" if explains else "Usage: thpcheck")
         return 0
-    lines = sys.stdin.read().splitlines()
+    lines = sys.stdin.read().split("\n")[:-1]
     line = first_illegal(lines)
     print("legal" if line is None else f"illegal line {line}")
     if line is not None and "--explain" in words:

@@ -25,6 +25,7 @@ from model import Node  # noqa: E402  (the second opinion of tests/)
 from script import RANGE_CALLS, Run, first_illegal  # noqa: E402
 
 from linux.common.script import options_of  # noqa: E402
+from linux.common.text import text_lines  # noqa: E402
 
 
 class UnmapShort(Node):
@@ -85,7 +86,7 @@ def run_of(text: str, words: List[str]) -> Run:
         run.nodes = [kind(node.blocks, node.order, node.underused) for node in run.nodes]
         RANGE_CALLS["unmap"] = kind.unmap_sub
     sections: List[Tuple[int, List[str]]] = []
-    for line in text.splitlines():
+    for line in text_lines(text):
         if line and not line.startswith("#"):
             words = line.split()
             if words[0] in ("setup", "worker"):
@@ -100,7 +101,7 @@ def run_of(text: str, words: List[str]) -> Run:
 def main() -> int:
     text, words = sys.stdin.read(), sys.argv[1:]
     if "--check" in words:
-        line = first_illegal(text.splitlines())
+        line = first_illegal(text_lines(text))
         print("legal" if line is None else f"illegal line {line}")
         return int(line is not None)
     kind = words[words.index("--report") + 1] if "--report" in words else "totals"
