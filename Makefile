@@ -20,6 +20,7 @@
 #               as well. The prover must refuse each at a clause; ends in a count of each kind. CRATES=names: of these only
 # make linux:   random scripts on the running kernel and on the built program: CASES=n SEED=s PROGRAM=path (wants root;
 #               status 77 where this machine can't compare anything)
+# make root-tests: attacks on the tools that run as root, and what they leave after any end (wants root, some 10 minutes)
 # make bench:   times on large scripts, beside plain Rust, and of single calls (docs/PROOFS.md has the figures)
 # make help:    these lines
 # How long each takes: README.md, "First minutes".
@@ -33,7 +34,7 @@ DEBS ?= out
 CASES ?= 2000
 SEED ?= 1
 
-.PHONY: help try run checker drawer install put put-whatif uninstall deb test outside toolchain fuzz memory c edits linux bench
+.PHONY: help try run checker drawer install put put-whatif uninstall deb test outside toolchain fuzz memory c edits linux root-tests bench
 
 help:
 	@sed -n '/^[^#]/q; s/^# //p' Makefile
@@ -141,6 +142,9 @@ edits:
 
 linux:
 	@python3 -m linux.replay --program $(PROGRAM) --random $(CASES) --seed $(SEED) --quiet
+
+root-tests:
+	@for script in linux/tests/root_*.py; do echo "== $$script"; python3 $$script || test $$? = 77 || failed=1; done; test -z "$$failed"
 
 bench:
 	@bash bench/run

@@ -1,13 +1,14 @@
 #!/usr/bin/env python3
 """Whether a built program takes more instructions or memory than it did: at most 1.1 of what is stored.
 
-    bench/ceilings.py PROGRAM [--store]
+    bench/ceilings.py PROGRAM [--kinds KIND,..] [--store]
 
 Scripts of bench/generate.py (700,000 bytes, 16 blocks; `clash` with 4,096) of each kind, by each report, and the check of the
 journal that the program writes. Instructions are counted by `valgrind --tool=callgrind`, the whole program's; memory is the
 greatest resident size that the kernel tells of it (wait4), by a script of 4,200,000 bytes. A command of `clash` is also held to
 1.1 of the instructions of one of `middle`. `--store` writes bench/ceilings.json anew. The last line is `N passed, M failed`;
-status 1 where something takes more. Without valgrind the instructions are named as skipped, and counted neither way.
+status 1 where something takes more. `--kinds` looks at scripts of these kinds alone; the gate does so with three. Without
+valgrind the instructions are named as skipped, and counted neither way.
 """
 
 from __future__ import annotations
@@ -31,7 +32,7 @@ STORED = ROOT / "bench/ceilings.json"
 BLOCKS = {"churn": 16, "middle": 16, "maps": 16, "counts": 16, "clash": 4096}
 """The kinds of scripts, and how many blocks a node has. Pages clash in numbers: with few of them nothing would show."""
 
-WAYS = {"totals": [], "answers": ["--report", "answers"], "journal": ["--report", "journal"], "check": ["--check"]}
+WAYS: dict[str, list[str]] = {"totals": [], "answers": ["--report", "answers"], "journal": ["--report", "journal"], "check": ["--check"]}
 """What the program is asked for, and by which words. The check reads what `journal` wrote."""
 
 COUNTED, HELD = 700_000, 4_200_000
@@ -74,7 +75,7 @@ def memory(words: list[str], given: Path) -> float:
         _, status, usage = os.wait4(child.pid, 0)
     child.returncode = os.waitstatus_to_exitcode(status)
     assert child.returncode == 0, f"{' '.join(words)}: status {child.returncode}"
-    return usage.ru_maxrss / 1024
+    return float(usage.ru_maxrss) / 1024
 
 
 def measured(program: str, folder: Path, kind: str, way: str) -> dict[str, float]:
@@ -89,11 +90,18 @@ def measured(program: str, folder: Path, kind: str, way: str) -> dict[str, float
     return figures
 
 
-def compared(name: str, took: dict[str, float], stored: dict[str, float], tally: Tally) -> None:
-    """Counts each figure of a run against the stored one."""
-    for what, before in stored.items():
+def least_memory() -> float:
+    """What the kernel tells of a run that takes next to nothing, in MiB: a child counts as large as this process when it began."""
+    return memory(["true"], Path(os.devnull))
 
-        def test() -> str | None:
+
+def compared(name: str, took: dict[str, float], stored: dict[str, float], tally: Tally) -> None:
+    """Counts each figure of a run against the stored one, of memory against the least that can be told here, if that is more."""
+    for what, before in stored.items():
+        if what.startswith("memory"):
+            before = max(before, round(least_memory(), 1))
+
+        def test(what: str = what, before: float = before) -> str | None:
             if what not in took:
                 raise Missing("valgrind isn't there")
             ratio = took[what] / before
@@ -119,22 +127,35 @@ def clash_is_no_cliff(folder: Path, figures: Figures) -> str | None:
     return None if clash <= MOST * middle else f"{clash:.0f} instructions a command, above {MOST} of {middle:.0f}"
 
 
+def kinds_in(text: str) -> list[str]:
+    """The kinds of scripts that a word of the command line names."""
+    kinds = text.split(",")
+    if not set(kinds) <= set(BLOCKS):
+        raise argparse.ArgumentTypeError(f"{text} isn't some of {','.join(BLOCKS)}")
+    return kinds
+
+
 def main() -> None:
+    """Looks at the program of the command line."""
     parser = argparse.ArgumentParser(description="compares what a built program takes with what is stored")
     parser.add_argument("program")
     parser.add_argument("--store", action="store_true", help="write what it takes in place of what is stored")
+    parser.add_argument("--kinds", type=kinds_in, default=list(BLOCKS), help="the kinds of scripts, joined by commas (default: all)")
     asked = parser.parse_args()
+    if asked.store and asked.kinds != list(BLOCKS):
+        parser.error("--store stores all kinds")
     program = str(Path(asked.program).resolve())
     tally = Tally(is_brief=True)
     stored: Figures = {} if asked.store else json.loads(STORED.read_text())
     figures: Figures = {}
     with tempfile.TemporaryDirectory() as name:
-        for kind in BLOCKS:
+        for kind in asked.kinds:
             for way in WAYS:
                 took = measured(program, Path(name), kind, way)
                 figures[f"{kind}, {way}"] = took
                 compared(f"{kind}, {way}", took, stored.get(f"{kind}, {way}", {}), tally)
-        tally.run("a command of clash, beside middle", lambda: clash_is_no_cliff(Path(name), figures))
+        if {"clash", "middle"} <= set(asked.kinds):
+            tally.run("a command of clash, beside middle", lambda: clash_is_no_cliff(Path(name), figures))
     if asked.store:
         STORED.write_text(json.dumps(figures, indent=1) + "\n")
         print(f"stored in {STORED.relative_to(ROOT)}")

@@ -1,7 +1,7 @@
 # bash completion for thpwhatif
 _thpwhatif() {
     local word=${COMP_WORDS[COMP_CWORD]} before=${COMP_WORDS[COMP_CWORD - 1]} command=${COMP_WORDS[1]} words
-    local choice='--pid --cgroup --all --freeze --orders --queued --no-kernel'
+    local choice='--pid --cgroup --all --freeze --freeze-limit --wait --memory --orders --queued --no-kernel'
     if [ "$COMP_CWORD" -eq 1 ]; then
         COMPREPLY=($(compgen -W 'now snapshot what-if target watch verify --help' -- "$word"))
         return
@@ -12,7 +12,8 @@ _thpwhatif() {
     --svg | --facts | -o | --output | --program) COMPREPLY=($(compgen -f -- "$word")); return ;;
     --queued) COMPREPLY=($(compgen -W 'seen all' -- "$word")); return ;;
     --enabled) COMPREPLY=($(compgen -W 'always madvise' -- "$word")); return ;;
-    --thresholds | --rounds | --seed | --pages | --change | --after) COMPREPLY=(); return ;;
+    --user) COMPREPLY=($(compgen -u -- "$word")); return ;;
+    --thresholds | --rounds | --seed | --pages | --change | --after | --freeze-limit | --memory) COMPREPLY=(); return ;;
     esac
     case $command in
     now) words="$choice --thresholds --json --by-process --by-cgroup --svg --program" ;;
@@ -20,7 +21,7 @@ _thpwhatif() {
     what-if) words='--thresholds --json --by-process --by-cgroup --svg --program' ;;
     target) words="$choice --json --program" ;;
     watch) words="$choice --rounds --thresholds --program" ;;
-    verify) words='--thresholds --rounds --seed --pages --change --after --running --enabled --no-kernel --keep --verbose --program' ;;
+    verify) words='--thresholds --rounds --seed --pages --change --after --user --freeze-limit --wait --running --enabled --no-kernel --keep --verbose --program' ;;
     esac
     COMPREPLY=($(compgen -W "$words --help" -- "$word"))
     case $command in what-if | target) COMPREPLY+=($(compgen -f -- "$word")) ;; esac

@@ -158,6 +158,35 @@ def long_journals() -> Iterator[Row]:
     yield Row("long", "a line without an end", Call((), source=Source.ENDLESS, memory=FEW_BYTES), NO_MEMORY)
 
 
+def many_nodes() -> Iterator[Row]:
+    """Journals with as many nodes as a text can have, which is 8, each with 5,000 pages and more; and with 5,000 nodes."""
+    blocks, most_nodes, freed = 4_096, 8, 1_000
+    lines, totals = [b"thp-journal 1\n"], b""
+    for node in range(most_nodes):
+        pages = 5_000 + node
+        lines.append(b"node %d blocks %d\n" % (node, blocks))
+        lines += [b"0 alloc %d\n0 unmapwhole %d freed 0-511\n" % (page, page) for page in range(freed)]
+        lines += [b"%d alloc %d\n" % (node, page) for page in range(freed, pages)]
+        numbers = {b"pages 1": pages, b"frames_held 512": 512 * (pages - freed), b"frames_given 0": 512 * freed}
+        own = ONE_PAGE.replace(b"node 0", b"node %d" % node)
+        for line, number in numbers.items():
+            own = own.replace(line, b"%s %d" % (line.split()[0], number))
+        totals += own
+    text = b"".join(lines)
+    end, whole = text.count(b"\n") + 1, b"".join((text, b"end\n"))
+    yield Row("nodes", "8 nodes of 5,000 pages", Call((), whole), IS_LEGAL)
+    yield Row("nodes", "8 nodes of 5,000 pages, --summary", Call(SUMMARY, whole, memory=FEW_BYTES), Ended(0, b"legal\n" + totals))
+    late = Call(SUMMARY, text + b"0 pin 0\nend\n", Source.PIPE)
+    yield Row("nodes", "the last event illegal, --summary", late, Ended(1, b"illegal line %d\n" % end + totals))
+    for first in (most_nodes, most_nodes + 1):
+        call = Call(SUMMARY, text + b"node %d blocks 1\nend\n" % first)
+        yield Row("nodes", f"a node {first} behind 8", call, fault(end, "bad-number"))
+    text = b"".join(b"node %d blocks 1\n0 alloc 0\n" % node for node in range(5_000))
+    for words in ((), SUMMARY, EXPLAIN):
+        call = Call(words, b"thp-journal 1\n" + text + b"end\n")
+        yield Row("nodes", f"5,000 nodes, {' '.join(words) or 'no words'}", call, fault(2 + 2 * most_nodes, "bad-number"))
+
+
 def requests() -> Iterator[Row]:
     """Help, version, and words at fault: no input is read."""
     for word, output in {"--help": HELP, "-h": HELP, "--version": VERSION, "-V": VERSION}.items():
@@ -206,7 +235,7 @@ def main() -> None:
         # its name is what it is called by, whatever its file's is
         path = Path(name) / "thpcheck"
         path.symlink_to(program.resolve())
-        for part in (verdicts, explanations, summaries, faults, long_journals, requests, failures, shown):
+        for part in (verdicts, explanations, summaries, faults, long_journals, many_nodes, requests, failures, shown):
             rows, failed = list(part()), tally.failed
             for row in rows:
                 tally.run(f"{row.group}: {row.name}", partial(row.wrong, path))

@@ -27,7 +27,7 @@ FOREIGN = {"transhuge", "admin", "guide", "split_huge_page", "cargo", "rustc"}
 """Words of other projects, which our tree needn't name."""
 
 DOCUMENTS = ["README.md", "CONTRIBUTING.md",
-             *(f"docs/{name}.md" for name in ("MAP", "MODEL", "PROVED", "TESTS", "LINUX", "WHATIF", "C"))]
+             *(f"docs/{name}.md" for name in ("GLOSSARY", "MAP", "MODEL", "PROVED", "TESTS", "LINUX", "WHATIF", "SECURITY", "C"))]
 PATH = re.compile(r"`((?:crates|docs|tests|examples|bench|linux|c|rust)/[A-Za-z0-9_./*-]*)`")
 CRATE = re.compile(r"`((?:thp|tests|bench|demo)_[a-z_]+|thpsplit|thpcheck|thpdraw)`")
 
@@ -126,6 +126,13 @@ def names_are_there(document: str, words: set[str]) -> str | None:
     """Each name in backticks of four letters or more stands somewhere in the tree."""
     told = re.findall(r"`([^`\n]+)`", (ROOT / "docs" / f"{document}.md").read_text())
     gone = sorted({word for text in told for word in re.findall(r"[A-Za-z_]\w{3,}", text)} - words - FOREIGN)
+    return f"names {', '.join(gone)}" if gone else None
+
+
+def definitions_are_there() -> str | None:
+    """Each file of definitions that docs/GLOSSARY.md names, as CRATE/FILE, exists."""
+    named = re.findall(r"`([a-z_]+)/([A-Z]\w+)`", (ROOT / "docs/GLOSSARY.md").read_text())
+    gone = sorted(f"{crate}/{file}" for crate, file in named if not (ROOT / f"crates/{crate}/specs/{file}.antt").is_file())
     return f"names {', '.join(gone)}" if gone else None
 
 
@@ -229,6 +236,7 @@ def main() -> None:
     for document in DOCUMENTS:
         if (ROOT / document).exists():
             tally.run(f"paths of {document}", partial(paths_are_there, document))
+    tally.run("definitions of docs/GLOSSARY.md", definitions_are_there)
     words = words_of_tree()
     for document in NAMING:
         tally.run(f"names of docs/{document}.md", partial(names_are_there, document, words))

@@ -34,11 +34,16 @@ CHECKERS = ("crates/thpcheck/out/thpcheck", "crates/thpcheck/out/thpcheck.by-rat
 DRAWERS = ("crates/thpdraw/out/thpdraw", "crates/thpdraw/out/thpdraw.by-rattle")
 """And of the one that draws them."""
 
-BY_EACH = ("tests/examples.py", "tests/rows.py", "tests/outside.py", "tests/large.py")
+BY_EACH = ("tests/examples.py", "tests/rows.py", "tests/outside.py", "tests/large.py", "tests/workers.py",
+           "tests/streams.py")
 """What looks at a program."""
 
 BY_ONE = ("tests/spoilt.py",)
 """What looks at a program and takes longer: at one of them."""
+
+CEILINGS = ("bench/ceilings.py", "--kinds", "churn,middle,clash")
+"""What looks at the instructions and the memory of a program, as LLVM builds it, by scripts of three kinds: with scans, with
+frees from the middle of a queue, and with as many pages as a node may have."""
 
 ARCHIVE = "crates/thp_c/out/libthp_c.a"
 """Where the archive of the library for C is built: `rt ci` proves it, and builds nothing of it."""
@@ -136,6 +141,7 @@ def main() -> None:
     for program in programs[:1]:
         for script in BY_ONE:
             gate.add(Path(script).name, [sys.executable, script, program])
+        gate.add(Path(CEILINGS[0]).name, [sys.executable, *CEILINGS, program])
         gate.add("outside.py --self-test", [sys.executable, "tests/outside.py", "--self-test", program])
         rows = [f"{path}:{REFUSED}" for path in made_since(began, (SPOILT,))]
         gate.add("memory.py", [sys.executable, "tests/memory.py", program, *rows])
@@ -145,6 +151,7 @@ def main() -> None:
     checkers = made_since(began, CHECKERS)
     for program in checkers:
         gate.add(f"checker.py {Path(program).name}", [sys.executable, "tests/checker.py", program])
+        gate.add(f"streams.py {Path(program).name}", [sys.executable, "tests/streams.py", program])
     drawers = made_since(began, DRAWERS)
     for program in drawers:
         gate.add(f"drawer.py {Path(program).name}", [sys.executable, "tests/drawer.py", program])

@@ -8,15 +8,16 @@ What is wanted is worked out here by counting, with no model of the program.
 from __future__ import annotations
 
 import os
+import subprocess
 import sys
 import tempfile
 from dataclasses import dataclass
 from functools import partial
 from pathlib import Path
-from typing import Callable, Iterable, Iterator, Optional
+from typing import Callable, Iterable, Iterator, Optional, Sequence
 
 import usage
-from process import Call, Ended, run
+from process import SECONDS, Call, Ended, ReadTooEarly, run
 from tally import Tally
 from texts import MOST_BYTES
 
@@ -28,6 +29,9 @@ MOST_WORKERS = 63
 MOST_BATCH = 128
 SIZE = 512
 """Subpages of a page of order 9."""
+
+MOST_PINS = 65_535
+"""The most pins of a page."""
 
 
 @dataclass(frozen=True)
@@ -105,6 +109,53 @@ def many_commands() -> Iterator[Case]:
     text = b"".join(f"worker {worker}\n".encode() + b"count 0\n" * 1_000_000 for worker in (1, 63))
     answers = joined(f"{worker} {index} count 0" for worker in (1, 63) for index in range(1, 1_000_001))
     yield Case("a million counts by each of two workers", Call((*answered, "--workers", "63"), text), Ended(0, answers))
+
+
+def numbered(caller: int, answers: Sequence[bytes]) -> bytes:
+    """The report of these answers of one caller."""
+    return b"".join(b"%d %d %s\n" % (caller, place, answer) for place, answer in enumerate(answers, 1))
+
+
+def long_script(section: bytes) -> bytes:
+    """A section with as many commands as 16 MiB can hold: pins of one page, most of them refused."""
+    return section + b"alloc 0\n" + b"pin 0 0\n" * ((MOST_BYTES - len(section)) // len(b"pin 0 0\n") - 1)
+
+
+def most_commands() -> Iterator[Case]:
+    """As many commands as 16 MiB can hold, by setup and by a worker: no command has fewer than 8 bytes with its line feed."""
+    answered = words("--report answers")
+    for caller, section in enumerate((b"setup\n", b"worker 1\n")):
+        # 2,097,151 commands of setup; the longer line `worker 1` leaves room for one less
+        count = (MOST_BYTES - len(section)) // len(b"pin 0 0\n")
+        assert count == 2_097_151 - caller
+        name, counts = f"{count} commands of {section.decode().rstrip()}", section + b"count 0\n" * count
+        yield Case(f"{name}, counts, totals", Call((), counts), Ended(0, totals()))
+        yield Case(f"{name}, counts, answers", Call(answered, counts), Ended(0, numbered(caller, [b"count 0"] * count)))
+        pins = long_script(section)
+        answers = [b"page 0", *[b"ok"] * MOST_PINS, *[b"refused too-many"] * (count - 1 - MOST_PINS)]
+        yield Case(f"{name}, pins, totals", Call((), pins), Ended(0, totals(pages=1, frames_held=SIZE)))
+        yield Case(f"{name}, pins, answers", Call(answered, pins), Ended(0, numbered(caller, answers)))
+        events = b"%d alloc 0\n" % caller + b"%d pin 0\n" % caller * MOST_PINS
+        journal = b"thp-journal 1\nnode 0 blocks 16\n" + events + b"end\n"
+        yield Case(f"{name}, pins, journal", Call(words("--report journal"), pins), Ended(0, journal))
+
+
+def many_scans() -> Iterator[Case]:
+    """100,000 scans of 8 pinned pages, by setup and by a worker, as answers and as totals."""
+    scans, pages = 100_000, 8
+    commands = [f"{line.format(page)}" for page in range(pages) for line in ("alloc 0", "splitpmd 0 {}", "unmap 0 {} 0 1", "pin 0 {}")]
+    made = [f"{line.format(page)}".encode() for page in range(pages) for line in ("page {}", "ok", "queued -", "ok")]
+    scanned = [b"taken %d split 0 pinned %d back %d dropped 0" % (pages, pages, pages)] * scans
+    text, lines = joined(["setup", *commands]), b"scan 0 8\n" * scans
+    report = totals(
+        pages=pages, queue=pages, frames_held=SIZE * pages, thp_split_page_failed=pages * scans,
+        thp_deferred_split_page=pages, thp_split_pmd=pages,
+    )
+    reports = {"setup": numbered(0, [*made, *scanned]), "worker 1": numbered(0, made) + numbered(1, scanned)}
+    for section, answers in reports.items():
+        script = text + (b"" if section == "setup" else b"worker 1\n") + lines
+        yield Case(f"{scans} scans of {section}, answers", Call(words("--report answers"), script), Ended(0, answers))
+        yield Case(f"{scans} scans of {section}, totals", Call((), script), Ended(0, report))
 
 
 def late_faults() -> Iterator[Case]:
@@ -228,8 +279,13 @@ def largest_check() -> Iterator[Case]:
     yield Case(f"{name}: a caller too many", Call(CHECK, text + b"64 pin 0\nend\n"), fault(last, "bad-number"))
 
 
+def unread(name: str, given: tuple[str, ...], errors: bytes) -> Case:
+    """Words at fault, for which no byte of the input is read."""
+    return Case(name, Call(given, b"fly\n", untouched=True), Ended(2, b"", errors))
+
+
 def many_words() -> Iterator[Case]:
-    """Command lines of many and of long words."""
+    """Command lines of many words."""
     line = "--nodes 8 --blocks 4096 --workers 63 --report totals --orders 9,9,9,9,9,9,9,9 --underused"
     options = (*words(line), ",".join(["off"] * NODES))
     report = b"".join(totals(node, pages=node, frames_held=SIZE * node) for node in range(NODES))
@@ -237,16 +293,97 @@ def many_words() -> Iterator[Case]:
     yield Case("each option at its most", Call(options, text.encode()), Ended(0, report))
     unexpected = Ended(2, b"", usage.unexpected("zzz"))
     yield Case("10,000 words behind all options", Call((*options, *("zzz",) * 10_000)), unexpected)
+    many = ("zzz",) * 20_000
+    yield unread("20,000 words", many, usage.unexpected("zzz"))
+    yield unread("20,000 words behind all options", (*options, *many), usage.unexpected("zzz"))
+    yield unread("20,000 words behind `--`", ("--", *many), usage.unexpected("zzz"))
+    yield unread("20,000 times --check", ("--check",) * 20_000, usage.doubled("check"))
+    yield unread("10,000 times --nodes 2", words("--nodes 2") * 10_000, usage.doubled("nodes"))
     orders = ",".join("9" * 30_000)
     yield Case("a list of 30,000 orders", Call(("--orders", orders)), Ended(2, b"", b"thpsplit: bad orders\n"))
     bad_underused = Ended(2, b"", b"thpsplit: bad underused\n")
     yield Case("a list of 30,000 thresholds", Call(("--underused", orders)), bad_underused)
 
 
+def long_words() -> Iterator[Case]:
+    """Command lines with a word of 100,000 bytes. One that is unexpected, or no value of its option, is named whole."""
+    word, digits = "z" * 100_000, "9" * 100_000
+    yield unread("a word of 100,000 bytes", (word,), usage.unexpected(word))
+    yield unread("a word of 100,000 bytes behind --check", ("--check", word), usage.unexpected(word))
+    yield unread("an option of 100,000 bytes", (f"--{word}",), usage.unexpected(f"--{word}"))
+    yield unread("100,000 short options", (f"-{word}",), usage.unexpected("-z"))
+    yield unread("a report of 100,000 bytes", (f"--report={word}",), usage.no_report(word))
+    for name in usage.MOST:
+        large, none = "number too large to fit in target type", "invalid digit found in string"
+        yield unread(f"100,000 digits of --{name}", (f"--{name}", digits), usage.no_number(name, digits, large))
+        yield unread(f"100,000 letters of --{name}", (f"--{name}", word), usage.no_number(name, word, none))
+    for name in ("orders", "underused"):
+        yield unread(f"100,000 letters of --{name}", (f"--{name}", word), f"thpsplit: bad {name}\n".encode())
+
+
 PARTS: tuple[Callable[[], Iterator[Case]], ...] = (
-    long_lines, many_commands, late_faults, many_pages, long_journals, just_so_long, split_apart, largest_check,
-    many_words,
+    long_lines, many_commands, most_commands, many_scans, late_faults, many_pages, long_journals, just_so_long, split_apart,
+    largest_check, many_words, long_words,
 )
+
+PINNED_PAGES = 5
+"""So many pages of each of 8 nodes are pinned and unpinned."""
+
+PINS = 2_000_000
+"""Pins and unpins of all pages, none of which is refused."""
+
+SETUP_BYTES = 16 * 2**20
+"""The most address space that setup may take for them: what they did is in the nodes' counts, and no list has it."""
+
+COMMAND_BYTES = 24
+"""What a worker's command may take, until it is done. With 6 MiB for the program, the node and the huge pages of a stack and
+of a heap, two million of them take less than 52 MiB: an event that is kept besides doesn't fit."""
+
+WORKER_BYTES = PINS * COMMAND_BYTES + 6 * 2**20
+
+MEASURED = """
+import os, sys
+child = os.posix_spawn(sys.argv[2], sys.argv[2:], os.environ)
+_, status, usage = os.wait4(child, 0)
+with open(sys.argv[1], "w") as file:
+    print(usage.ru_maxrss, file=file)
+sys.exit(os.waitstatus_to_exitcode(status))
+"""
+"""Runs a program from a small process, and writes what it held at most, in KiB. A child is taken to hold what its parent did
+when it began, so a large one can't measure it."""
+
+
+def pins_and_unpins() -> tuple[str, bytes, bytes]:
+    """Two million pins and unpins on 8 nodes: the lines that allocate their pages, those of pins and unpins, and the totals."""
+    places = [(node, page) for node in range(NODES) for page in range(PINNED_PAGES)]
+    turns = PINS // len(places) // 25
+    lines = b"".join((b"pin %d %d\n" % it * 21 + b"unpin %d %d\n" % it * 4) * turns for it in places)
+    assert lines.count(b"\n") == PINS and 17 * turns <= MOST_PINS
+    made = "".join(f"alloc {node}\n" for node, _ in places)
+    report = b"".join(totals(node, pages=PINNED_PAGES, frames_held=PINNED_PAGES * SIZE) for node in range(NODES))
+    return made, lines, report
+
+
+def setup_keeps_nothing(program: Path) -> Optional[str]:
+    """Two million pins and unpins of setup take no memory of their own."""
+    made, lines, report = pins_and_unpins()
+    call = Call(words("--nodes 8"), b"setup\n" + made.encode() + lines, memory=SETUP_BYTES)
+    return run(program, call).differs_from(Ended(0, report))
+
+
+def worker_keeps_commands(program: Path) -> Optional[str]:
+    """Two million pins and unpins of a worker take the memory of its commands alone."""
+    made, lines, report = pins_and_unpins()
+    with tempfile.TemporaryDirectory() as folder:
+        given, told = Path(folder) / "script", Path(folder) / "most"
+        given.write_bytes(f"setup\n{made}worker 1\n".encode() + lines)
+        called = [sys.executable, "-IS", "-c", MEASURED, str(told), str(program), *words("--nodes 8")]
+        with given.open("rb") as script:
+            done = subprocess.run(called, stdin=script, capture_output=True, timeout=SECONDS, check=False)
+        wrong = Ended(done.returncode, done.stdout, done.stderr).differs_from(Ended(0, report))
+        most = int(told.read_text()) * 1024
+    return wrong or (None if most <= WORKER_BYTES else f"{most} bytes were held, more than {WORKER_BYTES}")
+
 
 TURNS = 60
 """So often each worker of the crowd allocates, takes, and splits a page of each node."""
@@ -299,7 +436,10 @@ def crowd_journal(program: Path, options: tuple[str, ...], script: bytes, pages:
 
 def wrong_of(program: Path, case: Case) -> str | None:
     """What a program does otherwise than a case wants."""
-    return run(program, case.call).differs_from(case.wanted)
+    try:
+        return run(program, case.call).differs_from(case.wanted)
+    except ReadTooEarly:
+        return "bytes of the input were read"
 
 
 def main() -> None:
@@ -313,6 +453,8 @@ def main() -> None:
         for part in PARTS:
             for case in part():
                 tally.run(case.name, partial(wrong_of, path, case))
+        tally.run("two million pins and unpins of setup, in 16 MiB", lambda: setup_keeps_nothing(path))
+        tally.run("two million pins and unpins of a worker, in 52 MiB", lambda: worker_keeps_commands(path))
         tally.run("63 workers on 8 nodes", lambda: crowd(path))
         tally.end()
 

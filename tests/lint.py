@@ -7,6 +7,7 @@ A program that this machine lacks is named, and counts neither way.
 
 from __future__ import annotations
 
+import os
 import shutil
 import subprocess
 import tempfile
@@ -25,7 +26,8 @@ def checked(words: list[str]) -> str | None:
     """What a program reports of the sources, or None."""
     if shutil.which(words[0]) is None:
         raise Missing(f"no {words[0]} here (Debian's package {words[0]})")
-    done = subprocess.run(words, cwd=ROOT, capture_output=True, text=True, errors="replace", timeout=SECONDS, check=False)
+    done = subprocess.run(words, cwd=ROOT, capture_output=True, text=True, errors="replace", timeout=SECONDS, check=False,
+                          env={**os.environ, "MYPYPATH": "tests"})
     told = [line for line in (done.stdout + done.stderr).split("\n") if ": note: " not in line]
     return None if done.returncode == 0 else "; ".join(line[:200] for line in told[:10])
 

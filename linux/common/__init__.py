@@ -11,7 +11,7 @@
     user            the users as whom other programs are run
     groups          Groups: memory control groups of version 1 or 2, and a reclaim in one
     page_files      pagemap of a process, kpageflags, kpagecount, kpagecgroup; the flags by name
-    counters        the statistics of /proc/vmstat and of each page size
+    counters        the statistics of /proc/vmstat and of each page size; Quiet: whether somebody else moves them
     bpf             the bpf system call, an assembler of BPF programs, maps
     btf             the running kernel's types: offsets and sizes of fields, values of enumerators
     kernel_memory   KernelMemory: kernel memory read by a BPF program; control groups, queues, struct page

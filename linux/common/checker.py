@@ -62,8 +62,8 @@ def find_judge(checker: Optional[str] = None, program: Optional[str] = None) -> 
     else a `thpsplit` so. Unavailable where there is none."""
     path = find("thpcheck", BUILT, checker) if checker or not program else None
     if path:
-        return Checker(path)
+        return Checker(os.path.abspath(path))  # it runs in another folder
     try:
-        return Program(program)
+        return Program(os.path.abspath(program) if program and os.sep in program else program)
     except Unavailable as lacking:
         raise Unavailable(f"no thpcheck (make checker, --checker or THPCHECK), and {lacking}") from lacking

@@ -1,16 +1,20 @@
 """The kernel's statistics of huge pages: /proc/vmstat, and sysfs by page size.
 
-Rules: Documentation/admin-guide/mm/transhuge.rst of the kernel. All are of the whole machine since its start.
+Rules: Documentation/admin-guide/mm/transhuge.rst of the kernel. All are of the whole machine since its start, so other
+programs move them too; `Quiet` finds out whether they do.
 """
 
 from __future__ import annotations
 
 import enum
 import os
+import time
 from dataclasses import dataclass
-from typing import Dict, Iterable, Optional, Tuple
+from typing import Callable, Dict, Iterable, List, Optional, Sequence, Set, Tuple
 
 from .files import read, size_folder
+
+WINDOW = 0.05  # seconds of a quiet window
 
 
 class Counter(enum.Enum):
@@ -39,7 +43,7 @@ class Counts:
     sizes: Dict[Tuple[SizeCounter, int], Optional[int]]  # by order
 
     def since(self, before: Counts) -> Counts:
-        """What was added since an earlier moment."""
+        """Returns what was added since an earlier moment."""
 
         def less(now: Optional[int], then: Optional[int]) -> Optional[int]:
             return None if now is None or then is None else now - then
@@ -49,10 +53,15 @@ class Counts:
             {key: less(value, before.sizes[key]) for key, value in self.sizes.items()},
         )
 
+    def names(self) -> List[str]:
+        """Returns the names of the statistics that aren't 0."""
+        machine = [key.value for key, value in self.machine.items() if value]
+        return machine + [f"{key.value} of order {order}" for (key, order), value in self.sizes.items() if value]
+
 
 def counts(orders: Iterable[int]) -> Counts:
-    """The statistics now; those by size for these orders."""
-    lines = dict(line.split() for line in read("/proc/vmstat").splitlines())
+    """Returns the statistics now; those by size for these orders."""
+    lines: Dict[str, str] = dict(line.split(" ", 1) for line in read("/proc/vmstat").split("\n") if " " in line)
     machine = {key: int(lines[key.value]) if key.value in lines else None for key in Counter}
     sizes: Dict[Tuple[SizeCounter, int], Optional[int]] = {}
     for order in orders:
@@ -60,3 +69,29 @@ def counts(orders: Iterable[int]) -> Counts:
             path = f"{size_folder(order)}/stats/{key.value}"
             sizes[key, order] = int(read(path)) if os.path.exists(path) else None
     return Counts(machine, sizes)
+
+
+class Quiet:
+    """Whether the machine's counters stay as they are while the tool itself changes nothing.
+
+    `moved` gathers the names of the counters that moved in any window. Noise that comes and goes may be missed by
+    one window: what can be decided only by a counter is safe to decide only if many windows were quiet.
+    """
+
+    def __init__(self, orders: Iterable[int], wait: Callable[[float], None] = time.sleep,
+                 take: Callable[[Sequence[int]], Counts] = counts) -> None:
+        self._orders = sorted(set(orders))
+        self._wait, self._take = wait, take
+        self.moved: Set[str] = set()
+
+    def window(self, seconds: float = WINDOW) -> bool:
+        """Watches the counters for a time, and returns whether none moved. The tool must change nothing meanwhile."""
+        before = self._take(self._orders)
+        self._wait(seconds)
+        moved = self._take(self._orders).since(before).names()
+        self.moved.update(moved)
+        return not moved
+
+    def windows(self, seconds: float) -> bool:
+        """Watches window after window until a counter moves or the time is over; returns whether none moved."""
+        return all(self.window() for _ in range(max(1, round(seconds / WINDOW))))

@@ -5,9 +5,9 @@ from __future__ import annotations
 import signal
 import sys
 from pathlib import Path
-from typing import Callable, NoReturn
+from typing import NoReturn
 
-from .text import escaped
+from .text import one_line
 
 DONE, DIFFERS, USAGE, FAILED, INCONCLUSIVE, BUSY, SKIPPED = 0, 1, 2, 3, 4, 75, 77
 
@@ -63,12 +63,5 @@ def status_of(name: str, error: BaseException) -> int:
         text = f"{where}{error.strerror or error} (at {place_of(error)})"
     else:
         text = f"internal error: {type(error).__name__}: {error} (at {place_of(error)})"
-    print(f"{name}: {escaped(text)}", file=sys.stderr, flush=True)
+    print(f"{name}: {one_line(text)}", file=sys.stderr, flush=True)
     return status
-
-
-def run_tool(name: str, main: Callable[[], int]) -> NoReturn:
-    """See tool.py."""
-    from . import tool
-
-    tool.run_tool(name, main)

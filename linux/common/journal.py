@@ -2,6 +2,7 @@
 
 from __future__ import annotations
 
+import re
 from dataclasses import dataclass, field
 from typing import Iterator, List, Optional, Protocol, Sequence
 
@@ -35,15 +36,37 @@ class Event:
         return " ".join(words)
 
 
+_WORDS = ("alloc", "splitpmd", "mapwhole", "unmapwhole", "mapsub", "unmapsub", "pin", "unpin", "write", "zero", "taken",
+          "split", "pinned", "used", "back", "dropped", "close")
+_NUMBER = re.compile("[0-9]{1,9}")
+_SET = re.compile("-|[0-9]{1,3}(-[0-9]{1,3})?(,[0-9]{1,3}(-[0-9]{1,3})?)*")
+_NODE = re.compile("node [0-7] blocks ([0-9]{1,4})(?: order ([2-9])(?: underused (off|[0-9]{1,3}))?)?")
+
+
+def _number(text: str) -> int:
+    if not _NUMBER.fullmatch(text):
+        raise ValueError(text)
+    return int(text)
+
+
+def _set(text: str) -> int:
+    if not _SET.fullmatch(text):
+        raise ValueError(text)
+    return set_of(text)
+
+
 def event_of(line: str) -> Event:
-    """The event of a line, which has no fault."""
+    """Returns the event of a line. ValueError or IndexError where it isn't one."""
     words = line.split(" ")
-    caller, word = int(words[0]), words[1]
-    page = int(words[2]) if len(words) > 2 else None
-    first, count = (int(words[3]), int(words[4])) if word in _RANGES else (0, 0)
+    caller, word = _number(words[0]), words[1]
+    page = _number(words[2]) if len(words) > 2 else None
+    first, count = (_number(words[3]), _number(words[4])) if word in _RANGES else (0, 0)
     outcome = words[-2] if word in _OUTCOMES else ""
-    given = set_of(words[-1]) if outcome or word == "split" else 0
-    return Event(caller, word, page, first, count, outcome, given)
+    given = _set(words[-1]) if outcome or word == "split" else 0
+    event = Event(caller, word, page, first, count, outcome, given)
+    if word not in _WORDS or outcome not in ("", "stays", "queued", "freed") or event.text() != line:
+        raise ValueError(line)
+    return event
 
 
 @dataclass
@@ -108,18 +131,25 @@ def journal_text(nodes: Sequence[Node]) -> str:
 
 
 def journal_of(text: str) -> List[NodeJournal]:
-    """The nodes of a journal's text, which has no fault (thpsplit wrote it)."""
-    lines = text.splitlines()
-    if not lines or not lines[0].startswith("thp-journal ") or lines[-1] != "end":
+    """Returns the nodes of a journal's text. InputFault where it isn't one; whether it is legal is for the judge."""
+    lines = text.split("\n")
+    if not re.fullmatch("thp-journal [123]", lines[0]) or lines[-2:] != ["end", ""]:
         raise InputFault("this is no journal")
     nodes: List[NodeJournal] = []
-    for line in lines[1:-1]:
-        if line.startswith("node "):
-            words = line.split()[2:]
-            told = dict(zip(words[::2], words[1::2]))
-            switch = told.get("underused", "off")
-            order = int(told.get("order", PMD_ORDER))
-            nodes.append(NodeJournal(int(told["blocks"]), order, None if switch == "off" else int(switch)))
-        else:
-            nodes[-1].events.append(event_of(line))
+    for number, line in enumerate(lines[1:-2], 2):
+        try:
+            if line.startswith("node "):
+                nodes.append(_node_of(line))
+            else:
+                nodes[-1].events.append(event_of(line))
+        except (ValueError, IndexError, KeyError) as error:
+            raise InputFault(f"line {number} of the journal is neither a node nor an event") from error
     return nodes
+
+
+def _node_of(line: str) -> NodeJournal:
+    found = _NODE.fullmatch(line)
+    if not found:
+        raise ValueError(line)
+    blocks, order, switch = found.groups()
+    return NodeJournal(int(blocks), int(order or PMD_ORDER), None if switch in (None, "off") else int(switch))

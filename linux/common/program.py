@@ -54,13 +54,14 @@ def find(name: str, built: Path, given: Optional[str] = None) -> Optional[str]:
         if path:
             found = shutil.which(path)
             if not found:
-                raise Unavailable(f"no program {path}")
-            return found
+                raise Unavailable(f"no program {escaped(path)}")
+            return os.path.abspath(found)
     beside = [HERE.parents[3] / "bin" / name] if HERE.parts[-4:] == INSTALLED else []
     for place in (built, *beside):
         if os.access(place, os.X_OK) and place.is_file():
             return str(place)
-    return shutil.which(name)
+    found = shutil.which(name)
+    return os.path.abspath(found) if found else None
 
 
 def find_program(given: Optional[str] = None) -> str:
@@ -91,7 +92,9 @@ def start(
                 env=ENVIRONMENT, **user.rights(),
             )
         except (OSError, ValueError) as error:
-            raise Unavailable(f"{escaped(path)} can't be run: {getattr(error, 'strerror', None) or error}") from error
+            reason = getattr(error, "strerror", None) or str(error)
+            rights = "" if user.is_caller else " as user nobody (CAP_SETUID, CAP_SETGID)"
+            raise Unavailable(f"{escaped(path)} can't be run{rights}: {reason}") from error
         finally:
             for each in descriptors:
                 os.close(each)

@@ -1,25 +1,31 @@
-"""A script's settings and commands, as docs/FORMATS.md tells them.
+"""A script's settings and commands, as docs/FORMATS.md describes them.
 
-The settings stand in the first line, `# thpsplit OPTIONS`, or beside the script in `NAME.args` (a word a line, as in
+The settings are in the first line, `# thpsplit OPTIONS`, or beside the script in `NAME.args` (a word a line, as in
 examples/), or in words given.
 """
 
 from __future__ import annotations
 
 import argparse
+import re
 from dataclasses import dataclass
 from pathlib import Path
 from typing import List, NoReturn, Optional, Sequence
 
 from .errors import InputFault
-from .files import PMD_ORDER, read
+from .files import PMD_ORDER, read_input
+from .text import text_lines
+from .words import whole
 
 MARK = "# thpsplit "
+MOST_NODES, MOST_BLOCKS, MOST_WORKERS, LEAST_ORDER = 8, 4096, 63, 2  # docs/FORMATS.md
+
+_NUMBER = re.compile("[0-9]{1,20}")
 
 
 @dataclass(frozen=True)
 class Options:
-    """What `thpsplit` is told beside the script. Orders and thresholds are of each node; None: not underused pages."""
+    """The options of `thpsplit` for a script. Orders and thresholds are of each node; None: not underused pages."""
 
     nodes: int = 1
     blocks: int = 16
@@ -28,7 +34,7 @@ class Options:
     underused: Sequence[Optional[int]] = (None,)
 
     def words(self) -> List[str]:
-        """The words of the command line."""
+        """Returns the words of the command line."""
         switches = ["off" if threshold is None else str(threshold) for threshold in self.underused]
         out = ["--nodes", str(self.nodes), "--blocks", str(self.blocks), "--workers", str(self.workers)]
         if set(self.orders) != {PMD_ORDER}:
@@ -43,25 +49,32 @@ class _Words(argparse.ArgumentParser):
         raise InputFault(f"settings of a script: {message}")
 
 
+def _number(text: str, high: int) -> int:
+    number = int(text) if _NUMBER.fullmatch(text) else high + 1
+    if number > high:
+        raise InputFault(f"settings of a script: {text[:40]!r} is no number up to {high}")
+    return number
+
+
 def options_of(words: Sequence[str]) -> Options:
-    """The settings that words of a command line say; --report and --check mean nothing here."""
+    """Returns the settings in words of a command line; --report has no meaning here. InputFault where they can't be
+    used."""
     parser = _Words(add_help=False, allow_abbrev=False)
-    for name, default in (("nodes", 1), ("blocks", 16), ("workers", 1)):
-        parser.add_argument(f"--{name}", type=int, default=default)
+    for name, default, most in (("nodes", 1, MOST_NODES), ("blocks", 16, MOST_BLOCKS), ("workers", 1, MOST_WORKERS)):
+        parser.add_argument(f"--{name}", type=whole(1, most), default=default)
     for name in ("orders", "underused", "report"):
         parser.add_argument(f"--{name}")
     parser.add_argument("--check", action="store_true")
     told = parser.parse_args(list(words))
     if told.check:
         raise InputFault("settings of a script: --check reads a journal")
-    try:
-        orders = [int(text) for text in told.orders.split(",")] if told.orders else [PMD_ORDER] * told.nodes
-        switches = told.underused.split(",") if told.underused else ["off"] * told.nodes
-        underused = [None if text == "off" else int(text) for text in switches]
-    except ValueError as error:
-        raise InputFault(f"settings of a script: {error}") from error
-    if len(orders) != told.nodes or len(underused) != told.nodes:
+    orders = [_number(text, PMD_ORDER) for text in told.orders.split(",")] if told.orders else [PMD_ORDER] * told.nodes
+    switches = told.underused.split(",") if told.underused else ["off"] * told.nodes
+    if len(orders) != told.nodes or len(switches) != told.nodes:
         raise InputFault("settings of a script: a list is as long as there are nodes")
+    if min(orders) < LEAST_ORDER:
+        raise InputFault(f"settings of a script: orders are {LEAST_ORDER} to {PMD_ORDER}")
+    underused = [None if text == "off" else _number(text, (1 << order) - 1) for text, order in zip(switches, orders)]
     return Options(told.nodes, told.blocks, told.workers, tuple(orders), tuple(underused))
 
 
@@ -82,31 +95,44 @@ class Script:
     options: Options
 
     def commands(self) -> List[Command]:
-        """The commands in order, where the text has no fault."""
+        """Returns the commands in order. InputFault where a section has no number; `thpsplit` finds all other faults
+        of a text."""
         out, section = [], 0
-        for line in self.text.splitlines():
-            words = line.split()
-            if not words or line.startswith("#"):
+        for place, line in enumerate(text_lines(self.text), 1):
+            words = line.split(" ")
+            if not line or line.startswith("#"):
                 continue
-            if words[0] in ("setup", "worker"):
-                section = int(words[1]) if words[0] == "worker" else 0
-            else:
+            if words[0] not in ("setup", "worker"):
                 out.append(Command(section, words))
+                continue
+            section = 0
+            if words[0] == "worker":
+                if len(words) != 2 or not _NUMBER.fullmatch(words[1]):
+                    raise InputFault(f"line {place}: a worker's number is missing")
+                section = int(words[1])
         return out
 
 
 def script_of(name: str, text: str, given: Sequence[str] = ()) -> Script:
-    """A script by its text; words given go over those of its first line."""
+    """Returns a script by its text; words given override those of its first line."""
     first = text.split("\n", 1)[0]
-    own = first[len(MARK) :].split() if first.startswith(MARK) else []
+    own = first[len(MARK):].split() if first.startswith(MARK) else []
     return Script(name, text, options_of([*own, *given]))
 
 
-def read_script(path: str, given: Sequence[str] = ()) -> Script:
-    """A script by its file, with the settings beside it."""
-    beside = Path(f"{path}.args")
+def _text_of(path: str) -> str:
+    """Returns the text of a file that a user named. InputFault where it can't be read or isn't ASCII."""
     try:
-        words = read(beside).split() if beside.exists() else []
-        return script_of(Path(path).name, read(path), [*words, *given])
-    except OSError as error:
-        raise InputFault(f"{path} can't be read: {error.strerror}") from error
+        return read_input(path).decode("ascii")
+    except UnicodeDecodeError as error:
+        byte = error.object[error.start]
+        raise InputFault(f"{path} is no script: byte {byte:#04x} at offset {error.start} isn't ASCII") from error
+
+
+def read_script(path: str, given: Sequence[str] = ()) -> Script:
+    """Reads a script from a file, with the settings beside it, or from standard input (`-`)."""
+    beside = f"{path}.args"
+    if path == "-":
+        return script_of("standard-input", _text_of(path), given)
+    words = _text_of(beside).split() if Path(beside).exists() else []
+    return script_of(Path(path).name, _text_of(path), [*words, *given])

@@ -15,6 +15,11 @@ def escaped(text: Union[str, bytes]) -> str:
     return "".join(_SHOWN[byte] for byte in text)
 
 
+def one_line(text: str) -> str:
+    """Returns a message as one line of printable ASCII. What it quotes is escaped already, so its backslashes stay."""
+    return "".join(letter if " " <= letter <= "~" else escaped(letter) for letter in text)
+
+
 def is_from_bytes(text: str) -> bool:
     """Returns whether each surrogate of a text is an undecoded byte (PEP 383)."""
     return all(not 0xD800 <= ord(letter) < 0xE000 or 0xDC80 <= ord(letter) <= 0xDCFF for letter in text)

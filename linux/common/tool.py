@@ -2,6 +2,7 @@
 
 from __future__ import annotations
 
+import ctypes
 import os
 import signal
 import sys
@@ -9,6 +10,8 @@ from typing import Callable, NoReturn
 
 from .errors import end_by_signals, status_of
 from .keeper import recover
+
+PR_SET_DUMPABLE = 4  # include/uapi/linux/prctl.h
 
 
 def open_standard_streams() -> None:
@@ -25,11 +28,30 @@ def open_standard_streams() -> None:
         sys.stdin = open(os.devnull, encoding="utf-8")
 
 
+def keep_memory_secret() -> None:
+    """Has the kernel write no core file of a tool that runs as root: it may have read other users' memory."""
+    if os.geteuid() == 0:
+        ctypes.CDLL(None).prctl(PR_SET_DUMPABLE, 0, 0, 0, 0)
+
+
+def heed_interrupts() -> None:
+    """Has SIGINT raise KeyboardInterrupt; until then it ends the tool at once. A shell's background job ignores it."""
+    if signal.getsignal(signal.SIGINT) == signal.SIG_DFL:
+        signal.signal(signal.SIGINT, signal.default_int_handler)
+
+
+def write_nothing_more() -> None:
+    """Leads standard output to /dev/null: what is still to be written there can't be."""
+    os.dup2(os.open(os.devnull, os.O_WRONLY), sys.stdout.fileno())
+
+
 def run_tool(name: str, main: Callable[[], int]) -> NoReturn:
     """Runs a tool's main function and ends with its status. Every error is one line on standard error: 77 where the
     machine lacks something, 2 for words and texts, 75 where another tool runs, 3 for the rest. What an earlier run left that
     was killed with its guardian is put back first."""
     open_standard_streams()
+    keep_memory_secret()
+    heed_interrupts()
     end_by_signals()
     try:
         for line in recover(name):
@@ -37,8 +59,14 @@ def run_tool(name: str, main: Callable[[], int]) -> NoReturn:
         status = main()
         sys.stdout.flush()
     except BrokenPipeError:
-        os.dup2(os.open(os.devnull, os.O_WRONLY), sys.stdout.fileno())  # nothing more can be written there
+        write_nothing_more()
         status = 128 + signal.SIGPIPE
     except (Exception, KeyboardInterrupt) as error:
         status = status_of(name, error)
+    try:
+        sys.stdout.flush()
+    except OSError as error:
+        status = status or status_of(name, error)
+        write_nothing_more()
+    signal.signal(signal.SIGINT, signal.SIG_DFL)
     sys.exit(status)

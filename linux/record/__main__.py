@@ -33,7 +33,7 @@ from .recorder import Recorder, Recording, settings_for
 from .tampering import try_copies
 
 NAME = "thprecord"
-NEEDED = ["root", "huge pages", "page sizes", "memory control groups"]
+NEEDED = ["root", "huge pages", "page sizes", "memory control groups", "frames"]
 MOST_TAMPERED = 16 << 20  # bytes of a journal of which spoilt copies are made
 
 

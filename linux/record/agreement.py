@@ -20,6 +20,9 @@ class Agreement:
         """Looks for pages that stand in the kernel's queue for a reason not yet told: a call that still runs."""
         if queue is None:
             return
+        if self._is_as_told(queue):
+            self._count(False)
+            return
         self.tell_early(queue)
         if self._state.scans:
             return
@@ -31,12 +34,25 @@ class Agreement:
                 self._joins_later(page)
         found = [self._state.at.get(folio) for folio in queue]
         self._reorder([page for page in found if page and page in self._state.queue])
+        skip = set(self._state.joining.values())
+        mine = [page for page in self._state.queue if not page.lost and page not in skip]
+        kernels = [page for page in found if page and not page.lost and page not in skip]
+        self._count(mine != kernels)
+
+    def _count(self, differs: bool) -> None:
+        """Counts a comparison, unless something runs that may have changed the queue already."""
         if not self._is_changing():
-            skip = set(self._state.joining.values())
-            mine = [page for page in self._state.queue if not page.lost and page not in skip]
-            kernels = [page for page in found if page and not page.lost and page not in skip]
             self._state.seen["queues compared"] += 1
-            self._state.seen["queues that differ"] += mine != kernels
+            self._state.seen["queues that differ"] += differs
+
+    def _is_as_told(self, queue: List[int]) -> bool:
+        """Whether a copy shows our queue, and nothing runs that could be told by it: the usual case, and quick."""
+        state = self._state
+        if state.scans or state.joining or len(queue) != len(state.queue):
+            return False
+        at = state.at
+        same = all(page.folio == folio and at.get(folio) is page for page, folio in zip(state.queue, queue))
+        return same and all(asked.kind is not Kind.COLLAPSED for asked in state.pending.values())
 
     def tell_early(self, queue: List[int]) -> None:
         """Tells why pages stand in the kernel's queue that aren't in ours: collapses and calls that still run, and
@@ -116,8 +132,8 @@ class Agreement:
             if not 0 <= first <= last:
                 return
             window = state.lines.latest[first : last + 1]
-            own = [line for line in window if line.page is page]
-            state.lines.latest[first : last + 1] = own + [line for line in window if line.page is not page]
+            own = [line for line in window if line.page == page.number]
+            state.lines.latest[first : last + 1] = own + [line for line in window if line.page != page.number]
             for queue in (state.queue, state.told):
                 queue.remove(page)
                 queue.insert(queue.index(other), page)

@@ -61,7 +61,8 @@ class Commands:
 
         try:
             child = subprocess.Popen(
-                list(words), preexec_fn=enter, env=user.environment() if user else None, close_fds=True
+                list(words), preexec_fn=enter, env=user.environment() if user else None, close_fds=True,
+                start_new_session=user is not None and not user.is_caller,  # no way to root's terminal
             )
         except (OSError, subprocess.SubprocessError, ValueError) as error:
             reason = getattr(error, "strerror", None) or str(error)

@@ -6,7 +6,6 @@ from dataclasses import dataclass, field
 from typing import Dict, List, Optional, Tuple
 
 from ..common.files import PMD_ORDER
-from ..common.journal import Event
 from ..common.subpages import bits_of, size
 
 
@@ -21,12 +20,13 @@ class Mapping:
     since: int = 0
 
 
-@dataclass(eq=False)
 class Line:
-    """An event that was told of a page; its page's number is given when the journal is written."""
+    """An event that was told of a page, by the page's number, which is another one in the journal."""
 
-    page: Page
-    event: Event
+    __slots__ = ("page", "text")
+
+    def __init__(self, page: int, text: str) -> None:
+        self.page, self.text = page, text
 
 
 class Tally:

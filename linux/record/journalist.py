@@ -16,7 +16,7 @@ from ..common.files import BASE, PMD_ORDER
 from ..common.journal import journal_text
 from .agreement import Agreement
 from .calls import COLLAPSE, COPIED, MADV_COLLAPSE, MADVISE, has_succeeded
-from .folios import Line, Page
+from .folios import Mapping, Page
 from .mappings import Mappings
 from .records import Kind, Record, link
 from .scans import Scans
@@ -79,10 +79,9 @@ class Journalist:
         """The journal's lines, without the pages that are left out."""
         return self._state.texts()
 
-    @property
-    def lines(self) -> List[Line]:
-        """The latest lines, of the pages that are left out too."""
-        return self._state.lines.latest
+    def mappings_of(self, space: int) -> List[Mapping]:
+        """What an address space maps."""
+        return list(self._state.spaces.get(space, {}).values())
 
     @property
     def seen(self) -> Dict[str, int]:

@@ -75,7 +75,7 @@ class Lines:
             for line in self._file:
                 yield line[:-1].decode("ascii")
         for each in self.latest:
-            yield each.event.text()
+            yield each.text
 
     def _settle(self, count: int) -> None:
         """Writes the oldest lines to the file."""
@@ -83,7 +83,7 @@ class Lines:
             if not self._file:
                 self._file = tempfile.TemporaryFile(dir=FOLDER)
             self._file.seek(0, 2)
-            self._file.writelines(line.event.text().encode("ascii") + b"\n" for line in self.latest[:count])
+            self._file.writelines(line.text.encode("ascii") + b"\n" for line in self.latest[:count])
         except OSError as error:
             raise RunFailed(f"the journal can't be written to {FOLDER}: {error.strerror}") from error
         del self.latest[:count]

@@ -30,7 +30,7 @@ class Kind(enum.IntEnum):
     MOVED = 11  # a page is mapped again by a migration, or by a split that failed (address, folio, order)
 
 
-WITH_QUEUE = (Kind.EXIT, Kind.EXIT_MMAP, Kind.SCAN, Kind.SCANNED, Kind.COLLAPSED)
+WITH_QUEUE = frozenset([Kind.EXIT, Kind.EXIT_MMAP, Kind.SCAN, Kind.SCANNED, Kind.COLLAPSED])
 BY_FAULT, IN_FAULT, IN_NONE = 0, 1, 2  # how: in the fault of the task's last FAULT record; in this fault; in no fault
 _HOW_AT = {Kind.ALLOC: 2, Kind.COPY: 1}
 
@@ -110,13 +110,16 @@ def _count(field: int) -> int:
     return (field + 1) & _WORD
 
 
-def record_of(raw: bytes) -> Record:
-    """A record by its bytes."""
-    words = HEAD.unpack_from(raw)
-    kind, count = Kind(words[0]), words[14]
+_KINDS = tuple(Kind)
+
+
+def record_of(raw: bytes, place: int = 0) -> Record:
+    """A record by its bytes, which begin at a place."""
+    words = HEAD.unpack_from(raw, place)
+    kind, count = _KINDS[words[0]], words[14]
     queue = None
     if kind in WITH_QUEUE and count <= QUEUE_MOST:
-        queue = whole(list(struct.unpack_from(f"<{count}Q", raw, FOLIOS_AT)))
+        queue = whole(list(struct.unpack_from(f"<{count}Q", raw, place + FOLIOS_AT)))
     return Record(kind, words[1], words[2] & 0xFFFFFFFF, words[3], words[4:13], queue)
 
 

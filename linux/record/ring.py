@@ -8,7 +8,6 @@ around.
 from __future__ import annotations
 
 import mmap
-import struct
 from typing import Callable, Union
 
 from ..common.bpf import MapType, create_map
@@ -33,17 +32,22 @@ class Ring:
     def __init__(self, size: int = SIZE) -> None:
         self._size = size
         self.descriptor = create_map(MapType.RINGBUF, 0, 0, size)
-        self._reader = mmap.mmap(self.descriptor, _PAGE, mmap.MAP_SHARED, mmap.PROT_READ | mmap.PROT_WRITE)
-        self._writers = mmap.mmap(self.descriptor, _PAGE, mmap.MAP_SHARED, mmap.PROT_READ, offset=_PAGE)
-        self._map = mmap.mmap(self.descriptor, size, mmap.MAP_SHARED, mmap.PROT_READ, offset=2 * _PAGE)
-        self._data = memoryview(self._map)
+        both = mmap.PROT_READ | mmap.PROT_WRITE
+        self._maps = [
+            mmap.mmap(self.descriptor, _PAGE, mmap.MAP_SHARED, both),
+            mmap.mmap(self.descriptor, _PAGE, mmap.MAP_SHARED, mmap.PROT_READ, offset=_PAGE),
+            mmap.mmap(self.descriptor, size, mmap.MAP_SHARED, mmap.PROT_READ, offset=2 * _PAGE),
+        ]
+        # as numbers, which are loaded and stored at once: the kernel refuses records while it sees half a position
+        self._reader, self._writers = (memoryview(each).cast("Q") for each in self._maps[:2])
+        self._data = memoryview(self._maps[2])
         self._heads = self._data.cast("I")
 
     def take(self, write: Callable[[Bytes], None]) -> int:
         """Passes the records that have come since the last call to `write`, with their heads, in pieces that may be cut
         anywhere. Returns how many these are."""
         count = 0
-        done, end = struct.unpack_from("<Q", self._reader)[0], struct.unpack_from("<Q", self._writers)[0]
+        done, end = self._reader[0], self._writers[0]
         heads, mask = self._heads, self._size - 1
         while done < end:
             first, most = done, min(end, done + PIECE)
@@ -56,7 +60,7 @@ class Ring:
             if done == first:
                 break
             self._pass_on(first & mask, done - first, write)
-            struct.pack_into("<Q", self._reader, 0, done)
+            self._reader[0] = done
         return count
 
     def _pass_on(self, first: int, length: int, write: Callable[[Bytes], None]) -> None:
@@ -68,7 +72,7 @@ class Ring:
 
     def close(self) -> None:
         """Unmaps the ring. Its descriptor belongs to the caller."""
-        self._heads.release()
-        self._data.release()
-        for each in (self._map, self._writers, self._reader):
+        for view in (self._heads, self._data, self._writers, self._reader):
+            view.release()
+        for each in self._maps:
             each.close()

@@ -75,6 +75,8 @@ class Scans:
         """Tells a scan that another task still runs, where what it puts back stands before a page newly in the queue.
         The queue shows what it put back: when the scan's end is recorded, a page of these may have been freed, and its
         place be another page's that stands elsewhere in the queue."""
+        if not self._state.scans:
+            return
         told = {page.folio for page in self._state.queue}
         for start in [scan.start for scan in self._state.scans.values()]:
             end = start.end and start.end.shown()
@@ -159,7 +161,8 @@ class Scans:
         if not later or min(places.values()) < 0:
             return
         lines = state.lines.latest
-        late = {i for i, line in enumerate(lines) if line.page in later and i >= places[line.page]}
+        begins = {page.number: place for page, place in places.items()}
+        late = {i for i, line in enumerate(lines) if line.page in begins and i >= begins[line.page]}
         sooner = [line for i, line in enumerate(lines) if i not in late]
         state.lines.latest = sooner + [lines[i] for i in sorted(late)]
         for queue in (state.queue, state.told):

@@ -82,7 +82,8 @@ class State:
         self, task: int, page: Page, word: str, first: int = 0, count: int = 0, outcome: str = "", given: int = 0
     ) -> None:
         """Tells an event of a page."""
-        self.lines.add(Line(page, Event(self._caller(task), word, page.number, first, count, outcome, given)))
+        event = Event(self._caller(task), word, page.number, first, count, outcome, given)
+        self.lines.add(Line(page.number, event.text()))
         self.seen[f"events {word}"] += 1
         if not page.lost:
             fills = word in FILLING

@@ -21,7 +21,8 @@ from .ring import HEAD as RING_HEAD
 FOLDER = "/var/tmp"
 BLOCK = 1 << 20  # bytes that are read at a time
 DIES_AT, LINK_AT = 8 * 13, 8 * 15  # the words of a record that are its links
-_WORD = struct.Struct("<Q")
+_WORD, _LINKS = struct.Struct("<Q"), struct.Struct("<3Q")
+_LENGTH = struct.Struct("<I")
 _LINKED = frozenset([Kind.SCAN, Kind.SCANNED, Kind.ALLOC, Kind.FORK, Kind.EXIT_MMAP])
 
 Words = Tuple[int, ...]
@@ -66,8 +67,8 @@ class Store:
         for at, block, place in self._walk():
             record = ends.pop(at, None)
             if record is None:
-                record = record_of(block[place : place + FOLIOS_AT + 8 * QUEUE_MOST])
-            dies, link = (_WORD.unpack_from(block, place + where)[0] for where in (DIES_AT, LINK_AT))
+                record = record_of(block, place)
+            dies, _, link = _LINKS.unpack_from(block, place + DIES_AT)
             if dies:
                 record.dies = self._record_at(dies)
             if link and record.kind in _LINKED:
@@ -120,12 +121,13 @@ class Store:
         while at < end:
             block, place = os.pread(self._descriptor, BLOCK, at), 0
             while place + RING_HEAD <= len(block) and at + place < end:
-                head = struct.unpack_from("<I", block, place)[0]
-                if place + room_of(head) > len(block):
+                head = _LENGTH.unpack_from(block, place)[0]
+                room = room_of(head)
+                if place + room > len(block):
                     break
                 if not head & DISCARDED:
                     yield at + place + RING_HEAD, block, place + RING_HEAD
-                place += room_of(head)
+                place += room
             if not place:
                 raise RunFailed("the records on disk end within a record")
             at += place

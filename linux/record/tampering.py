@@ -1,10 +1,11 @@
-"""Spoilt copies of journals, to see whether the check tells them.
+"""Spoilt copies of journals, to see whether the check finds them.
 
     python3 -m linux.record.tampering [--copies N] [--seed S] [--checker PATH] JOURNAL..
 
 In each copy of a journal, which is chosen by the seed, an event of the queue is left out or doubled, or two neighbours
 are exchanged. Prints how many are illegal, and where one is legal what was spoilt.
-Status 0: at least 99 % are illegal; 1: fewer; 2: a fault in the words; 77: nothing could be spoilt.
+Status 0: at least 99 % are illegal; 1: fewer; 2: an error in the words or a journal; 3: an error of the system; 77:
+nothing could be spoilt.
 """
 
 from __future__ import annotations
@@ -17,8 +18,12 @@ from dataclasses import dataclass
 from typing import Dict, List, NoReturn, Optional, Sequence, Tuple
 
 from ..common.checker import Judge, find_judge
-from ..common.errors import DIFFERS, DONE, SKIPPED, run_tool
-from ..common.files import read
+from ..common.errors import DIFFERS, DONE, SKIPPED, InputFault
+from ..common.files import read_input
+from ..common.journal import journal_of
+from ..common.text import escaped, text_lines
+from ..common.tool import run_tool
+from ..common.words import Words, whole
 
 QUEUE_WORDS = ("taken", "split", "back", "queued")
 NEEDED = 0.99  # of the copies are to be illegal
@@ -83,7 +88,7 @@ def try_copies(journals: Sequence[Tuple[str, str]], by: Judge, copies: int, seed
             continue
         made[copy.spoil] += 1
         if by.check(copy.text).legal:
-            print(f"legal: {name} with {copy.spoil.value} at line {copy.line}: {text.splitlines()[copy.line - 1]}")
+            print(f"legal: {name} with {copy.spoil.value} at line {copy.line}: {text_lines(text)[copy.line - 1]}")
         else:
             illegal[copy.spoil] += 1
     for spoil in Spoil:
@@ -92,18 +97,32 @@ def try_copies(journals: Sequence[Tuple[str, str]], by: Judge, copies: int, seed
 
 
 def words() -> argparse.Namespace:
+    """The words of the command line."""
     form = argparse.RawDescriptionHelpFormatter
-    parser = argparse.ArgumentParser(prog="tampering", description=__doc__, formatter_class=form)
+    parser = Words(prog="tampering", description=__doc__, formatter_class=form)
     parser.add_argument("--checker", metavar="PATH", help="the thpcheck that judges")
-    parser.add_argument("--program", metavar="PATH", help="the thpsplit that judges in its place")
-    parser.add_argument("--copies", type=int, default=200, metavar="N")
-    parser.add_argument("--seed", type=int, default=1, metavar="S")
+    parser.add_argument("--program", metavar="PATH", help="the thpsplit that judges instead")
+    parser.add_argument("--copies", type=whole(1, 10 ** 6), default=200, metavar="N")
+    parser.add_argument("--seed", type=whole(0, 10 ** 9), default=1, metavar="S")
     parser.add_argument("journals", nargs="+", metavar="JOURNAL")
     return parser.parse_args()
 
 
+def journal_in(path: str) -> Tuple[str, str]:
+    """Returns a file's printable name and its text. InputFault where that is no journal."""
+    name = escaped(path)
+    try:
+        text = read_input(path).decode("ascii")
+        journal_of(text)
+    except (ValueError, InputFault) as error:
+        reason = str(error) if isinstance(error, InputFault) else "this is no journal"
+        raise InputFault(reason if reason.startswith(name) else f"{name}: {reason}") from error
+    return name, text
+
+
 def run(asked: argparse.Namespace) -> int:
-    journals = [(path, read(path)) for path in asked.journals]
+    """Makes and judges the copies that are asked for."""
+    journals = [journal_in(path) for path in asked.journals]
     made, illegal = try_copies(journals, find_judge(asked.checker, asked.program), asked.copies, asked.seed)
     if not made:
         return SKIPPED
@@ -111,6 +130,7 @@ def run(asked: argparse.Namespace) -> int:
 
 
 def start() -> NoReturn:
+    """Runs the tool."""
     run_tool("tampering", lambda: run(words()))
 
 

@@ -3,6 +3,7 @@
 from __future__ import annotations
 
 import os
+import resource
 from dataclasses import dataclass
 from typing import Iterable, List, Optional
 
@@ -28,10 +29,17 @@ class Server:
     group: Optional[int]
 
 
+def allow_descriptors() -> None:
+    """Raises the limit of open files as far as it goes: each mapping process needs three."""
+    _, most = resource.getrlimit(resource.RLIMIT_NOFILE)
+    resource.setrlimit(resource.RLIMIT_NOFILE, (most, most))
+
+
 class Bench:
     """Made once; prepared for each script."""
 
     def __init__(self, keeper: Keeper, memory: Optional[KernelMemory]) -> None:
+        allow_descriptors()
         self._keeper = keeper
         self.memory = memory
         keeper.set(COLLAPSE_SLEEP, QUIET)
@@ -41,7 +49,7 @@ class Bench:
         self.servers: List[Server] = []
 
     def prepare(self, options: Options) -> None:
-        """Settings and nodes for a script. Unsayable where a kernel can't have such settings."""
+        """Makes the settings and nodes of a script. Unsayable where a kernel can't have such settings."""
         large = {switch for order, switch in zip(options.orders, options.underused) if order == PMD_ORDER}
         if None in large and len(large) > 1:
             raise Unsayable("underused pages are split on some nodes only: the kernel has one switch")
@@ -65,14 +73,18 @@ class Bench:
         while len(self.servers) < nodes:
             path = self.groups.add(f"node{len(self.servers)}")
             process = self.mappers.root.fork()
-            self.groups.enter(path, process.process)
+            self._keeper.own_descriptor(process.pidfd)
+            process.enter(path)
             self.servers.append(Server(path, process, self.memory.group(path) if self.memory else None))
 
     def queue(self, node: int) -> Optional[Iterable[int]]:
-        """The first frames of the pages in a node's queue, oldest first; None where queues aren't read."""
+        """Returns the first frames of the pages in a node's queue, oldest first; None where queues aren't read."""
         group = self.servers[node].group
         return self.memory.queue_frames(group) if self.memory and group is not None else None
 
     def close(self) -> None:
+        """Ends all processes."""
+        for server in self.servers:
+            server.process.close()
         self.mappers.close()
         self.frames.close()

@@ -1,7 +1,11 @@
-"""What the kernel should show of a script: what `thpsplit` says, with the known differences worked out beforehand.
+"""What the kernel should show of a script: what `thpsplit` reports, with the known differences worked out beforehand.
 
-There is no slack but in F (any number of passes that fits what a pinned page shows) and G (a page with both kinds of
+There is slack only in F (any number of passes that fits what a pinned page shows) and G (a page with both kinds of
 mappings: 0 or 1).
+
+A page's own state (frames, map counts, queues) belongs to the script alone: a difference there is raised at once. The
+counters are of the whole machine, and other programs move them too: the first difference there is kept, no counter is
+compared from then on, and the script goes on by the own state.
 """
 
 from __future__ import annotations
@@ -19,7 +23,15 @@ from .states import NodeState, PageState
 
 
 class Differs(Exception):
-    """The kernel shows something else; the text says what, the kernel's value and thpsplit's."""
+    """The kernel shows something else; the text names it, with the kernel's value and thpsplit's."""
+
+
+class CountersDiffer(Differs):
+    """Only counters of the whole machine differ; `place` names the counter and the command."""
+
+    def __init__(self, text: str, place: str) -> None:
+        super().__init__(text)
+        self.place = place
 
 
 def same(what: str, kernel: object, says: object) -> None:
@@ -28,19 +40,21 @@ def same(what: str, kernel: object, says: object) -> None:
 
 
 class Expecting:
-    """Follows a script on all nodes; `known` gathers the differences that it met, from those of the story on.
-    `small`: nodes
-    whose pages aren't queued at their fault (C); at their splits zero-filled subpages go back, as the script says."""
+    """Follows a script on all nodes. `known` gathers the known differences that it met, beginning with the story's;
+    `counters` holds the first difference of a counter. `small`: nodes whose pages aren't queued at their fault (C); at
+    their splits zero-filled subpages go back, as in the script."""
 
     def __init__(self, states: Sequence[NodeState], known: Set[Known], small: Set[int]) -> None:
         self._states, self._small = states, small
         self._queues: List[List[int]] = [[] for _ in states]  # the kernel's, as they should be
         self._failed: Dict[int, int] = Tallies()  # failed splits by order, as they should be
         self.known = set(known)
+        self.counters: Optional[CountersDiffer] = None
         self.seen: Dict[str, int] = Tallies()
+        self._where = ""
 
     def follow(self, said: Said, seen: Seen) -> None:
-        """The node's state is that after the command; works out the kernel's queue and failed splits."""
+        """Works out the kernel's queue and failed splits. The node's state is that after the command."""
         state, queue = self._states[said.node], self._queues[said.node]
         if said.words[0] == "scan" and not said.refused:
             self._scan(said, state, seen)
@@ -60,26 +74,54 @@ class Expecting:
         if state.threshold == NEVER and once:
             self.known.add(Known.D)
             once = 0
-        total = seen.counts.sizes[SizeCounter.SPLIT_FAILED, state.order]
-        if total is None and state.order == PMD_ORDER:
-            total = seen.counts.machine[Counter.SPLIT_FAILED]
-        if total is None:  # this kernel doesn't count them: the queue tells whether the passes were even
-            passes = 1 if seen.queues[said.node] == queue[::-1] else 2
-            failed = once + passes * len(queue)
-        else:
-            failed = total - self._failed[state.order]
-            passes = (failed - once) // len(queue) if queue else 1
-        if failed != once + passes * len(queue) or passes < 1:
-            raise Differs(f"split_failed of a scan, kernel {failed}, thpsplit {once} + {len(queue)} for each pass")
-        self._failed[state.order] += failed
+        turned = self._is_turned(queue, seen.queues[said.node])
+        passes = self._passes(state.order, once, queue, turned, seen)
+        self._failed[state.order] += once + passes * len(queue)
         if queue:
             self.seen[f"scans of {passes} passes with pinned pages"] += 1
         if passes > 1 and queue:
             self.known.add(Known.F)
         self._queues[said.node] = queue[::-1] if passes % 2 else queue
 
+    @staticmethod
+    def _is_turned(queue: List[int], seen: Optional[List[int]]) -> Optional[bool]:
+        """Whether the kernel's queue has the pages that stayed in reverse order, which an odd number of passes leaves;
+        None where the queue can't show it."""
+        if seen is None or queue == queue[::-1] or seen not in (queue, queue[::-1]):
+            return None
+        return seen != queue
+
+    def _passes(self, order: int, once: int, queue: List[int], turned: Optional[bool], seen: Seen) -> int:
+        """How many passes a scan made: by the failed splits where they are counted and no counter differed before,
+        else by the queue: an odd or even number."""
+        by_queue = 1 if turned is None or turned else 2
+        total = seen.counts.sizes[SizeCounter.SPLIT_FAILED, order]
+        if total is None and order == PMD_ORDER:
+            total = seen.counts.machine[Counter.SPLIT_FAILED]
+        if total is None or self.counters:
+            return by_queue
+        failed = total - self._failed[order]
+        passes = (failed - once) // len(queue) if queue else 1
+        if failed != once + passes * len(queue) or passes < 1:
+            self._counter_differs("split_failed of a scan", failed, f"{once} + {len(queue)} for each pass")
+            return by_queue
+        if turned is not None and turned != bool(passes % 2):
+            self._counter_differs(f"order of the queue after {passes} passes by split_failed", "so", "turned around")
+            return by_queue
+        return passes
+
+    def _counter_differs(self, what: str, kernel: object, says: object) -> None:
+        """Keeps the first difference of a counter; no other is compared afterwards."""
+        if not self.counters and kernel != says:
+            text = f"{what}, kernel {kernel}, thpsplit {says}"
+            self.counters = CountersDiffer(f"{text} ({self._where})", f"{what} {self._where}")
+
+    def at(self, where: str) -> None:
+        """Names the command that is compared next."""
+        self._where = where
+
     def compare(self, seen: Seen) -> None:
-        """Differs where the kernel shows anything else than it should."""
+        """Differs where the own state isn't what it should be. A counter that isn't is kept in `counters`."""
         self._compare_machine(seen)
         for order in sorted({state.order for state in self._states}):
             self._compare_size(order, seen)
@@ -93,7 +135,7 @@ class Expecting:
         return sum(getattr(state.tally, name) for state in self._states if order in (None, state.order))
 
     def _deferred(self, kernel: Optional[int]) -> int:
-        """How many pages of PMD size the kernel should have counted as deferred (A, G)."""
+        """Returns how many pages of PMD size the kernel should have counted as deferred (A, G)."""
         least = self._sum("first_partly", PMD_ORDER) + self._sum("partly_by_split", PMD_ORDER)
         return min(max(least, kernel or 0), least + self._sum("perhaps_partly", PMD_ORDER))
 
@@ -116,7 +158,7 @@ class Expecting:
         }
         for counter, value in says.items():
             if machine[counter] is not None:
-                same(counter.value, machine[counter], value)
+                self._counter_differs(counter.value, machine[counter], value)
 
     def _compare_size(self, order: int, seen: Seen) -> None:
         sizes = seen.counts.sizes
@@ -130,7 +172,7 @@ class Expecting:
         }
         for counter, value in says.items():
             if sizes[counter, order] is not None:
-                same(f"{counter.value} of order {order}", sizes[counter, order], value)
+                self._counter_differs(f"{counter.value} of order {order}", sizes[counter, order], value)
 
     def _compare_page(self, node: int, name: str, page: PageState, seen: PageSeen) -> None:
         totals = page.totals()

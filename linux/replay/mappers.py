@@ -1,110 +1,228 @@
-"""The processes that map a script's pages (mapper.c), and the socket by which they are told what to do."""
+"""The processes that map a script's pages (mapper.c), and the sockets by which they receive commands.
+
+No socket has a name: the tool makes both ends of each and passes one on, so a reply comes from the process that has
+the other end. A process is known by a pidfd that the kernel makes together with it; its number serves only to open its
+files of /proc, and the pidfd shows afterwards that they are its own.
+"""
 
 from __future__ import annotations
 
+import array
 import os
+import re
+import select
 import socket
 import subprocess
-from dataclasses import dataclass, field
-from typing import List, Optional, Tuple
+from typing import Dict, List, Optional, Tuple
 
 from ..common.errors import RunFailed, Unavailable
+from ..common.files import BASE, read_bytes
 from ..common.helpers import helper
 from ..common.keeper import Keeper
-from ..common.page_files import frames_at
+from ..common.page_files import NumberFile, frame_of_entry
+from ..common.text import lines
 
-PATIENCE = 20.0  # seconds for an answer
+PATIENCE = 20.0  # seconds until a reply
+MOST_REPLY = 64  # bytes
+
+_REPLY = re.compile(rb"(ok|error) (0|[1-9][0-9]{0,17})")
+_PID = re.compile(rb"Pid:\t([1-9][0-9]{0,9})")
 
 
-class Refusal(Exception):
-    """A mapping process could not do a command; the text says which, and the kernel's word."""
+class Refusal(RunFailed):
+    """A mapping process could not do a command; the text is the command and the kernel's reason."""
+
+
+def parse_reply(data: bytes) -> Tuple[bool, int]:
+    """Returns whether a command was done, and the number of the reply."""
+    found = _REPLY.fullmatch(data)
+    if not found:
+        raise RunFailed(f"a mapping process sends what is no reply: {data!r}")
+    return found[1] == b"ok", int(found[2])
+
+
+def number_of(pidfd: int) -> int:
+    """Returns the number of the process that a pidfd refers to (/proc/self/fdinfo, in the namespace of /proc)."""
+    found = [_PID.fullmatch(line) for line in lines(read_bytes(f"/proc/self/fdinfo/{pidfd}"))]
+    numbers = [int(each[1]) for each in found if each]
+    if len(numbers) != 1:
+        raise RunFailed("a mapping process has ended")
+    return numbers[0]
+
+
+def has_ended(pidfd: int) -> bool:
+    """Returns whether the process that a pidfd refers to has ended."""
+    poll = select.poll()
+    poll.register(pidfd, select.POLLIN)
+    return bool(poll.poll(0))
+
+
+def socket_pair() -> Tuple[socket.socket, socket.socket]:
+    """Returns two connected sockets without names; messages keep their bounds."""
+    return socket.socketpair(socket.AF_UNIX, socket.SOCK_SEQPACKET | socket.SOCK_CLOEXEC)
+
+
+class Line:
+    """The tool's end of a mapping process's socket. After the first failure nothing more can be asked of it."""
+
+    def __init__(self, end: socket.socket) -> None:
+        self._end: Optional[socket.socket] = end
+        end.settimeout(PATIENCE)
+
+    @property
+    def is_open(self) -> bool:
+        """Whether the process can be asked."""
+        return self._end is not None
+
+    def close(self) -> None:
+        """Closes the socket, which ends the process."""
+        end, self._end = self._end, None
+        if end:
+            end.close()
+
+    def ask(self, text: str, passed: Optional[int] = None) -> Tuple[int, Optional[int]]:
+        """Sends a command, with a descriptor or none; returns the number of the reply and the descriptor that it
+        carries. Refusal where the process could not do it."""
+        if self._end is None:
+            raise RunFailed("a mapping process has failed before")
+        try:
+            socket.send_fds(self._end, [text.encode()], [] if passed is None else [passed])
+            data, carried = self._receive(self._end)
+            is_done, number = parse_reply(data)
+        except BaseException as error:  # a signal, too: the reply to this command must not be taken for the next one's
+            self.close()
+            if isinstance(error, socket.timeout):
+                raise RunFailed(f"a mapping process sends no reply for {PATIENCE:.0f} s") from error
+            if isinstance(error, OSError):
+                raise RunFailed(f"a mapping process has ended: {error.strerror}") from error
+            raise
+        if is_done:
+            return number, carried
+        if carried is not None:
+            os.close(carried)
+        raise Refusal(f"{text}: {os.strerror(number)}")
+
+    @staticmethod
+    def _receive(end: socket.socket) -> Tuple[bytes, Optional[int]]:
+        room = socket.CMSG_LEN(array.array("i").itemsize)
+        data, control, flags, _ = end.recvmsg(MOST_REPLY, room, socket.MSG_CMSG_CLOEXEC)
+        found = array.array("i")
+        for _, kind, part in control:
+            if kind == socket.SCM_RIGHTS:
+                found.frombytes(part[: len(part) - len(part) % found.itemsize])
+        if not data or flags & (socket.MSG_TRUNC | socket.MSG_CTRUNC) or len(found) > 1:
+            for descriptor in found:
+                os.close(descriptor)
+            raise RunFailed("a mapping process has ended" if not data else "a mapping process sends too much")
+        return data, found[0] if found else None
+
+
+class Mapper:
+    """One process, and what it maps: `whole` by a PMD entry (or as one piece, below PMD size), `mapped` by subpages;
+    `at` is the address of subpage 0."""
+
+    def __init__(self, line: Line, pidfd: int, like: Optional[Mapper] = None) -> None:
+        self._line, self.pidfd = line, pidfd
+        self._pagemap: Optional[NumberFile] = None
+        self.whole: bool = like.whole if like else False
+        self.mapped: int = like.mapped if like else 0
+        self.at: int = like.at if like else 0
+        self.pins = 0
+
+    def tell(self, text: str, passed: Optional[int] = None) -> int:
+        """Sends a command and returns the number of the reply."""
+        number, carried = self._line.ask(text, passed)
+        if carried is not None:
+            os.close(carried)
+            raise RunFailed("a mapping process sends a descriptor that was not asked for")
+        return number
+
+    def alloc(self, order: int, fill: int) -> None:
+        """Allocates a page and fills it with a byte, unless that is 0."""
+        at = self.tell(f"alloc {order} {fill}")
+        if not at or at % (BASE << order):
+            raise RunFailed(f"a mapping process maps a page at an address that isn't aligned: {at:#x}")
+        self.at = at
+
+    def fork(self) -> Mapper:
+        """Makes a child that maps what this one maps, and has none of its pins."""
+        try:
+            mine, its = socket_pair()
+        except OSError as error:
+            raise Refusal(f"fork: {error.strerror}") from error
+        line = Line(mine)
+        try:
+            with its:
+                _, pidfd = self._line.ask("fork", its.fileno())
+            if pidfd is None:
+                raise RunFailed("a mapping process sends no pidfd of its child")
+        except BaseException:
+            line.close()
+            raise
+        return Mapper(line, pidfd, self)
+
+    def enter(self, group: str) -> None:
+        """Moves the process into a control group. It moves itself, so no process number is used that another process
+        may have by then."""
+        with open(f"{group}/cgroup.procs", "wb", 0) as members:
+            self.tell("enter", members.fileno())
+
+    def frames(self, count: int) -> List[Optional[int]]:
+        """Returns the frame that each of its subpages has, or None where it maps none."""
+        if self._pagemap is None:
+            self._pagemap = self._open_pagemap()
+        try:
+            return [frame_of_entry(entry) for entry in self._pagemap.at(self.at // BASE, count)]
+        except OSError as error:
+            raise RunFailed("a mapping process has ended") from error
+
+    def _open_pagemap(self) -> NumberFile:
+        try:
+            pagemap = NumberFile(f"/proc/{number_of(self.pidfd)}/pagemap")
+        except Unavailable as error:
+            raise RunFailed(str(error)) from error
+        if has_ended(self.pidfd):
+            pagemap.close()
+            raise RunFailed("a mapping process has ended")
+        return pagemap
+
+    def exit(self) -> None:
+        """Has the process drop its mappings and end. One that failed before ends without a reply."""
+        try:
+            if self._line.is_open:
+                self.tell("exit")
+        finally:
+            self.close()
+
+    def close(self) -> None:
+        """Closes the tool's descriptors of the process, which ends it."""
+        self._line.close()
+        if self._pagemap:
+            self._pagemap.close()
+            self._pagemap = None
+        if self.pidfd >= 0:
+            os.close(self.pidfd)
+            self.pidfd = -1
 
 
 class Mappers:
     """All of them: forks of one root process, which maps nothing."""
 
     def __init__(self, keeper: Keeper) -> None:
-        self._socket = socket.socket(socket.AF_UNIX, socket.SOCK_DGRAM | socket.SOCK_CLOEXEC)
-        name = f"thpreplay-{os.getpid()}"
-        self._socket.bind(f"\0{name}")
-        self._socket.settimeout(PATIENCE)
-        self._next = 1
-        self._process = subprocess.Popen([helper("replay/mapper.c"), name], stdin=subprocess.PIPE)
+        path = helper("replay/mapper.c")
+        empty: Dict[str, str] = {}
+        mine, its = socket_pair()
+        with its:
+            self._process = subprocess.Popen([path], stdin=its.fileno(), stdout=subprocess.DEVNULL,
+                                             stderr=subprocess.DEVNULL, cwd="/", env=empty, start_new_session=True)
         keeper.own(self._process.pid)
-        words, address = self._hear()
-        if words[:2] != ["hello", "0"]:
-            raise Unavailable("the mapping process doesn't begin")
-        self.root = Mapper(self, int(words[2]), address)
-
-    def _send(self, text: str, address: bytes) -> None:
-        try:
-            self._socket.sendto(text.encode(), address)
-        except OSError as error:
-            raise RunFailed(f"a mapping process has ended: {error.strerror}") from error
-
-    def _hear(self) -> Tuple[List[str], bytes]:
-        try:
-            text, address = self._socket.recvfrom(256)
-        except socket.timeout as error:
-            raise RunFailed(f"a mapping process is silent for {PATIENCE:.0f} s") from error
-        return text.decode().split(), address
-
-    def ask(self, address: bytes, text: str) -> int:
-        """The number that a process answers to a command."""
-        self._send(text, address)
-        words, _ = self._hear()
-        if words[0] != "ok":
-            raise Refusal(f"{text}: {os.strerror(int(words[1]))}")
-        return int(words[1])
-
-    def fork(self, address: bytes) -> Tuple[int, bytes]:
-        """The number of a new child, and its address."""
-        self._send(f"fork {self._next}", address)
-        self._next += 1
-        child: Optional[Tuple[int, bytes]] = None
-        for _ in range(2):  # the child's hello and the parent's answer, in any order
-            words, sender = self._hear()
-            if words[0] == "hello":
-                child = int(words[2]), sender
-            elif words[0] != "ok":
-                raise Refusal(f"fork: {os.strerror(int(words[1]))}")
-        assert child
-        return child
+        self.root = Mapper(Line(mine), os.pidfd_open(self._process.pid))
 
     def close(self) -> None:
-        """Ends all of them."""
-        if self._process.stdin:
-            self._process.stdin.close()
-        self._process.wait()
-        self._socket.close()
-
-
-@dataclass(eq=False)
-class Mapper:
-    """One process, and what it maps: `whole` by a PMD entry (or as one piece, below PMD size), `mapped` by subpages."""
-
-    all: Mappers
-    process: int
-    address: bytes
-    whole: bool = False
-    mapped: int = 0
-    pins: int = 0
-    at: int = 0  # the address of subpage 0
-    alive: bool = field(default=True)
-
-    def tell(self, text: str) -> int:
-        return self.all.ask(self.address, text)
-
-    def fork(self) -> Mapper:
-        """A child that maps what this one maps, and has none of its pins."""
-        process, address = self.all.fork(self.address)
-        return Mapper(self.all, process, address, self.whole, self.mapped, 0, self.at)
-
-    def exit(self) -> None:
-        if self.alive:
-            self.alive = False
-            self.tell("exit")
-
-    def frames(self, count: int) -> List[Optional[int]]:
-        """The frame that each of its subpages has, or None."""
-        return frames_at(self.process, self.at, count)
+        """Ends the root process."""
+        self.root.close()
+        try:
+            self._process.wait(PATIENCE)
+        except subprocess.TimeoutExpired:
+            self._process.kill()
+            self._process.wait()

@@ -16,6 +16,7 @@ from dataclasses import dataclass
 from typing import Dict, List, Optional, Sequence, Tuple
 
 from ..common.counters import Counter, Counts, counts
+from ..common.errors import RunFailed
 from ..common.files import PMD_ORDER
 from ..common.page_files import PageFlag
 from ..common.script import Options
@@ -27,6 +28,11 @@ from .seen import PageName, PageSeen, Seen
 from .states import NodeState, PageState
 
 DATA = 90  # the byte that subpages with data are filled with
+
+
+def is_whole(mapper: Mapper) -> bool:
+    """Returns whether a process maps its page as one piece."""
+    return mapper.whole
 
 
 @dataclass
@@ -50,7 +56,7 @@ class HeldPage:
         """A process that maps all these subpages: by entries of their own if one does, by a PMD entry only if
         `whole`."""
         found = [mapper for mapper in self.mappers if mapper.mapped & bits == bits and (whole or not mapper.whole)]
-        return min(found, key=lambda mapper: mapper.whole, default=None)
+        return next((mapper for mapper in found if not mapper.whole), found[0] if found else None)
 
     def pieces(self, bits: int, whole: bool) -> List[Tuple[Mapper, int, int]]:
         """Processes with a first and a count that cover these subpages together; none where nobody maps one of them."""
@@ -62,7 +68,7 @@ class HeldPage:
             low = (bits & -bits).bit_length() - 1
             best: Optional[Mapper] = None
             most = 0
-            for mapper in sorted(self.mappers, key=lambda mapper: mapper.whole):
+            for mapper in sorted(self.mappers, key=is_whole):
                 first, count = next(runs(mapper.mapped >> low & bits >> low), (1, 0))
                 if (whole or not mapper.whole) and first == 0 and count > most:
                     best, most = mapper, count
@@ -93,9 +99,15 @@ class KernelPages:
             raise Unsayable(str(refusal)) from refusal
 
     def close(self) -> None:
-        """Ends the script's processes; their pages go with them."""
+        """Ends the script's processes; their pages go with them. Where one fails, all others end nevertheless."""
+        failure: Optional[RunFailed] = None
         for mapper in self._started:
-            mapper.exit()
+            try:
+                mapper.exit()
+            except RunFailed as error:
+                failure = error
+        if failure:
+            raise failure
 
     # what the kernel shows
 
@@ -134,7 +146,7 @@ class KernelPages:
 
     def _alloc(self, node: int, state: NodeState) -> None:
         mapper = self._fork(self._bench.servers[node].process)
-        mapper.at = mapper.tell(f"alloc {state.order} {self._fill}")
+        mapper.alloc(state.order, self._fill)
         frames = mapper.frames(1 << state.order)
         first = frames[0]
         if first is None or first % len(frames) or frames != list(range(first, first + len(frames))):

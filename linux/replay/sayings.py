@@ -10,6 +10,7 @@ told by `thpsplit` too, of a script changed so that it says the kernel's rule:
 
 from __future__ import annotations
 
+import re
 from dataclasses import dataclass, replace
 from typing import Dict, List, Sequence, Set, Tuple
 
@@ -22,11 +23,20 @@ from .known import Known
 from .states import NodeState
 
 NEVER = 511  # max_ptes_none at which no page is underused (mm/huge_memory.c: thp_underused)
-INSERTED = 0  # the place of a command that only tells D
+INSERTED = 0  # the place of a command that only expresses D
+
+_NODE = re.compile("[0-7]")
 
 
 class Unsayable(Exception):
     """What this kernel, or any kernel, can't be asked to do; the text is the reason."""
+
+
+def node_of(words: Sequence[str]) -> int:
+    """Returns the node of a command. InputFault where its words name none."""
+    if len(words) < 2 or not _NODE.fullmatch(words[1]):
+        raise InputFault(f"a command without a node: {' '.join(words)[:60]!r}")
+    return int(words[1])
 
 
 @dataclass(frozen=True)
@@ -53,7 +63,7 @@ class Said:
 
     @property
     def node(self) -> int:
-        return int(self.words[1])
+        return node_of(self.words)
 
 
 @dataclass(frozen=True)
@@ -68,7 +78,7 @@ class Story:
 
 
 def events_of(words: Sequence[str], answer: str) -> int:
-    """How many events a command recorded, by its answer (docs/FORMATS.md)."""
+    """Returns how many events a command recorded, by its answer (docs/FORMATS.md)."""
     if answer.startswith("refused ") or words[0] == "count" or answer in ("done", "no-batch"):
         return 0
     if words[0] in ("scan", "take", "putback"):
@@ -80,27 +90,31 @@ def events_of(words: Sequence[str], answer: str) -> int:
 
 
 def said_of(steps: Sequence[Step], text: str, options: Options, program: Program) -> List[Said]:
-    """The program's answers and events of the steps that a text says."""
+    """Returns the program's answers and events of the steps of a text. InputFault where it has others."""
     answers = program.answers(text, options.words())
     if len(answers) != len(steps):
         raise InputFault(f"{program.path} gives {len(answers)} answers to {len(steps)} commands")
     rest = [list(node.events) for node in program.journal(text, options.words())]
     out = []
     for step, answer in zip(steps, answers):
-        node, count = int(step.words[1]), events_of(step.words, answer.text)
+        try:
+            node, count = node_of(step.words), events_of(step.words, answer.text)
+        except (ValueError, KeyError) as error:
+            raise InputFault(f"{program.path} gives an answer that is none (command {step.place})") from error
         if len(rest) <= node or len(rest[node]) < count:
-            raise InputFault(f"{program.path} says fewer events than answers tell (command {step.place})")
+            raise InputFault(f"{program.path} reports fewer events than its answers (command {step.place})")
         out.append(Said(step.place, step.words, answer.text, tuple(rest[node][:count])))
         del rest[node][:count]
     return out
 
 
 def story_of(script: Script, program: Program) -> Story:
-    """The kernel's story of a script. Unsayable where workers share a node; Refused where the script has a fault."""
+    """Returns the kernel's story of a script. Unsayable where workers share a node; Refused where the script has a
+    fault."""
     steps = [Step(i, command.section, command.words) for i, command in enumerate(script.commands(), 1)]
-    owners: Dict[int, int] = {}
+    owners: Dict[str, int] = {}
     for step in steps:
-        if step.section and owners.setdefault(int(step.words[1]), step.section) != step.section:
+        if step.section and owners.setdefault(" ".join(step.words[1:2]), step.section) != step.section:
             raise Unsayable("workers share a node: the kernel has no such schedule")
     options, known = script.options, set()
     said = said_of(steps, script.text, options, program)

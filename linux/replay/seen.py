@@ -3,12 +3,17 @@
 from __future__ import annotations
 
 import json
+import re
 from dataclasses import dataclass
 from typing import Any, Dict, List, Optional, Tuple
 
 from ..common.counters import Counter, Counts, SizeCounter
+from ..common.errors import InputFault
+from ..common.files import PMD_ORDER
 
 PageName = Tuple[int, int]  # node, page
+
+MOST_SUBPAGES = 1 << PMD_ORDER
 
 
 @dataclass(frozen=True)
@@ -24,15 +29,15 @@ class PageSeen:
 @dataclass(frozen=True)
 class Seen:
     """The kernel at one moment. Counters since the script's start, the PMD splits that only served to map less than
-    a whole page taken off. A queue lists page numbers, oldest first; a frame of no page stands as its negative; None:
-    it wasn't read."""
+    a whole page taken off. A queue lists page numbers, oldest first, and a frame of no page as its negative; None: it
+    wasn't read."""
 
     counts: Counts
     pages: Dict[PageName, PageSeen]
     queues: List[Optional[List[int]]]
 
     def line(self) -> str:
-        """The look as a line of JSON."""
+        """Returns the look as a line of JSON."""
         machine = {key.value: value for key, value in self.counts.machine.items()}
         sizes = [[key.value, order, value] for (key, order), value in self.counts.sizes.items()]
         pages = [[*name, page.whole, _packed(page.counts), hex(page.mapped)] for name, page in self.pages.items()]
@@ -40,19 +45,48 @@ class Seen:
 
 
 def seen_of(line: str) -> Seen:
-    """The look that a line tells."""
-    told: Dict[str, Any] = json.loads(line)
-    machine = {Counter(key): value for key, value in told["machine"].items()}
-    sizes = {(SizeCounter(key), order): value for key, order, value in told["sizes"]}
-    pages = {
-        (node, page): PageSeen(whole, _unpacked(counts), int(mapped, 16))
-        for node, page, whole, counts, mapped in told["pages"]
-    }
-    return Seen(Counts(machine, sizes), pages, told["queues"])
+    """Returns the look of a line. InputFault where the line isn't one."""
+    try:
+        told: Dict[str, Any] = json.loads(line)
+        machine = {Counter(key): _or_none(value) for key, value in told["machine"].items()}
+        sizes = {(SizeCounter(key), _index(order)): _or_none(value) for key, order, value in told["sizes"]}
+        pages = {
+            (_index(node), _index(page)): PageSeen(_index(whole), _unpacked(counts), _set(mapped))
+            for node, page, whole, counts, mapped in told["pages"]
+        }
+        queues = [None if queue is None else [_whole(page) for page in queue] for queue in told["queues"]]
+    except (ValueError, KeyError, TypeError, AttributeError, RecursionError) as error:
+        raise InputFault(f"a line that is no look: {line[:60]!r}") from error
+    return Seen(Counts(machine, sizes), pages, queues)
+
+
+def _or_none(value: Any) -> Optional[int]:
+    return None if value is None else _whole(value)
+
+
+def _whole(value: Any) -> int:
+    """A whole number of at most 64 bits."""
+    if type(value) is not int or abs(value) >= 1 << 64:
+        raise ValueError("no whole number")
+    return value
+
+
+def _index(value: Any) -> int:
+    """A whole number that isn't negative."""
+    if _whole(value) < 0:
+        raise ValueError("a negative number")
+    return _whole(value)
+
+
+def _set(text: str) -> int:
+    """A set of the subpages of one page, in hexadecimal digits."""
+    if not re.fullmatch(f"0x[0-9a-f]{{1,{MOST_SUBPAGES // 4}}}", text):
+        raise ValueError("no set of subpages")
+    return int(text, 16)
 
 
 def _packed(counts: Tuple[int, ...]) -> List[List[int]]:
-    """Runs of equal counts, as [count, how many]."""
+    """Returns runs of equal counts, as [count, how many]."""
     out: List[List[int]] = []
     for count in counts:
         if out and out[-1][0] == count:
@@ -63,4 +97,6 @@ def _packed(counts: Tuple[int, ...]) -> List[List[int]]:
 
 
 def _unpacked(runs: List[List[int]]) -> Tuple[int, ...]:
-    return tuple(count for count, many in runs for _ in range(many))
+    if sum(_index(many) for _, many in runs) > MOST_SUBPAGES:
+        raise ValueError("more subpages than a page has")
+    return tuple(_index(count) for count, many in runs for _ in range(many))

@@ -9,6 +9,7 @@ from __future__ import annotations
 from dataclasses import dataclass, field
 from typing import List, Optional, Tuple
 
+from ..common.errors import InputFault
 from ..common.journal import Event
 from ..common.subpages import bits_of
 
@@ -80,10 +81,17 @@ class NodeState:
         return self.threshold is not None
 
     def apply(self, event: Event) -> None:
-        """Does one event of the journal."""
+        """Applies one event of the journal. InputFault where it can't have happened here."""
+        try:
+            self._apply(event)
+        except (IndexError, ValueError) as error:
+            raise InputFault(f"a journal with an event that can't be: {event.text()}") from error
+
+    def _apply(self, event: Event) -> None:
         if event.word == "close":
             return
-        assert event.page is not None
+        if event.page is None or event.first + event.count > 1 << self.order:
+            raise ValueError("no page, or a range beyond it")
         if event.word == "alloc":
             self.pages.append(PageState.new(self.order, self.zero_filled))
             if self.splits_underused:
@@ -130,7 +138,8 @@ class NodeState:
 
     def _places(self, event: Event, page: PageState) -> None:
         number = event.page
-        assert number is not None
+        if number is None:
+            raise ValueError("no page")
         if event.word == "taken":
             self.queue.remove(number)
             self.flight.append(number)

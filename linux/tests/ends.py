@@ -47,12 +47,12 @@ class Shot:
 
 
 def is_own(process: Path) -> bool:
-    """Whether a folder of /proc is of a process that the tools start."""
+    """Whether a folder of /proc is of a process that the tools start. A helper's name may begin with a hash."""
     try:
         words = (process / "cmdline").read_bytes().split(b"\0")
     except OSError:
         return False
-    return any(Path(word.decode(errors="replace")).name in NAMES for word in words[:4])
+    return any(Path(word.decode(errors="replace")).name.split("-")[-1] in NAMES for word in words[:4])
 
 
 def shot() -> Shot:

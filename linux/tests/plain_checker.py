@@ -6,8 +6,12 @@ from __future__ import annotations
 
 import os
 import sys
+from pathlib import Path
 
-from plain_program import first_illegal
+sys.path[:0] = [str(Path(__file__).resolve().parent.parent.parent / "tests")]
+sys.dont_write_bytecode = True
+
+from script import first_illegal  # noqa: E402
 
 
 def main() -> int:
@@ -15,7 +19,7 @@ def main() -> int:
     if "--help" in words:
         print("Usage: thpcheck [--explain]" if explains else "Usage: thpcheck")
         return 0
-    lines = sys.stdin.read().splitlines()
+    lines = sys.stdin.read().split("\n")[:-1]
     line = first_illegal(lines)
     print("legal" if line is None else f"illegal line {line}")
     if line is not None and "--explain" in words:

@@ -1,18 +1,21 @@
 #!/usr/bin/env python3
-"""A stand-in for `thpsplit`: the plain reading of the model in tests/model.py. $PLAIN_BUG plants a bug in it.
+"""A stand-in for `thpsplit`: the plain reading of the model in tests/model.py. $PLAIN_BUG injects a bug into it.
 
     unmap-short       a range unmapped is one subpage short
-    back-at-head      what is put back stands at the queue's head
+    back-at-head      what is put back joins the queue at its head
     splits-pinned     a pinned page is split
     forgets-free      a freed page stays in the queue
+
+The tools run their programs with an environment of their own: `spoilt` makes a program that sets the variable.
 """
 
 from __future__ import annotations
 
 import os
+import shlex
 import sys
 from pathlib import Path
-from typing import Callable, Dict, List
+from typing import Callable, Dict, List, Set, Tuple, Type, Union
 
 ROOT = Path(__file__).resolve().parent.parent.parent
 sys.path[:0] = [str(ROOT / "tests"), str(ROOT)]
@@ -22,6 +25,7 @@ from model import Node  # noqa: E402  (the second opinion of tests/)
 from script import RANGE_CALLS, Run, first_illegal  # noqa: E402
 
 from linux.common.script import options_of  # noqa: E402
+from linux.common.text import text_lines  # noqa: E402
 
 
 class UnmapShort(Node):
@@ -38,7 +42,7 @@ class BackAtHead(Node):
             self.flight(caller).insert(0, self.flight(caller).pop())
             return kept(caller)
 
-        self.returned = returned  # type: ignore[method-assign]
+        setattr(self, "returned", returned)
         return super().scan(caller, most)
 
 
@@ -53,16 +57,25 @@ class SplitsPinned(Node):
 
 
 class ForgetsFree(Node):
-    def lost(self, caller: int, number: int, held: set, used: set, *words: object) -> str:
+    def lost(self, caller: int, number: int, held: Set[int], used: Set[int], *words: Union[int, str]) -> str:
         """A page that its last unmap frees only says that it stays."""
         answer = super().lost(caller, number, held, used, *words)
         self.journal[-1] = self.journal[-1].replace(" freed ", " stays ")
         return answer.replace("freed ", "stays ")
 
 
-BUGS: Dict[str, type] = {
+BUGS: Dict[str, Type[Node]] = {
     "unmap-short": UnmapShort, "back-at-head": BackAtHead, "splits-pinned": SplitsPinned, "forgets-free": ForgetsFree,
 }
+
+
+def spoilt(bug: str, folder: str) -> str:
+    """Makes a program with a bug in a folder, and returns its path."""
+    path = os.path.join(folder, f"plain-{bug}")
+    with open(path, "w", encoding="ascii") as file:
+        file.write(f'#!/bin/sh\nPLAIN_BUG={bug} exec {shlex.quote(str(Path(__file__).resolve()))} "$@"\n')
+    os.chmod(path, 0o755)
+    return path
 
 
 def run_of(text: str, words: List[str]) -> Run:
@@ -72,8 +85,8 @@ def run_of(text: str, words: List[str]) -> Run:
     if kind:
         run.nodes = [kind(node.blocks, node.order, node.underused) for node in run.nodes]
         RANGE_CALLS["unmap"] = kind.unmap_sub
-    sections: List[tuple] = []
-    for line in text.splitlines():
+    sections: List[Tuple[int, List[str]]] = []
+    for line in text_lines(text):
         if line and not line.startswith("#"):
             words = line.split()
             if words[0] in ("setup", "worker"):
@@ -88,7 +101,7 @@ def run_of(text: str, words: List[str]) -> Run:
 def main() -> int:
     text, words = sys.stdin.read(), sys.argv[1:]
     if "--check" in words:
-        line = first_illegal(text.splitlines())
+        line = first_illegal(text_lines(text))
         print("legal" if line is None else f"illegal line {line}")
         return int(line is not None)
     kind = words[words.index("--report") + 1] if "--report" in words else "totals"

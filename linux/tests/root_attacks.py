@@ -215,9 +215,9 @@ def spoilt_streams() -> Optional[str]:
             if wrong:
                 return f"{closed} closed: {wrong}"
         with open("/dev/full", "wb") as full:
-            wrong = call(words, stdout=full).wrong([FAILED], "No space left")
-        if wrong:
-            return f"full: {wrong}"
+            ended = call(words, stdout=full)
+        if ended.wrong([FAILED]) or b"No space left" not in ended.problems:
+            return f"full: {ended.status}, {ended.problems!r}"
     return None
 
 
@@ -270,18 +270,31 @@ def settings() -> List[str]:
     return [read(path) for path in paths if "stats" not in path.parts]
 
 
+def end_of(child: subprocess.Popen[bytes]) -> bytes:
+    """What a tool wrote on standard error. One that a signal didn't end is sent SIGTERM."""
+    try:
+        return child.communicate(timeout=1)[1]
+    except subprocess.TimeoutExpired:
+        child.send_signal(signal.SIGTERM)
+    try:
+        return child.communicate(timeout=SECONDS)[1]
+    except subprocess.TimeoutExpired:
+        child.kill()
+        return child.communicate()[1] + b"Traceback: SIGTERM didn't end it"
+
+
 def signals_at_random(words: List[str], rounds: int) -> Optional[str]:
     """Any signal at any moment: no traceback, and all is put back."""
     chance, before = random.Random(1), settings()
     kinds = [signal.SIGINT, signal.SIGTERM, signal.SIGHUP, signal.SIGQUIT, signal.SIGPIPE, signal.SIGALRM, signal.SIGUSR1,
              signal.SIGABRT, signal.SIGKILL, signal.SIGSEGV]
     for _ in range(rounds):
-        sent, moment = chance.choice(kinds), chance.uniform(0.01, 1.2)
+        sent, moment = chance.choice(kinds), chance.uniform(0.1, 1.2)
         child = subprocess.Popen(words, stdin=subprocess.DEVNULL, stdout=subprocess.PIPE, stderr=subprocess.PIPE,
                                  preexec_fn=partial(signal.signal, signal.SIGINT, signal.default_int_handler))
         time.sleep(moment)
         child.send_signal(sent)
-        _, told = child.communicate(timeout=SECONDS)
+        told = end_of(child)
         if b"Traceback" in told:
             return f"{sent.name} after {moment:.2f} s: {told[-300:]!r}"
         if settings() != before:
@@ -314,7 +327,7 @@ def main() -> int:
     tools = {"thpwhatif now": [WHATIF, "now", "--all", "--freeze"], "thpwhatif verify": [WHATIF, "verify", "--rounds", "9"],
              "thpreplay": [REPLAY, "--random", "1000", "--quiet"], "thprecord": [RECORD, "--own", "1,100000,1"]}
     for name, words in tools.items():
-        cases.run(f"signals to {name}", partial(signals_at_random, words, 12))
+        cases.run(f"signals to {name}", partial(signals_at_random, words, 10))
     return cases.end()
 
 

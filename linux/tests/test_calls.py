@@ -109,7 +109,7 @@ class AreasTest(unittest.TestCase):
     def test_a_page_that_moves_to_an_aligned_place(self) -> None:
         journalist = self.moved(OTHER)
         self.assertEqual(words(journalist)[1:], ["splitpmd 0", "unmapsub 0 8 8 queued -"])
-        self.assertEqual(journalist.lines[1].page.maps[SPACE].base, OTHER)
+        self.assertEqual([mapping.base for mapping in journalist.mappings_of(SPACE)], [OTHER])
 
     def test_a_page_that_moves_to_another_place_loses_its_pmd_entry(self) -> None:
         story = Calls()

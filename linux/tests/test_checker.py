@@ -14,13 +14,13 @@ from unittest import mock
 from ..common import checker as checkers
 from ..common import program as programs
 from ..common.checker import Checker, find_judge
-from ..common.errors import Unavailable
+from ..common.errors import InputFault, Unavailable
 from ..common.program import Program
 from ..common.journal import journal_of
 from ..record.journalist import Journalist
 from ..record.judging import JournalFile, Judged, judge
 from ..record.state import Settings
-from ..record.tampering import Spoil, tampered
+from ..record.tampering import Spoil, journal_in, tampered
 from .recordings import recording
 
 HERE = Path(__file__).resolve().parent
@@ -62,7 +62,8 @@ class ExplainedTest(unittest.TestCase):
         folder = tempfile.TemporaryDirectory()
         self.addCleanup(folder.cleanup)
         path = Path(folder.name) / "checker"
-        path.write_text(f'#!/bin/sh\nPLAIN_EXPLAINS=1 exec {PLAIN_CHECKER} "$@"\n')
+        path.write_text("#!/usr/bin/env python3\nimport os, sys\nos.environ['PLAIN_EXPLAINS'] = '1'\n"
+                        f"os.execv('{PLAIN_CHECKER}', ['checker', *sys.argv[1:]])\n")
         path.chmod(0o755)
         return Checker(str(path))
 
@@ -144,3 +145,34 @@ class FoundTest(unittest.TestCase):
         self.assertEqual(find_judge(checker=check).path, check)
         with self.assertRaisesRegex(Unavailable, "no program nowhere"):
             find_judge(checker="nowhere")
+
+
+class TamperingTest(unittest.TestCase):
+    """Journals are read from files that can hold anything."""
+
+    def refused(self, content: bytes) -> str:
+        with tempfile.NamedTemporaryFile() as file:
+            file.write(content)
+            file.flush()
+            with self.assertRaises(InputFault) as caught:
+                journal_in(file.name)
+            return str(caught.exception).replace(file.name, "FILE")
+
+    def test_bytes_that_are_no_journal(self) -> None:
+        chance, text = random.Random(4), journal_of_one_thread().encode()
+        self.refused(b"")
+        for _ in range(300):
+            self.refused(chance.randbytes(chance.randrange(1, 300)))
+        for at in range(30):
+            place = chance.randrange(len(text) - 1)
+            self.refused(text[:place] + bytes([chance.choice(b"\x00\x80\xff\n\r\x1c x")]) + text[place:])
+        self.assertEqual(self.refused(b"thp-journal 1\nnode 0 blocks 8\n0 split 0 0-99999999999\nend\n"),
+                         "FILE: line 3 of the journal is neither a node nor an event")
+        self.assertEqual(self.refused(b"thp-journal 1\n0 alloc 0\nend\n"),
+                         "FILE: line 2 of the journal is neither a node nor an event")
+
+    def test_one_that_is_a_journal(self) -> None:
+        with tempfile.NamedTemporaryFile() as file:
+            file.write(journal_of_one_thread().encode())
+            file.flush()
+            self.assertEqual(journal_in(file.name)[1], journal_of_one_thread())

@@ -18,7 +18,7 @@ from ..common.btf import Missing, Types
 from ..common.errors import Busy, InputFault, Unavailable
 from ..common.files import chosen
 from ..common.groups import find_hierarchy
-from ..common.guardian import put_back, write
+from ..common.guardian import Entry, put_back, write
 from ..common.holding import held
 from ..common.journal import journal_of, journal_text
 from ..common.keeper import Keeper
@@ -246,8 +246,8 @@ class KeeperTest(unittest.TestCase):
     def test_a_setting_that_a_group_holds_goes_back_after_it(self) -> None:
         """Version 2: a group's subtree_control can't be taken back while a group of ours below it uses it."""
         (self.folder / "group").mkdir()
-        entries = [{"file": str(self.folder / "setting"), "text": "former", "set": "new"},
-                   {"group": str(self.folder / "group"), "inode": 0}]
+        entries: List[Entry] = [{"file": str(self.folder / "setting"), "text": "former", "set": "new"},
+                                {"group": str(self.folder / "group"), "inode": 0}]
 
         def refused(path: str, text: str) -> str:
             return "busy" if (self.folder / "group").exists() else write(path, text)
@@ -271,7 +271,7 @@ class KeeperTest(unittest.TestCase):
             self.assert_as_before()
 
     def test_a_setting_that_was_changed_since_is_left(self) -> None:
-        entries = [{"file": str(self.folder / "setting"), "text": "former", "set": "new"}]
+        entries: List[Entry] = [{"file": str(self.folder / "setting"), "text": "former", "set": "new"}]
         (self.folder / "setting").write_text("by an administrator\n")
         self.assertRegex(put_back(entries, is_later=True)[0], "has been changed since to 'by an administrator'")
         self.assertEqual((self.folder / "setting").read_text(), "by an administrator\n")

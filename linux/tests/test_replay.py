@@ -1,24 +1,28 @@
-"""Scripts on the kernel, by stored recordings of one: the generator, the comparison, planted bugs told by name."""
+"""Scripts on the kernel, by stored recordings of one: the generator, the comparison, injected bugs found by name."""
 
 from __future__ import annotations
 
 import dataclasses
-import os
 import random
+import tempfile
 import unittest
+from functools import partial
 from pathlib import Path
-from typing import Callable, List, Tuple
+from typing import Callable, Dict, List, Optional, Sequence, Set, Tuple
 from unittest import mock
 
-from ..common.counters import Counter, Counts
+from ..common.counters import Counter, Counts, Quiet, SizeCounter
+from ..common.errors import InputFault
 from ..common.program import Program, Refused
 from ..common.script import Script, read_script, script_of
-from ..replay.expecting import Differs
+from ..replay.__main__ import shape_of, words
+from ..replay.expecting import CountersDiffer, Differs
 from ..replay.generator import Generator, Shape, scripts
 from ..replay.known import Known
-from ..replay.running import Follower, StoredKernel
+from ..replay.running import Follower, Result, Runner, StoredKernel, judged
 from ..replay.sayings import Unsayable, story_of
 from ..replay.seen import PageSeen, Seen, seen_of
+from .plain_program import spoilt
 
 HERE = Path(__file__).resolve().parent
 PLAIN = str(HERE / "plain_program.py")
@@ -29,14 +33,22 @@ def stored(name: str) -> Tuple[Script, List[Seen]]:
     return script, [seen_of(line) for line in (HERE / f"stored/{name}.looks").read_text().splitlines()]
 
 
-def followed(script: Script, looks: List[Seen]) -> str:
+def followed(script: Script, looks: List[Seen], program: str = PLAIN) -> str:
     zeros = any(switch is not None for switch in script.options.underused)
-    return Follower().follow(story_of(script, Program(PLAIN)), zeros, StoredKernel(looks))
+    return Follower().follow(story_of(script, Program(program)), zeros, StoredKernel(looks))
 
 
 def with_counter(look: Seen, counter: Counter, more: int) -> Seen:
-    machine = {**look.counts.machine, counter: (look.counts.machine[counter] or 0) + more}
+    machine: Dict[Counter, Optional[int]] = dict(look.counts.machine)
+    machine[counter] = (machine[counter] or 0) + more
     return dataclasses.replace(look, counts=Counts(machine, look.counts.sizes))
+
+
+def with_failed(look: Seen, more: int) -> Seen:
+    sizes: Dict[Tuple[SizeCounter, int], Optional[int]] = dict(look.counts.sizes)
+    for key, value in sizes.items():
+        sizes[key] = (value or 0) + more * (key[0] is SizeCounter.SPLIT_FAILED)
+    return dataclasses.replace(look, counts=Counts(look.counts.machine, sizes))
 
 
 class StoredTest(unittest.TestCase):
@@ -50,7 +62,24 @@ class StoredTest(unittest.TestCase):
         for look in stored("fork")[1]:
             self.assertEqual(seen_of(look.line()), look)
 
-    def spoilt(self, name: str, at: int, spoil: Callable[[Seen], Seen], told: str) -> None:
+    def test_lines_that_are_no_looks_are_refused(self) -> None:
+        line = stored("fork")[1][3].line()
+        chance = random.Random(3)
+        bad = ["", "{}", "[" * 100000, "null", "NaN", '{"machine": 1}', line[:-5], line.replace("0x", "0x" + "f" * 200),
+               line.replace('"queues": [', '"queues": [[1e99], ')]
+        for text in bad:
+            with self.subTest(text[:40]), self.assertRaises(InputFault):
+                seen_of(text)
+        for _ in range(2000):
+            at = chance.randrange(len(line))
+            letter = chr(chance.choice([chance.randrange(32, 127), 0x2028]))
+            text = line[:at] + letter + line[at + chance.randint(0, 2):]
+            try:
+                seen_of(text)
+            except InputFault:
+                pass
+
+    def differs_if(self, name: str, at: int, spoil: Callable[[Seen], Seen], told: str) -> None:
         script, looks = stored(name)
         looks[at] = spoil(looks[at])
         with self.assertRaisesRegex(Differs, told):
@@ -59,7 +88,7 @@ class StoredTest(unittest.TestCase):
     def test_each_thing_compared_is_told_by_name(self) -> None:
         for counter in Counter:
             told = "failed" if counter is Counter.SPLIT_FAILED else f"{counter.value}, kernel .*command 4: scan 0 8"
-            self.spoilt("first", 4, lambda look, counter=counter: with_counter(look, counter, 1), told)
+            self.differs_if("first", 4, partial(with_counter, counter=counter, more=1), told)
 
     def test_a_map_count_is_told_by_subpage(self) -> None:
         def spoil(look: Seen) -> Seen:
@@ -67,7 +96,7 @@ class StoredTest(unittest.TestCase):
             counts = (*page.counts[:300], 2, *page.counts[301:])
             return dataclasses.replace(look, pages={(0, 0): PageSeen(page.whole, counts, page.mapped)})
 
-        self.spoilt("first", 3, spoil, "map count of page 0 of node 0, subpage 300, kernel 2, thpsplit 1")
+        self.differs_if("first", 3, spoil, "map count of page 0 of node 0, subpage 300, kernel 2, thpsplit 1")
 
     def test_frames_are_told(self) -> None:
         def fewer(look: Seen) -> Seen:
@@ -79,17 +108,17 @@ class StoredTest(unittest.TestCase):
             page = look.pages[0, 0]
             return dataclasses.replace(look, pages={(0, 0): PageSeen(511, page.counts, page.mapped)})
 
-        self.spoilt("first", 4, fewer, "frames of page 0 of node 0, kernel 256-299,301-511, thpsplit 256-511")
-        self.spoilt("first", 2, broken, "frames of page 0 of node 0, kernel 511, thpsplit 512")
+        self.differs_if("first", 4, fewer, "frames of page 0 of node 0, kernel 256-299,301-511, thpsplit 256-511")
+        self.differs_if("first", 2, broken, "frames of page 0 of node 0, kernel 511, thpsplit 512")
 
     def test_the_order_of_a_queue_is_told(self) -> None:
         script, looks = stored("pins")
         at = next(i for i, look in enumerate(looks) if len(look.queues[0] or []) == 3)
-        self.spoilt("pins", at, lambda look: dataclasses.replace(look, queues=[(look.queues[0] or [])[::-1]]),
-                    r"queue of node 0, kernel \[2, 1, 0\], thpsplit \[0, 1, 2\]")
+        self.differs_if("pins", at, lambda look: dataclasses.replace(look, queues=[(look.queues[0] or [])[::-1]]),
+                        r"queue of node 0, kernel \[2, 1, 0\], thpsplit \[0, 1, 2\]")
 
     def test_a_strange_frame_in_a_queue_is_told(self) -> None:
-        self.spoilt("first", 3, lambda look: dataclasses.replace(look, queues=[[0, -4096]]), "frame 0x1000")
+        self.differs_if("first", 3, lambda look: dataclasses.replace(look, queues=[[0, -4096]]), "frame 0x1000")
 
     def test_queues_that_were_not_read_are_not_compared(self) -> None:
         script, looks = stored("pins")
@@ -101,12 +130,79 @@ class StoredTest(unittest.TestCase):
         none = Counts({key: None for key in Counter}, {key: None for key in looks[0].counts.sizes})
         self.assertEqual(followed(script, [dataclasses.replace(look, counts=none) for look in looks]), "W")
 
+    def test_a_counter_alone_leaves_the_own_state_compared(self) -> None:
+        script, looks = stored("first")
+        looks[2:] = [with_counter(look, Counter.SPLIT_PMD, 1) for look in looks[2:]]
+        with self.assertRaises(CountersDiffer) as found:
+            followed(script, looks)
+        self.assertEqual(found.exception.place, "thp_split_pmd command 2: splitpmd 0 0")
+        page = looks[4].pages[0, 0]
+        spoilt_page = PageSeen(page.whole, page.counts, page.mapped & ~(1 << 300))
+        looks[4] = dataclasses.replace(looks[4], pages={(0, 0): spoilt_page})
+        with self.assertRaisesRegex(Differs, "frames of page 0 .*; before it thp_split_pmd") as found_too:
+            followed(script, looks)
+        self.assertNotIsInstance(found_too.exception, CountersDiffer)
 
-class PlantedTest(unittest.TestCase):
+    def test_passes_are_those_of_the_queue_where_counters_move(self) -> None:
+        script, looks = stored("pins")
+        self.assertEqual(followed(script, looks), "F")
+        for more in range(1, 5):
+            with self.subTest(more), self.assertRaises(CountersDiffer):
+                followed(script, [with_failed(look, more) for look in looks])
+
+
+class JudgedTest(unittest.TestCase):
+    """What becomes of a script that differs at each try."""
+
+    def outcome(self, differences: List[Differs], moved: Sequence[int] = ()) -> Result:
+        steps = iter(moved)
+        total = [0]
+
+        def take(_orders: Sequence[int]) -> Counts:
+            total[0] += next(steps, 0)
+            return Counts({Counter.SPLIT: total[0]}, {})
+
+        return judged(differences, Quiet([9], lambda _seconds: None, take)).result
+
+    def test_own_state_differs_whatever_the_counters_do(self) -> None:
+        self.assertIs(self.outcome([Differs("a")] * 3, [0, 1]), Result.DIFFERS)
+
+    def test_a_counter_differs_where_the_machine_is_quiet(self) -> None:
+        same: List[Differs] = [CountersDiffer("a", "here")] * 3
+        self.assertIs(self.outcome(same), Result.DIFFERS)
+        self.assertIs(self.outcome(same, [0, 1]), Result.INCONCLUSIVE)
+        self.assertIs(self.outcome(same, [0] * 31 + [1]), Result.INCONCLUSIVE)
+
+    def test_tries_that_differ_at_other_places_are_inconclusive(self) -> None:
+        self.assertIs(self.outcome([CountersDiffer("a", "here"), CountersDiffer("a", "there")]), Result.INCONCLUSIVE)
+
+    def test_tries_are_run_until_one_agrees(self) -> None:
+        script = script_of("x", "setup\n")
+        for ends, wanted, text in (
+            ([Differs("a"), "F"], Result.AGREES, "agrees (but for F), at another try after: a"),
+            ([Unsayable("b")], Result.SKIPPED, "skipped: b"),
+            ([Differs("a"), Unsayable("b")], Result.INCONCLUSIVE, "inconclusive: b; an earlier try differs: a"),
+            ([Differs("a")] * 3, Result.DIFFERS, "differs: a"),
+        ):
+            runner = Runner(mock.Mock(), mock.Mock(), Follower())
+            with self.subTest(text), mock.patch.object(runner, "_once", side_effect=ends):
+                outcome = runner.run(script)
+            self.assertEqual((outcome.result, outcome.line()), (wanted, text))
+
+    def test_noise_seen_earlier_counts(self) -> None:
+        quiet = Quiet([9], lambda _seconds: None, mock.Mock(side_effect=[
+            Counts({Counter.SPLIT: 1}, {}), Counts({Counter.SPLIT: 2}, {})]))
+        self.assertFalse(quiet.window())
+        outcome = judged([CountersDiffer("a", "here"), Differs("b")], quiet)
+        self.assertIs(outcome.result, Result.INCONCLUSIVE)
+        self.assertIn("other programs move thp_split_page", outcome.line())
+
+
+class InjectedTest(unittest.TestCase):
     def planted(self, bug: str, name: str, told: str) -> None:
         script, looks = stored(name)
-        with mock.patch.dict(os.environ, {"PLAIN_BUG": bug}), self.assertRaisesRegex(Differs, told):
-            followed(script, looks)
+        with tempfile.TemporaryDirectory() as folder, self.assertRaisesRegex(Differs, told):
+            followed(script, looks, spoilt(bug, folder))
 
     def test_an_unmap_that_is_one_short(self) -> None:
         told = r"map count of page 0 of node 0, subpage 255, kernel 0, thpsplit 1 \(command 3: unmap"
@@ -123,7 +219,7 @@ class StoryTest(unittest.TestCase):
     def setUp(self) -> None:
         self.program = Program(PLAIN)
 
-    def story(self, text: str) -> Tuple[set, List[str]]:
+    def story(self, text: str) -> Tuple[Set[Known], List[str]]:
         told = story_of(script_of("x", text), self.program)
         return told.known, [said.answer for said in told.said]
 
@@ -173,6 +269,57 @@ class GeneratorTest(unittest.TestCase):
         self.assertGreater(done, 5 * refused)
 
     def test_every_command_is_drawn(self) -> None:
-        words = {line.split()[0] for script in scripts(60, 1, Shape()) for line in script.text.splitlines()[2:]}
-        self.assertEqual(words, {"alloc", "mapwhole", "unmapwhole", "map", "unmap", "splitpmd", "pin", "unpin", "write",
+        drawn = {line.split()[0] for script in scripts(60, 1, Shape()) for line in script.text.splitlines()[2:]}
+        self.assertEqual(drawn, {"alloc", "mapwhole", "unmapwhole", "map", "unmap", "splitpmd", "pin", "unpin", "write",
                                  "zero", "scan", "count", "take", "splitnext", "putback"})
+
+
+class WordsTest(unittest.TestCase):
+    """Command lines and files, whatever is in them, are used or refused."""
+
+    VALUES = ["", "0", "1", "9", "-1", "nan", "inf", "1e9", "9" * 40, "off", "9,9", "2,,3", ",", "\x1b[2J", "\udcff",
+              "\u0663", "1_0", "0x9", " 1", "--", "-"]
+    OPTIONS = ["--random", "--seed", "--node-counts", "--page-orders", "--thresholds", "--length", "--fill", "--nodes",
+               "--orders", "--underused", "--blocks", "--quiet", "--show", "--no-memory", "--unknown"]
+
+    def test_random_words(self) -> None:
+        chance = random.Random(8)
+        used = 0
+        for _ in range(2000):
+            given = []
+            for _ in range(chance.randint(0, 4)):
+                given += [chance.choice(self.OPTIONS)] + [chance.choice(self.VALUES)] * chance.randint(0, 1)
+            try:
+                asked = words(given)
+                used += len(list(scripts(1, asked.seed, shape_of(asked))))
+            except InputFault as fault:
+                self.assertNotEqual(str(fault), "")
+        self.assertGreater(used, 50)
+
+    def test_random_files(self) -> None:
+        chance = random.Random(9)
+        letters = [b"setup\n", b"worker 1\n", b"worker\n", b"alloc 0\n", b"# thpsplit ", b"--nodes ", b"2 ", b"\n",
+                   b"\xff", b"\0", b"\r", b"\x0b", b"--orders 2,3", b"--underused 9999999999", b" "]
+        with tempfile.TemporaryDirectory() as folder:
+            path = f"{folder}/x.script"
+            for _ in range(2000):
+                text = b"".join(chance.choice(letters) for _ in range(chance.randint(0, 12)))
+                Path(path).write_bytes(text)
+                try:
+                    read_script(path).commands()
+                except InputFault as fault:
+                    self.assertNotEqual(str(fault), "")
+
+    def test_a_worker_without_a_node_is_left_to_the_program(self) -> None:
+        program = mock.Mock(path="x")
+        program.answers.side_effect = Refused("thpsplit: line 2: bad-count")
+        with self.assertRaisesRegex(Refused, "bad-count"):
+            story_of(script_of("x", "worker 1\nalloc\n"), program)
+
+    def test_a_program_that_answers_nonsense_is_refused(self) -> None:
+        for answer in ("taken x", "taken", "", "taken 9 split 9 pinned 9 back"):
+            program = mock.Mock(path="x")
+            program.answers.return_value = [mock.Mock(text=answer)]
+            program.journal.return_value = [mock.Mock(events=[])]
+            with self.subTest(answer), self.assertRaises(InputFault):
+                story_of(script_of("x", "setup\nscan 0 8\n"), program)

@@ -38,7 +38,7 @@ def compact(totals: Sequence[int]) -> Sequence[int]:
     if totals and totals.count(totals[0]) == len(totals):
         return even(totals[0], len(totals))
     most = max(totals, default=0)
-    return bytes(totals) if most < 256 else array("I", (min(total, MOST_MAPPED) for total in totals))
+    return bytes(iter(totals)) if most < 256 else array("I", (min(total, MOST_MAPPED) for total in totals))
 
 
 class Mapping(NamedTuple):

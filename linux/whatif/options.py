@@ -51,6 +51,7 @@ def add_thresholds(words: argparse.ArgumentParser) -> None:
 
 
 def add_program(words: argparse.ArgumentParser) -> None:
+    """The option that names thpsplit."""
     words.add_argument("--program", metavar="PATH", help="the thpsplit to run")
 
 

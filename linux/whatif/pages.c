@@ -18,7 +18,7 @@
 #include <unistd.h>
 
 enum { BASE = 4096, BLOCK = 512, PMD_ORDER = 9, CHUNK = 64, REGIONS = 256, RECENT = 64, TEXT = 1 << 16,
-       LINE = 256 };
+       LINE = 256, BLOCKS = 1 << 18, TOUCHES = 16 };
 
 /* include/uapi/linux/fs.h: PAGEMAP_SCAN (Linux 6.7), for machines whose headers are older */
 enum { IS_FILE = 4, IS_PRESENT = 8, IS_ZERO_FRAME = 32, IS_HUGE = 64 };
@@ -38,12 +38,20 @@ struct piece {
     uint64_t set[BLOCK / 64];
 };
 
+/* Whether a block of frames has huge anonymous pages, once it was touched often: most memory has none. */
+struct known { uint32_t block, touches; enum { UNKNOWN, NONE, SOME } state; };
+
 struct walk {
+    struct known *known;                /* BLOCKS of them, of all processes of a look */
     int map, flags_file, process, with_small;
     struct piece *out;
     long found, most, lost, small, others, changed;
     long recent[RECENT];                /* pieces found last, by their pages: parts of one page become one piece */
     uint64_t block, block_flags[BLOCK]; /* the flags that were read last, and of which block of frames */
+    uint64_t head;                      /* the huge page that was found last in that block, and its order or -1 */
+    int order;
+    uint64_t entries_at, entries[BLOCK]; /* the page table entries that were read last, and from which address on */
+    long have;
 };
 
 static uint64_t frame_of(uint64_t entry) {
@@ -78,28 +86,45 @@ static void put_piece(struct walk *w, uint64_t address, uint64_t head, uint64_t 
 static int read_block(struct walk *w, uint64_t block) {
     if (w->block == block) return 0;
     w->block = ~0ul;
+    w->order = -1;
     long got = pread(w->flags_file, w->block_flags, sizeof w->block_flags, block * BLOCK * 8);
     if (got != sizeof w->block_flags) return -1;
     w->block = block;
     return 0;
 }
 
-/* Finds the huge page round a frame of the block that was read: answers its order and fills `head`, or -1. */
-static int order_around(const struct walk *w, uint64_t frame, uint64_t *head) {
+/* Whether a block of frames is known to have no huge anonymous page. */
+static int is_plain(struct walk *w, uint64_t block) {
+    struct known *k = &w->known[block % BLOCKS];
+    if (k->block != (uint32_t)block) *k = (struct known){ .block = (uint32_t)block };
+    if (k->state == UNKNOWN && ++k->touches >= TOUCHES && !read_block(w, block)) {
+        k->state = NONE;
+        for (int i = 0; i < BLOCK; i++)
+            if (is_ours(w->block_flags[i])) k->state = SOME;
+    }
+    return k->state == NONE;
+}
+
+/* Finds the huge page around a frame of the block that was read: returns its order and fills `head`, or -1. */
+static int order_around(struct walk *w, uint64_t frame, uint64_t *head) {
+    if (w->order >= 0 && frame - w->head < 1ul << w->order) { *head = w->head; return w->order; }
     long low = frame % BLOCK, high = low + 1;
     while (low > 0 && w->block_flags[low] & TAIL) low--;
     if (!(w->block_flags[low] & HEAD) || !is_ours(w->block_flags[low])) return -1;
     while (high < BLOCK && w->block_flags[high] & TAIL) high++;
     long size = high - low;
     if (size & (size - 1)) return -1;
-    *head = frame / BLOCK * BLOCK + low;
-    return __builtin_ctzl(size);
+    w->head = *head = frame / BLOCK * BLOCK + low;
+    return w->order = __builtin_ctzl(size);
 }
 
 /* Takes `count` subpages at `address` in consecutive frames of one block. */
 static void take_frames(struct walk *w, uint64_t address, uint64_t frame, long count, int by_pmd) {
     uint64_t flags[BLOCK];
-    if (pread(w->flags_file, flags, count * 8, frame * 8) != count * 8) { w->changed += count; return; }
+    if (!by_pmd && is_plain(w, frame / BLOCK)) { w->others += count; return; }
+    if (w->block == frame / BLOCK)
+        memcpy(flags, w->block_flags + frame % BLOCK, count * 8);
+    else if (pread(w->flags_file, flags, count * 8, frame * 8) != count * 8) { w->changed += count; return; }
     for (long i = 0, taken; i < count; i += taken) {
         uint64_t head;
         int order = -1;
@@ -128,17 +153,30 @@ static void take_whole(struct walk *w, uint64_t at) {
     put_piece(w, at, frame, flags, 0, BLOCK, PMD_ORDER, 1);
 }
 
+/* Reads the page table entries of a block of addresses, once for all ranges in it. Flags that were read before them
+ * don't count. Returns how many entries there are. */
+static long read_entries(struct walk *w, uint64_t at) {
+    if (w->entries_at != at) {
+        long got = pread(w->map, w->entries, sizeof w->entries, at / BASE * 8);
+        w->entries_at = at;
+        w->have = got < 0 ? 0 : got / 8;
+        w->block = ~0ul;
+    }
+    return w->have;
+}
+
 /* Takes what a range of at most one block of addresses maps. */
 static void take_range(struct walk *w, uint64_t at, uint64_t end, int by_pmd) {
-    uint64_t entries[BLOCK];
+    uint64_t begin = at / BASE / BLOCK * BLOCK * BASE;
     if (by_pmd && end - at == BLOCK * BASE) { take_whole(w, at); return; }
-    long have = pread(w->map, entries, (end - at) / BASE * 8, at / BASE * 8) / 8;
-    for (long i = 0; i < have;) {
-        uint64_t frame = frame_of(entries[i]);
+    long have = read_entries(w, begin), last = (end - begin) / BASE;
+    if (have > last) have = last;
+    for (long i = (at - begin) / BASE; i < have;) {
+        uint64_t frame = frame_of(w->entries[i]);
         long count = 1;
         if (!frame) { i++; continue; }
-        while (i + count < have && frame_of(entries[i + count]) == frame + count && (frame + count) % BLOCK) count++;
-        take_frames(w, at + i * BASE, frame, count, by_pmd);
+        while (i + count < have && frame_of(w->entries[i + count]) == frame + count && (frame + count) % BLOCK) count++;
+        take_frames(w, begin + i * BASE, frame, count, by_pmd);
         i += count;
     }
 }
@@ -147,12 +185,13 @@ struct sums { int64_t lost, small, others, changed; };
 
 /* Fills `out` with at most `most` pieces; returns how many, or -errno. `sums`: pieces that had no room, pages below
  * PMD size that weren't asked for, anonymous base pages beside them, base pages whose flags no longer fit their page
- * table. */
-long walk_process(int pid, int flags_file, int with_small, struct piece *out, long most, struct sums *sums) {
+ * table. `known`: BLOCKS entries, zero before the first process. */
+long walk_process(int pid, int flags_file, int with_small, struct known *known, struct piece *out, long most,
+                  struct sums *sums) {
     char path[64];
     struct region regions[REGIONS];
-    struct walk w = { .flags_file = flags_file, .process = pid, .with_small = with_small, .out = out, .most = most,
-                      .block = ~0ul };
+    struct walk w = { .known = known, .flags_file = flags_file, .process = pid, .with_small = with_small,
+                      .out = out, .most = most, .block = ~0ul, .order = -1, .entries_at = ~0ul };
     snprintf(path, sizeof path, "/proc/%d/pagemap", pid);
     w.map = open(path, O_RDONLY | O_CLOEXEC);
     if (w.map < 0) return -errno;

@@ -12,6 +12,7 @@ import subprocess
 import tempfile
 from concurrent.futures import ThreadPoolExecutor
 from dataclasses import dataclass
+from functools import partial
 from typing import Dict, Iterator, List, Optional, Sequence, Tuple
 
 from ..common.errors import InputFault, RunFailed
@@ -22,6 +23,8 @@ from .scripts import Page, Script
 
 OFF = 511
 DEFAULT = (OFF, 0, 16, 64, 128, 256, 409, 510)
+BLOCK = 1 << 20  # bytes of a report that are read at a time
+SPLIT = rb"^(?:node ([0-9]{1,4}) .*|[0-9]+ split ([0-9]{1,6}) ([0-9,-]{1,4000}))$"  # lines of a journal
 
 
 def label(threshold: int) -> str:
@@ -91,7 +94,7 @@ class Predictor:
         self._pages: List[List[List[Page]]] = []  # by script, node and number; empty until it is needed
 
     def _report(self, kind: str, script: Script, threshold: int) -> Iterator[bytes]:
-        """Yields the lines of a report on a script. Refused where the script has an error."""
+        """Yields a report on a script, in blocks of whole lines. Refused where the script has an error."""
         each = ",".join(str(min(threshold, (1 << order) - 1)) for order in script.orders)
         words = [*script.options(), "--underused", each, "--report", kind]
         with tempfile.TemporaryFile(prefix="thpwhatif-") as text, tempfile.TemporaryFile() as problems:
@@ -100,8 +103,11 @@ class Predictor:
             child = start(self._program.path, words, text, subprocess.PIPE, problems)
             assert child.stdout
             try:
-                for line in child.stdout:
-                    yield line.rstrip(b"\n")
+                rest = b""
+                for data in iter(partial(child.stdout.read, BLOCK), b""):
+                    whole, _, rest = (rest + data).rpartition(b"\n")
+                    yield whole
+                yield rest
             finally:
                 child.stdout.close()
                 status = child.wait()
@@ -115,8 +121,9 @@ class Predictor:
     def _totals(self, script: Script, threshold: int) -> List[Row]:
         nodes: List[Dict[str, int]] = []
         try:
-            for line in self._report("totals", script, threshold):
-                name, value = line.decode("ascii", "replace").split(" ")
+            report = b"\n".join(self._report("totals", script, threshold)).decode("ascii", "replace")
+            for line in filter(None, report.split("\n")):
+                name, value = line.split(" ")
                 if name == "node":
                     nodes.append({})
                 nodes[-1][name] = int(value)
@@ -157,12 +164,18 @@ class Predictor:
         """Yields what becomes of each page that is split."""
         for index, script in enumerate(self.scripts):
             node = -1
-            for line in self._report("journal", script, threshold):
-                found = re.fullmatch(rb"node ([0-9]{1,4}) .*|[0-9]+ split ([0-9]{1,6}) ([0-9,-]{1,4000})", line)
-                if found and found[1] is not None:
-                    node = int(found[1])
-                elif found:
-                    yield Fate(index, node, int(found[2]), set_of(found[3].decode("ascii")))
+            for block in self._report("journal", script, threshold):
+                for found in re.finditer(SPLIT, block, re.MULTILINE):
+                    if found[1] is not None:
+                        node = int(found[1])
+                    else:
+                        yield Fate(index, node, int(found[2]), set_of(found[3].decode("ascii")))
+
+    def shares(self, thresholds: Sequence[int]) -> Dict[int, Dict[int, Share]]:
+        """What each process has of it, by threshold. Runs go side by side."""
+        self._pages = self._pages or [script.pages() for script in self.scripts]
+        with ThreadPoolExecutor(min(4, os.cpu_count() or 1)) as pool:
+            return dict(zip(thresholds, pool.map(self.by_process, thresholds)))
 
     def by_process(self, threshold: int) -> Dict[int, Share]:
         """What each process has of it. A page that several map counts with the one that maps most of it by PMD entries,

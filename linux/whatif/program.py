@@ -7,7 +7,7 @@ import json
 import os
 import sys
 import time
-from contextlib import ExitStack, contextmanager
+from contextlib import ExitStack, contextmanager, suppress
 from typing import Any, Callable, Dict, Iterator, List, NoReturn, Optional, Sequence
 
 from ..common.errors import DONE, InputFault
@@ -22,7 +22,7 @@ from .predict import DEFAULT, OFF, Predictor, Row, Share, highest_with, label, t
 from .processes import Choice
 from .rights import demand_root
 from .scripts import Script, Spool, read_script
-from .snapshot import NAME, Snapshot, Taker, show_progress, told, warnings, write
+from .snapshot import NAME, Snapshot, Taker, guess_of, show_progress, told, warnings, write
 from .stored import from_json
 from .table import (
     FRAMES_A_MEBIBYTE,
@@ -46,11 +46,11 @@ def progress() -> Optional[Callable[[str, int, int], None]]:
         return None
     began = time.monotonic()
 
-    def show(what: str, done: int, of: int) -> None:
+    def show_late(what: str, done: int, of: int) -> None:
         if time.monotonic() - began > SLOW:
             show_progress(what, done, of)
 
-    return show
+    return show_late
 
 
 def look(asked: argparse.Namespace, choice: Choice) -> Snapshot:
@@ -68,7 +68,14 @@ class Output:
         """Writes a text. InputFault where that isn't possible."""
         try:
             self._file.write(text)
-            self._file.flush()
+        except OSError as error:
+            raise InputFault(f"{escaped(self.path)} can't be written: {error.strerror}") from error
+
+    def close(self) -> bool:
+        """Closes the file; returns whether it holds anything."""
+        try:
+            self._file.close()
+            return os.stat(self.path).st_size > 0
         except OSError as error:
             raise InputFault(f"{escaped(self.path)} can't be written: {error.strerror}") from error
 
@@ -83,10 +90,12 @@ def output(path: Optional[str]) -> Iterator[Optional[Output]]:
     out, is_done = Output(path), False
     try:
         yield out
-        is_done = os.stat(path).st_size > 0
+        is_done = out.close()
     finally:
         if not is_done:
             os.unlink(path)
+            with suppress(InputFault):
+                out.close()
 
 
 def read_scripts(paths: Sequence[str]) -> List[Script]:
@@ -129,7 +138,7 @@ def show(
     began = time.monotonic()
     rows = predictor.run(thresholds)
     names = {number: name for script in scripts for number, name in script.processes().items()}
-    shares = {t: predictor.by_process(t) for t in thresholds} if asked.by_process else {}
+    shares = predictor.shares(thresholds) if asked.by_process else {}
     groups = predictor.by_group(thresholds) if asked.by_cgroup else {}
     left_out = dict(snapshot.left_out) if snapshot else left_out_of(scripts)
     if svg:
@@ -286,7 +295,8 @@ def command_watch(asked: argparse.Namespace) -> int:
         snapshot = taker.take(choice)
         thresholds = with_today(given, None if asked.thresholds else snapshot.today)
         rows = Predictor(write(snapshot).scripts, program).run(thresholds)
-        notes = [last_line(snapshot.left_out)] if any(snapshot.left_out.values()) else []
+        notes = ([snapshot.note] if snapshot.note else []) + ([guess_of(snapshot)] if snapshot.lacking else [])
+        notes += [last_line(snapshot.left_out)] if any(snapshot.left_out.values()) else []
         return Look(rows, snapshot.today, notes + warnings(snapshot))
 
     watch(look_once, asked.seconds, asked.rounds)

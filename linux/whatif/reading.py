@@ -20,7 +20,7 @@ from bisect import bisect_right
 from collections import Counter, defaultdict
 from concurrent.futures import ThreadPoolExecutor
 from dataclasses import replace
-from typing import Callable, Dict, List, Optional, Sequence, Tuple
+from typing import Callable, Dict, List, Optional, Sequence, Set, Tuple
 
 from ..common.direct_map import DirectMap
 from ..common.errors import Unavailable
@@ -44,6 +44,7 @@ OPEN = 64  # files of processes' memory that one task has open
 MEMORY = 512  # MiB that a look keeps at most, if no other limit is given
 PIECE_COST, FOLIO_COST = 400, 2600  # bytes of a mapping and of a huge page, with all that is made of them
 MOST_LOCKED = 1 << 20  # locked areas of a process
+KNOWN = 12 << 18  # bytes that pages.c has for blocks of frames
 
 
 class Piece(ctypes.Structure):
@@ -75,7 +76,7 @@ def load_library() -> ctypes.CDLL:
     """Loads the C helper. Unavailable where it isn't built and there is no compiler."""
     library = ctypes.CDLL(helper("whatif/pages.c", ["-shared", "-fPIC"]))
     number, long, pointer = ctypes.c_int, ctypes.c_long, ctypes.c_void_p
-    library.walk_process.argtypes = [number, number, number, pointer, long, pointer]
+    library.walk_process.argtypes = [number, number, number, pointer, pointer, long, pointer]
     library.walk_process.restype = long
     library.find_locked.argtypes = [number, pointer, long]
     library.find_locked.restype = long
@@ -130,6 +131,7 @@ class Reader:
         self._progress = progress or (lambda what, done, of: None)
         self._most = (memory << 20) // (PIECE_COST + FOLIO_COST)
         self._room, self._span_room = Room(self._most * PIECE.size), Room(MOST_LOCKED * 16)
+        self._known = Room(KNOWN)
         self._files = [open_numbers(f"/proc/kpage{name}") for name in ("flags", "count")]
         try:
             self._files.append(open_numbers("/proc/kpagecgroup"))
@@ -140,6 +142,7 @@ class Reader:
         self._sample: List[Tuple[Folio, Folio]] = []
         self.folios: Dict[int, Folio] = {}  # by frame
         self.left_out: Counter[str] = Counter()
+        self.denied: Set[int] = set()  # processes whose content may not be read
         self.others = 0  # anonymous pages that aren't huge, base pages
         self.by_pmd: Counter[int] = Counter()  # PMD mappings by process
         self.spent: Dict[str, float] = defaultdict(float)  # seconds by step
@@ -162,7 +165,13 @@ class Reader:
         used = self._pieces * PIECE_COST + len(self.folios) * FOLIO_COST + self._spans * 16
         most = max(0, min(self._most, ((self._memory << 20) - used) // (PIECE_COST + FOLIO_COST)))
         found = self._library.walk_process(
-            process, self._files[0], self._with_small, self._room.address, most, ctypes.byref(sums)
+            process,
+            self._files[0],
+            self._with_small,
+            self._known.address,
+            self._room.address,
+            most,
+            ctypes.byref(sums),
         )
         if found in (-errno.ENOTTY, -errno.EINVAL):
             raise Unavailable("this kernel has no PAGEMAP_SCAN (before Linux 6.7)")
@@ -252,6 +261,7 @@ class Reader:
                         wanted &= ~self._read_mapping(folio, mapping, file, wanted, data)
                 if folio.known == folio.full:
                     folio.known = folio.full  # one object for all pages
+        self.denied |= memory.denied
 
     def _read_mapping(self, folio: Folio, mapping: Mapping, memory: int, wanted: int, data: int) -> int:
         """Reads those of the wanted subpages that a process maps; returns which are known then."""
@@ -330,6 +340,7 @@ class OpenFiles:
     def __init__(self, name: str, most: int = OPEN) -> None:
         self._name, self._most = name, most
         self._open: Dict[int, int] = {}
+        self.denied: Set[int] = set()  # processes whose file may not be opened
 
     def of(self, process: int) -> int:
         """Returns the process's open file; -1 where it can't be opened."""
@@ -338,8 +349,10 @@ class OpenFiles:
                 self.close()
             try:
                 self._open[process] = os.open(path_of(process, self._name), os.O_RDONLY | os.O_CLOEXEC)
-            except OSError:
-                self._open[process] = -1  # it ended: what nobody else maps stays unknown
+            except OSError as error:
+                self._open[process] = -1  # what nobody else maps stays unknown
+                if isinstance(error, PermissionError):
+                    self.denied.add(process)
         return self._open[process]
 
     def numbers(self, process: int, first: int, count: int) -> Sequence[int]:

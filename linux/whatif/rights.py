@@ -43,12 +43,7 @@ def demand_signals(processes: Iterable[int]) -> None:
             continue  # it ended
 
 
-def refusal(process: int) -> Unavailable:
-    """Returns the error of a process whose memory this process may not read for want of a capability."""
-    return Unavailable(f"process {process} can't be read: CAP_SYS_PTRACE is missing")
-
-
-def missing_for_kernel() -> str:
-    """Returns which capabilities for BPF are missing, in words for the end of a reason."""
-    missing = lacking("CAP_BPF", "CAP_PERFMON") if lacking("CAP_SYS_ADMIN") else []
-    return f" ({' and '.join(missing)} missing)" if missing else ""
+def demand_reading(process: int) -> None:
+    """Unavailable where the capability is missing to read the memory of others: for a process that wasn't readable."""
+    if lacking("CAP_SYS_PTRACE"):
+        raise Unavailable(f"process {process} can't be read: CAP_SYS_PTRACE is missing")

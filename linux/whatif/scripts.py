@@ -34,11 +34,15 @@ class Spool:
     """An unnamed temporary file, into which texts are written one after the other."""
 
     def __init__(self) -> None:
+        self.length = 0
         try:
             self._file: IO[bytes] = tempfile.TemporaryFile(prefix="thpwhatif-")
         except OSError as error:
             raise RunFailed(f"no temporary file: {error.strerror}") from error
-        self.length = 0
+
+    def __del__(self) -> None:
+        if hasattr(self, "_file"):
+            self._file.close()
 
     def add(self, data: bytes) -> None:
         """Writes bytes at the end."""

@@ -22,11 +22,11 @@ from ..common.kernel_memory import KernelMemory
 from ..common.machine import namespace_note
 from ..common.text import escaped
 from .folios import Folio
-from .proc import Unreadable, anonymous_huge, group_names, lacking, machine_huge, name_of
+from .proc import Unreadable, anonymous_huge, group_names, machine_huge, name_of
 from .processes import Choice
 from .queues import Queues
 from .reading import MEMORY, MOVED, Progress, Reader
-from .rights import demand_frames, demand_signals, missing_for_kernel, refusal
+from .rights import demand_frames, demand_reading, demand_signals
 from .saying import Said, Unsayable, prepare
 from .scripts import Script, write_scripts
 
@@ -157,8 +157,7 @@ def told(snapshot: Snapshot) -> List[str]:
             f"by the kernel's own count {mebibytes(sums.machine)} MiB"
         )
     if snapshot.lacking:
-        guess = "a guess, each page is taken as queued and not pinned"
-        lines.append(f"queues and pins weren't read ({snapshot.lacking}): {guess}")
+        lines.append(guess_of(snapshot))
     else:
         counts = Counter({"queued": 0, "partly mapped": 0, "pinned": 0, "locked": 0})
         for folio in snapshot.folios:
@@ -172,6 +171,11 @@ def told(snapshot: Snapshot) -> List[str]:
     held_still = snapshot.hold or "held still meanwhile"
     lines.append(held_still if snapshot.held else "not held: each subpage was so at some moment")
     return lines + warnings(snapshot)
+
+
+def guess_of(snapshot: Snapshot) -> str:
+    """Returns in words that queues and pins are guessed."""
+    return f"queues and pins weren't read ({snapshot.lacking}): a guess, each page is taken as queued and not pinned"
 
 
 def warnings(snapshot: Snapshot) -> List[str]:
@@ -225,8 +229,7 @@ class Taker:
                 self._queues, self.lacking = Queues(memory), ""
                 self._direct = DirectMap(memory)
             except (Unavailable, OSError) as error:
-                reason = escaped(str(error).partition("\n")[0]) + missing_for_kernel()
-                self.lacking = "" if self._queues else reason
+                self.lacking = "" if self._queues else escaped(str(error).partition("\n")[0])
 
     def take(self, choice: Choice) -> Snapshot:
         """Looks once. A process that can't be read, or ends meanwhile, is counted in what was left out. While processes
@@ -267,6 +270,9 @@ class Taker:
         places = self._look(reader)
         reader.read_counts()
         reader.read_zeros()
+        for process in sorted(reader.denied):
+            demand_reading(process)
+            reader.left_out[f"content of process {process} ({name_of(process)}): it may not be read"] += 1
         reader.check_again()
         reader.read_sample()
         return sums, places
@@ -280,8 +286,8 @@ class Taker:
                 if reader.by_pmd[process]:
                     sums.kernel += anonymous_huge(process)
             except (OSError, Unreadable) as error:
-                if isinstance(error, PermissionError) and lacking("CAP_SYS_PTRACE"):
-                    raise refusal(process) from error
+                if isinstance(error, PermissionError):
+                    demand_reading(process)
                 reader.left_out[f"process {process} ({name_of(process)}): {reason_of(error)}"] += 1
             self._progress("walking page tables", done, len(wanted))
         return sums

@@ -15,16 +15,17 @@ import enum
 import json
 import os
 import random
+import shutil
 import signal
 import subprocess
 import time
 from collections import Counter
 from contextlib import ExitStack, contextmanager
 from dataclasses import dataclass, field
-from typing import Dict, Iterator, List, Optional, Sequence, Set
+from typing import Dict, Iterator, List, Optional, Sequence, Set, Tuple
 
 from ..common.counters import Counter as Statistic
-from ..common.counters import counts
+from ..common.counters import Quiet, counts
 from ..common.errors import DIFFERS, DONE, INCONCLUSIVE, InputFault, RunFailed
 from ..common.files import BASE, COLLAPSE_SLEEP, PMD_ORDER, PTES_NONE, SWITCH, THP, OwnFolder, size_folder
 from ..common.groups import Groups
@@ -60,16 +61,8 @@ class Outcome(enum.Enum):
     """What a trial says of the prediction."""
 
     EXACT = "exact"
-    INCONCLUSIVE = "inconclusive: all pages as predicted, but others moved the counters"
+    INCONCLUSIVE = "inconclusive: others moved the counters, or the pages weren't held still"
     DIFFERS = "DIFFERS"
-
-
-def is_quiet(seconds: float) -> bool:
-    """Watches the kernel's counters of splits for some time; returns whether none of them moved."""
-    before = counts([]).machine
-    time.sleep(seconds)
-    now = counts([]).machine
-    return all(now[name] == before[name] for name in (*COMPARED, Statistic.SPLIT_FAILED))
 
 
 @dataclass(frozen=True)
@@ -112,7 +105,9 @@ class Result:
     beside: Dict[int, int]  # what came of pages that no script says
     added: Dict[Statistic, int]  # to the kernel's counters
     is_undisturbed: bool = True  # nobody else moved the counters
+    problem: str = ""  # why the pages weren't held still for the whole time, where they were to be
     differing: List[int] = field(default_factory=list)
+    moved: int = 0  # pages that differ, but were moved to other frames meanwhile (compaction)
 
     def statistics(self) -> Dict[Statistic, int]:
         """The two counters that the prediction says: pages of PMD size split, and those of them as underused."""
@@ -129,9 +124,12 @@ class Result:
     @property
     def outcome(self) -> Outcome:
         """Exact: each page and each frame as predicted, and the counters too."""
-        if self.differing:
+        said = self.statistics()
+        if self.problem:
+            return Outcome.INCONCLUSIVE
+        if self.differing or any(self.added[name] < said[name] for name in said):  # others only add to the counters
             return Outcome.DIFFERS
-        if not self.is_undisturbed:
+        if self.moved or not self.is_undisturbed:
             return Outcome.INCONCLUSIVE
         return Outcome.EXACT if self.are_counters_right else Outcome.DIFFERS
 
@@ -163,23 +161,25 @@ class Bench:
         task, group = self.task, self.groups.add(f"trial{self._made}")
         self.keeper.set(PTES_NONE, threshold)
         with self._pages(group, threshold, chance), ExitStack() as stack:
-            is_undisturbed = is_quiet(WINDOW)
+            is_undisturbed, hold = Quiet([]).window(WINDOW), None
             if (task.command or task.change) and not task.running:
-                stack.enter_context(held(lambda: members(group), [], self.keeper, task.freeze_limit))
+                hold = stack.enter_context(held(lambda: members(group), [], self.keeper, task.freeze_limit))
             snapshot = self._taker.take(Choice(groups=[group]))
             before = counts([])
             self.groups.reclaim(group)
             added = counts([]).since(before).machine
-            came = became(snapshot, self._frames)
+            came, moved = became(snapshot, self._frames)
             stack.close()
-            is_undisturbed = is_undisturbed and is_quiet(WINDOW)
+            is_undisturbed = is_undisturbed and Quiet([]).window(WINDOW)
             made = write(snapshot)
             said = self._said(made, threshold)
         remove_group(group)
         result = self._result(snapshot, made, said, came, {k: v or 0 for k, v in added.items()}, threshold)
-        result.is_undisturbed = is_undisturbed
+        result.moved = len(moved.intersection(result.differing))
+        result.differing = [frame for frame in result.differing if frame not in moved]
+        result.is_undisturbed, result.problem = is_undisturbed, hold.problem if hold else ""
         if is_undisturbed and not result.differing and not result.are_counters_right:
-            result.is_undisturbed = is_quiet(LONG_WINDOW)
+            result.is_undisturbed = Quiet([]).window(LONG_WINDOW)
         return result
 
     @contextmanager
@@ -302,11 +302,12 @@ def remove_group(path: str) -> None:
             time.sleep(0.01)
 
 
-def became(snapshot: Snapshot, frames: Frames) -> Dict[int, int]:
+def became(snapshot: Snapshot, frames: Frames) -> Tuple[Dict[int, int], Set[int]]:
     """Which frames came back, by page: of those that are no longer whole, each subpage that no process of the
     snapshot maps where it was. Frames that are a huge page, but nobody's where they were, came back altogether and
-    are in use again."""
+    are in use again. Also the pages that were moved: a subpage with data is mapped where it was, from another frame."""
     out: Dict[int, int] = {}
+    moved: Set[int] = set()
     with OpenFiles("pagemap", FILES) as maps:
         for folio in snapshot.folios:
             flags = frames.flags(folio.frame, folio.size)
@@ -314,12 +315,16 @@ def became(snapshot: Snapshot, frames: Frames) -> Dict[int, int]:
             is_held: Set[int] = set()
             for mapping in folio.mappings:
                 entries = maps.numbers(mapping.process, mapping.address // BASE, folio.size)
-                is_held |= {i for i, entry in enumerate(entries) if frame_of_entry(entry) == folio.frame + i}
+                now = [frame_of_entry(entry) for entry in entries]
+                is_held |= {i for i, frame in enumerate(now) if frame == folio.frame + i}
+                others = sum(1 << i for i, frame in enumerate(now) if frame and frame != folio.frame + i)
+                if others & mapping.subset & ~folio.zeros:
+                    moved.add(folio.frame)
                 if is_whole and is_held:
                     break
             if not (is_whole and is_held):
                 out[folio.frame] = folio.full & ~sum(1 << i for i in is_held)
-    return out
+    return out, moved
 
 
 def count_result(seen: Counter[str], result: Result) -> None:
@@ -328,7 +333,7 @@ def count_result(seen: Counter[str], result: Result) -> None:
     outcome = result.outcome
     seen["trials"] += 1
     seen["trials exact"] += outcome is Outcome.EXACT
-    seen["trials inconclusive: pages as said, but others moved the counters"] += outcome is Outcome.INCONCLUSIVE
+    seen["trials inconclusive: others moved counters or pages, or the hold ended"] += outcome is Outcome.INCONCLUSIVE
     seen["trials that differ"] += outcome is Outcome.DIFFERS
     seen["trials in which the plain judge says what came"] += result.judged == result.came
     seen["pages"] += len(result.folios)
@@ -345,8 +350,12 @@ def count_result(seen: Counter[str], result: Result) -> None:
 
 def verdict_of(result: Result) -> str:
     """Returns the outcome in words."""
+    if result.problem:
+        return f"inconclusive: not held still the whole time: {escaped(result.problem)}"
     if result.differing:
         return f"{len(result.differing)} pages DIFFER"
+    if result.moved:
+        return f"inconclusive: {result.moved} pages were moved by others"
     return "the counters DIFFER" if result.outcome is Outcome.DIFFERS else str(result.outcome.value)
 
 
@@ -384,6 +393,8 @@ def verify(task: Task, program: Program) -> int:
     After TURN seconds another tool may have the lock for a while."""
     seen: Counter[str] = Counter()
     todo = [(number, threshold) for number in range(task.rounds) for threshold in task.thresholds][::-1]
+    if task.command and not shutil.which(task.command[0]):
+        raise InputFault(f"{escaped(task.command[0])} can't be run: there is no such program")
     folder = OwnFolder(task.keep) if task.keep else None
     waits = task.wait
     while todo:

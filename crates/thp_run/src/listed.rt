@@ -88,7 +88,7 @@ impl Eq for Section {
 
 /// Does the commands of a section, in order, as steps of one caller, and puts back the batches that it left open.
 ///
-/// It stops at the first step that stays busy, and tells where.
+/// It stops at the first step that stays busy, and tells where. Room for all answers is taken before the first step.
 pub fn work<S: Steps, G: Gate>(
     alloc: Global,
     commands: &[Command],
@@ -104,11 +104,13 @@ pub fn work<S: Steps, G: Gate>(
     ensures works { IfOk result (WorksOn worker (S.fronts steps.old) (S.fronts steps.new) commands.now) }
     ensures done { HasAll (S.fronts steps.old) → IfOk result IsWhole }
 {
+    let room = Vec::with_capacity(alloc, commands.len())?;
     let worked = thp_sections::work(alloc, commands, worker, Answers::Kept, steps, gate)?;
-    from_log(alloc, worked)
+    from_log(room, worked)
 }
 
-/// Does what is left of a section that stopped, by the passes of all callers, which are never busy.
+/// Does what is left of a section that stopped, by the passes of all callers, which are never busy. Room for all answers is taken
+/// before the first step.
 pub fn work_rest<S: Steps>(
     alloc: Global,
     commands: &[Command],
@@ -130,6 +132,7 @@ pub fn work_rest<S: Steps>(
         opened,
     } = worked;
     let room = commands.len().max(answers.len());
+    let list = Vec::with_capacity(alloc, room)?;
     let log = to_log(alloc, room, answers.as_slice())?;
     let begun = thp_sections::Worked {
         answers: log,
@@ -137,7 +140,7 @@ pub fn work_rest<S: Steps>(
         opened,
     };
     let worked = thp_sections::work_rest(commands, worker, begun, steps)?;
-    from_log(alloc, worked)
+    from_log(list, worked)
 }
 
 /// The report that the settings ask for, of nodes that are numbered from 0 on and of the answers to the sections' commands.
@@ -156,9 +159,10 @@ pub fn report_text(
     thp_report::report_text(alloc, settings, nodes, kept.as_slice())
 }
 
-/// What a log kept, in a vector.
-fn from_log(alloc: Global, worked: thp_sections::Worked) -> Result<Worked, AllocError>
-    requires { worked.answers.are ≡ Kept }
+/// What a log kept, in a vector that has none yet. Where that has room for them, it takes no memory.
+fn from_log(list: Vec<Answer>, worked: thp_sections::Worked) -> Result<Worked, AllocError>
+    requires none { list.items ≡ [] }
+    requires kept { worked.answers.are ≡ Kept }
     ensures answers { IfOk result (λ list. list.answers ≡ worked.answers.items) }
     ensures rest { IfOk result (λ list. list.rest ≡ worked.rest) }
     ensures opened { IfOk result (λ list. list.opened ≡ worked.opened.items) }
@@ -170,7 +174,7 @@ fn from_log(alloc: Global, worked: thp_sections::Worked) -> Result<Worked, Alloc
     } = worked;
     let kept = kept_by(log);
     let begun = Worked {
-        answers: Vec::with_capacity(alloc, kept.len())?,
+        answers: list,
         rest,
         opened,
     };

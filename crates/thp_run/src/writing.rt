@@ -1,5 +1,5 @@
 //! Reports to a writer: whole, or part by part.
-ghost use Rattle.std.specs.Prelude.{◌≡◌, IfSome, IfNone, filter, map, false, true};
+ghost use Rattle.std.specs.Prelude.{◌≡◌, IfSome, IfNone, IfErr, filter, map, false, true};
 ghost use Rattle.std.specs.Io.KnownBytes.{Appends};
 ghost use Rattle.thp_programs.specs.Calls.{WritesOn};
 ghost use Rattle.thp_programs.specs.Devices.{WritesFront};
@@ -69,6 +69,7 @@ fn write_whole<W: Write>(writer: &mut Watched<W>, text: &[u8]) -> Result<(), Run
     requires { writer.old.failed ≡ false }
     ensures wrote { Wrote text.now (W.contents writer.old.device) (W.contents writer.new.device) writer.new.failed result }
     ensures calls { WritesAnswer result writer.new.failed writer.old.calls writer.new.calls }
+    ensures fault { IfErr result (λ fault. fault ≡ RunFault.Write) }
 {
     write_text(writer, text).ok_or(RunFault::Write)
 }

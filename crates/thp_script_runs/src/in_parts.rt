@@ -1,7 +1,7 @@
 //! Runs of a script whose `setup` comes in parts, so that its commands needn't be kept.
 ghost use Rattle.std.specs.Prelude.{◌≡◌, [], All, IfOk, List};
 ghost use Rattle.thp_cell.specs.Views.{PassState};
-ghost use Rattle.thp_sections.specs.declared.answer_log.Answers.TheVariants.{Kept as KeptAnswers};
+ghost use Rattle.thp_sections.specs.declared.answer_log.Answers.TheVariants.{Kept as KeptAnswers, Counted as CountedAnswers};
 ghost use Rattle.thp_sections.specs.Fronts.{Fronts};
 ghost use Rattle.thp_sections.specs.Holdings.{KeepsNode};
 ghost use Rattle.thp_sections.specs.Passes.{fronts_in};
@@ -50,6 +50,7 @@ pub fn begin_run<'a, N: Recorder>(
     requires { AreNew settings.now cells.now passes.items }
     ensures begun { IfOk result (λ r. HasBegun settings.now cells.now passes.items (fronts_in r.0) [] (fronts_in r.0) r.1) }
     ensures answers { settings.now.report ≡ Report.Answers → IfOk result (λ r. r.1.answers.are ≡ KeptAnswers) }
+    ensures counted { (settings.now.report ≡ Report.Answers → ⊥) → IfOk result (λ r. r.1.answers.are ≡ CountedAnswers) }
     ensures kept { IfOk result (λ r. All KeepsNode r.0.held) }
 {
     let callers = settings.workers + 1;
@@ -74,6 +75,7 @@ pub fn end_run<'a, R: Threads + Sync, N: Recorder + Send, G: Gate + Sync>(
     requires begun { (cells : List TableId) × (old : List PassState) × (first : Fronts) × (before : List Command) × HasBegun settings.now cells old first before (fronts_in passes) setup }
     ensures runs { (cells : List TableId) (old : List PassState) (first : Fronts) (before : List Command) → HasBegun settings.now cells old first before (fronts_in passes.entry) setup → IfOk result (λ r. RunsOn old r.0.items (behind_setup before script) r.1.items) }
     ensures answers { settings.now.report ≡ Report.Answers → setup.answers.are ≡ KeptAnswers → IfOk result (λ r. All (SectionAnswersAre KeptAnswers) r.1.items) }
+    ensures counted { (settings.now.report ≡ Report.Answers → ⊥) → setup.answers.are ≡ CountedAnswers → IfOk result (λ r. All (SectionAnswersAre CountedAnswers) r.1.items) }
 {
     if !are_few(&script) {
         return Err(AllocError);

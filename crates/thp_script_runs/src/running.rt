@@ -40,6 +40,7 @@ pub fn run_script<R: Threads + Sync, G: Gate + Sync>(
     requires { IsScriptFor settings.now script }
     ensures nodes { IfOk result (λ r. AreNodesFor settings.now r.nodes.items) }
     ensures answers { settings.now.report ≡ Report.Answers → IfOk result (λ r. All (SectionAnswersAre Answers.Kept) r.sections.items) }
+    ensures counted { (settings.now.report ≡ Report.Answers → ⊥) → IfOk result (λ r. All (SectionAnswersAre Answers.Counted) r.sections.items) }
     ensures run { IfOk result (λ r. IsRun settings.now.nodes (shapes_of r.nodes.items) script (histories_of r.nodes.items) r.sections.items) }
 {
     run_recorded(rt, alloc, settings, script, gate)
@@ -56,6 +57,7 @@ pub fn run_recorded<R: Threads + Sync, N: Recorder + Send, G: Gate + Sync>(
     requires { IsScriptFor settings.now script }
     ensures nodes { IfOk result (λ r. AreNodesFor settings.now r.nodes.items) }
     ensures answers { settings.now.report ≡ Report.Answers → IfOk result (λ r. All (SectionAnswersAre Answers.Kept) r.sections.items) }
+    ensures counted { (settings.now.report ≡ Report.Answers → ⊥) → IfOk result (λ r. All (SectionAnswersAre Answers.Counted) r.sections.items) }
     ensures run { IfOk result (λ r. IsRun settings.now.nodes (shapes_of r.nodes.items) script (histories_of r.nodes.items) r.sections.items) }
 {
     if !are_few(&script) {
@@ -121,7 +123,8 @@ fn room_of_each(script: &Script, nodes: u32) -> u32
 
 /// What becomes of the answers: they are kept where the report is of them.
 pub(crate) fn answers_for(report: Report) -> Answers
-    ensures { (result ≡ Answers.Kept) ↔ (report ≡ Report.Answers) }
+    ensures kept { (result ≡ Answers.Kept) ↔ (report ≡ Report.Answers) }
+    ensures counted { (report ≡ Report.Answers → ⊥) → result ≡ Answers.Counted }
 {
     match report {
         Report::Answers => Answers::Kept,

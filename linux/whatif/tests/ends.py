@@ -60,7 +60,8 @@ def shared_pages() -> Tuple[mmap.mmap, int, int]:
 
 def look_at(start: int) -> List[object]:
     """Frames and map counts of the shared pages."""
-    frames, out = Frames(), []
+    frames = Frames()
+    out: List[object] = []
     for page in range(PAGES):
         first = frames_at(os.getpid(), start + page * HUGE, 512)
         out.append((first, frames.counts(first[0], 512) if first[0] else None))
@@ -77,8 +78,9 @@ def counters() -> Dict[str, int]:
 def check_shared() -> List[bool]:
     """Whether looking leaves shared pages as they are. The counters are told, since others move them too."""
     memory, start, child = shared_pages()
-    out = []
-    for words in ([], ["--freeze"]):
+    out: List[bool] = []
+    choices: List[List[str]] = [[], ["--freeze", "--wait"]]
+    for words in choices:
         before, then = look_at(start), counters()
         subprocess.run([str(PROGRAM), "now", "--pid", str(child), *words], stdout=subprocess.DEVNULL, check=True)
         moved = {name: count - then[name] for name, count in counters().items()}

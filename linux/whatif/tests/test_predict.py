@@ -99,7 +99,8 @@ class Rules(unittest.TestCase):
 @NEEDS
 class MadeUp(unittest.TestCase):
     def test_by_chance_beside_the_plain_judge(self) -> None:
-        chance, pages = random.Random(34), []
+        chance = random.Random(34)
+        pages: List[Folio] = []
         while len(pages) < 600:
             one = any_folio(len(pages), chance)
             try:

@@ -9,7 +9,8 @@ import shutil
 import unittest
 from typing import Tuple
 
-from ..reading import BASE, load_library
+from ...common.files import BASE
+from ..reading import load_library
 
 
 @unittest.skipUnless(shutil.which(os.environ.get("CC", "cc")) or shutil.which("gcc"), "no C compiler")

@@ -5,7 +5,7 @@ from __future__ import annotations
 import random
 import unittest
 from collections import Counter
-from typing import List
+from typing import Any, Dict, List, Tuple
 
 from ...common.subpages import bits_of
 from ..folios import Folio, Mapping
@@ -97,6 +97,13 @@ class Saying(unittest.TestCase):
         for kernel, tried in (("Linux 6.12.117+deb13-amd64", True), ("Linux 6.18.44", False), ("Linux 7.3.4", False)):
             self.assertEqual(Snapshot([], {}, Counter(), kernel=kernel).locked_are_tried, tried)
 
+    def test_counts_with_many_runs_are_capped(self) -> None:
+        every = sum(1 << i for i in range(0, 512, 2))
+        one = prepare(folio(whole=0, totals=[31 if every >> i & 1 else 0 for i in range(512)], is_partly=True))
+        self.assertEqual((one.levels, one.is_capped), ([every], True))
+        few = prepare(folio(whole=0, totals=[4 if every >> i & 1 else 1 for i in range(512)], is_partly=True))
+        self.assertEqual((few.levels, few.is_capped), ([FULL, every, every, every], False))
+
     def test_comment(self) -> None:
         page = holed(3, bits_of(0, 500), zero=bits_of(0, 9), pins=1)
         page.mappings.append(Mapping(7, 0, bits_of(0, 500), False))
@@ -104,10 +111,11 @@ class Saying(unittest.TestCase):
         self.assertEqual(line, "# page 1 5 frame 4096 zero 9 pmd 0 unmapped 12 unread 12 pins 1 by 103:0,7:0 partly")
 
     def test_what_no_script_says(self) -> None:
-        rows = [
+        rows: List[Tuple[Folio, Dict[str, Any], Reason]] = [
             (holed(0, bits_of(0, 5), is_queued=False), {"is_partly": False}, Reason.HOLES_UNFLAGGED),
             (folio(), {"totals": [0] * 512, "whole": 0}, Reason.UNMAPPED),
             (folio(zero=3, kept=1), {}, Reason.ZEROS_STAY),
+            (holed(0, bits_of(0, 5), is_lazily_freed=True), {}, Reason.LAZILY_FREED),
         ]
         for page, facts, reason in rows:
             for name, value in facts.items():

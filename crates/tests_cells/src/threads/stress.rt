@@ -1,6 +1,6 @@
 //! Four threads with mixed calls on a shared node. Each keeps a log of what it was answered, which is to be its part of the
 //! journal, and the journal passes the check of a history.
-ghost use Rattle.std.specs.Prelude.{false, ◌≡◌, ◌<◌, ◌≤◌, ◌+◌, IfSome};
+ghost use Rattle.std.specs.Prelude.{◌≡◌, ◌<◌, ◌≤◌, ◌+◌, false, IfSome};
 ghost use Rattle.std.specs.Thread.{IsSync};
 ghost use Rattle.thp_node.specs.Batches.{IsInFront};
 ghost use Rattle.thp_cell.specs.Views.{HasCaller, HasAll};

@@ -34,4 +34,7 @@ returns-clause-run g c =
     c.in_ok-nodes.ensures.shapes c.in_ok-cells.ensures.roots c.in_ok-passes.ensures.runs c.in_ok-nodes-2.ensures
 
 pub returns-clause-answers : goal.returns-clause-answers
-returns-clause-answers g c = λ is. subst (λ a. All (SectionAnswersAre a) c.in_ok-passes.sections.items) (c.answers_for-answers.ensures.1 is) c.in_ok-passes.ensures.answers
+returns-clause-answers g c = λ is. subst (λ a. All (SectionAnswersAre a) c.in_ok-passes.sections.items) (c.answers_for-answers.ensures.kept.1 is) c.in_ok-passes.ensures.answers
+
+pub returns-clause-counted : goal.returns-clause-counted
+returns-clause-counted g c = λ not. subst (λ a. All (SectionAnswersAre a) c.in_ok-passes.sections.items) (c.answers_for-answers.ensures.counted not) c.in_ok-passes.ensures.answers

@@ -1,7 +1,6 @@
 use Rattle.std.proofs.Common.{◌≡◌, ◌∙◌, ◌<◌, ◌≤◌, length, ap, arith, refl, sym, Some}
 use Rattle.std.specs.Prelude.{slice_get}
 use Rattle.std.proofs.lemmas.Option.{slice_get_read}
-use Rattle.thp_sections.specs.Holdings.{Held}
 use Rattle.thp_sections.proofs.EachLaws.{kept_to, kept_none, kept_more, kept_all, kept_of_all, length-kept}
 use Rattle.thp_sections.proofs.node_passes.keep_each.Goals as goal
 use Rattle.thp_sections.proofs.node_passes.keep_each.Given.{Over}

@@ -1,0 +1,276 @@
+#!/usr/bin/env python3
+"""What `thprecord` promises of a recording on the running kernel (root).
+
+    linux/tests/root_record.py
+
+The last line is `N passed, M failed`; 77 without root. Takes about two minutes. The judge is `thpcheck` where it is built,
+else the plain reading of the model.
+"""
+
+from __future__ import annotations
+
+import os
+import pwd
+import re
+import signal
+import subprocess
+import sys
+import tempfile
+import time
+from dataclasses import dataclass
+from pathlib import Path
+from typing import Callable, List, Optional
+
+ROOT = Path(__file__).resolve().parent.parent.parent
+sys.path.insert(0, str(ROOT))
+
+from linux.common import checker, program  # noqa: E402
+from linux.common.errors import DONE, FAILED, SKIPPED, USAGE  # noqa: E402
+from linux.common.files import THP, read  # noqa: E402
+from linux.common.groups import find_hierarchy  # noqa: E402
+from linux.common.helpers import helper  # noqa: E402
+from linux.tests.cases import Cases, Missing  # noqa: E402
+
+MOST_RESIDENT = 64 << 10  # KiB
+FAULTS, DROPS = 300000, 20000
+PAGES, FOLLOWED, RUNS, TRIES = 48, 45, 5, 12  # of snapshots.py
+EXAMPLES = ROOT / "linux/record/examples"
+JUDGE = program.find("thpcheck", checker.BUILT) or str(ROOT / "linux/tests/plain_checker.py")
+PYTHON = "/usr/bin/python3"
+USER = "nobody"
+FOLDER = Path("/")  # of this run; set at its start
+
+
+@dataclass(frozen=True)
+class Done:
+    """What a run of the tool left."""
+
+    status: int
+    out: str
+    problems: str
+    resident: int  # KiB, at most
+    seconds: float
+
+    def wrong(self, status: int, *texts: str) -> Optional[str]:
+        """What differs from a status and texts that the output has, and a traceback that it mustn't have."""
+        both = self.out + self.problems
+        lacking = [text for text in texts if text not in both]
+        if self.status != status or lacking or "Traceback" in both:
+            return f"status {self.status}, without {lacking}: {both[-400:]!r}"
+        return None
+
+
+def resident_of(number: int) -> int:
+    """The most memory that a process had, in KiB; 0 where it has ended."""
+    try:
+        found = re.search(r"^VmHWM:\s*([0-9]+) kB$", read(f"/proc/{number}/status"), re.MULTILINE)
+    except OSError:
+        return 0
+    return int(found[1]) if found else 0
+
+
+def run(words: List[str], meanwhile: Callable[[subprocess.Popen[bytes], float], None] = lambda tool, since: None,
+        folder: Optional[str] = None) -> Done:
+    """Runs the tool, looks at its memory, and calls `meanwhile` with the seconds since its start."""
+    began, resident = time.monotonic(), 0
+    with tempfile.TemporaryFile() as out, tempfile.TemporaryFile() as problems:
+        tool = subprocess.Popen([str(ROOT / "linux/thprecord"), "--wait", "--checker", JUDGE, "--straighten", *words],
+                                stdin=subprocess.DEVNULL, stdout=out, stderr=problems, cwd=folder,
+                                preexec_fn=lambda: signal.signal(signal.SIGINT, signal.default_int_handler) and None)
+        try:
+            while tool.poll() is None:
+                resident = max(resident, resident_of(tool.pid))
+                meanwhile(tool, time.monotonic() - began)
+                time.sleep(0.02)
+        except BaseException:
+            tool.terminate()
+            tool.wait()
+            raise
+        texts = []
+        for file in (out, problems):
+            file.seek(0)
+            texts.append(file.read().decode("utf-8", "replace"))
+        return Done(tool.returncode, texts[0], texts[1], resident, time.monotonic() - began)
+
+
+def busy(*words: str) -> List[str]:
+    """The test program of many calls."""
+    return ["--user", USER, "--", reachable(helper("record/examples/busy.c")), *words]
+
+
+def steps() -> List[str]:
+    """The own workload as a command that doesn't end by itself."""
+    return ["--user", USER, "--", reachable(helper("record/workload.c")), "1", "1000000000", "1", "9"]
+
+
+def reachable(path: str) -> str:
+    """A copy of a program that every user may run."""
+    copy = FOLDER / Path(path).name
+    if not copy.exists():
+        copy.write_bytes(Path(path).read_bytes())
+        copy.chmod(0o755)
+    return str(copy)
+
+
+def bounded_without_events() -> Optional[str]:
+    done = run(["--every", "0", *busy("fault", str(FAULTS))])
+    if done.resident > MOST_RESIDENT:
+        return f"{done.resident} KiB"
+    return done.wrong(SKIPPED, "the command ended with status 0", "empty: no huge page was followed")
+
+
+def bounded_with_events() -> Optional[str]:
+    done = run(["--every", "0", *busy("drop", str(DROPS))])
+    if done.resident > MOST_RESIDENT:
+        return f"{done.resident} KiB"
+    return done.wrong(DONE, "legal (", "events unmapsub")
+
+
+def several_threads() -> Optional[str]:
+    return run(["--own", "4,300,7"]).wrong(DONE, "legal (", " 0 queues that differ")
+
+
+def copies_on_write() -> Optional[str]:
+    good = 0
+    for number in range(TRIES):
+        done = run(["--", PYTHON, reachable(str(EXAMPLES / "snapshots.py")), str(number)])
+        found = re.search(r"^legal .* ([0-9]+) of ([0-9]+) pages told$", done.out, re.MULTILINE)
+        followed, pages = map(int, found.groups()) if found else (0, 1)
+        if done.status != DONE or followed * PAGES < FOLLOWED * pages:
+            return f"run {number}: {done.out[:300]!r} {done.problems[:200]!r}"
+        good += pages == PAGES
+        if good == RUNS:
+            return None
+    raise Missing(f"only in {good} of {TRIES} runs {PAGES} huge pages were free")
+
+
+def ended_by_seconds() -> Optional[str]:
+    done = run(["--seconds", "1", *steps()])
+    if done.seconds > 40:
+        return f"it took {done.seconds:.1f} s"
+    return done.wrong(DONE, "the recording was ended after 1 seconds", "the command was killed by SIGTERM", "legal (")
+
+
+def ended_by_events() -> Optional[str]:
+    return run(["--events", "5000", *steps()]).wrong(
+        DONE, "the recording was ended after 5000 events", "the command was killed by SIGTERM", "legal (")
+
+
+def ended_though_it_ignores_that() -> Optional[str]:
+    words = [PYTHON, "-c", "import signal, time; signal.signal(signal.SIGTERM, signal.SIG_IGN); time.sleep(60)"]
+    return run(["--seconds", "0.5", "--", *words]).wrong(SKIPPED, "the command was killed by SIGKILL", "empty")
+
+
+def interrupted(sent: signal.Signals) -> Optional[str]:
+    once: List[int] = []
+
+    def interrupt(tool: subprocess.Popen[bytes], since: float) -> None:
+        if since > 2.5 and not once:
+            once.append(1)
+            tool.send_signal(sent)
+
+    journal = FOLDER / f"journal.{sent.name}"
+    done = run(["--out", str(journal), *steps()], interrupt)
+    wrong = done.wrong(DONE, f"the recording was ended by {sent.name}", "legal (")
+    return wrong or (None if journal.read_bytes().endswith(b"\nend\n") else "no whole journal")
+
+
+def no_such_command() -> Optional[str]:
+    before = settings()
+    done = run(["--out", str(FOLDER / "unwritten"), "--", "nosuch"])
+    if (FOLDER / "unwritten").exists() or settings() != before:
+        return "something was made or changed"
+    return done.wrong(USAGE, "thprecord: nosuch: no such command\n")
+
+
+def outputs_refused() -> Optional[str]:
+    existing, link = FOLDER / "existing", FOLDER / "link"
+    existing.write_text("mine")
+    link.symlink_to(FOLDER / "target")
+    for path in (existing, link, FOLDER / "nowhere" / "journal", FOLDER):
+        for word in ("--out", "--records"):
+            wrong = run([word, str(path)]).wrong(USAGE, "thprecord: ")
+            if wrong:
+                return wrong
+    return None if existing.read_text() == "mine" and not (FOLDER / "target").exists() else "something was written"
+
+
+def outputs_are_the_callers() -> Optional[str]:
+    journal, records = FOLDER / "journal", FOLDER / "records"
+    wrong = run(["--own", "1,60,1", "--out", str(journal), "--records", str(records)]).wrong(DONE, "legal (")
+    modes = [path.stat().st_mode & 0o777 for path in (journal, records)]
+    return wrong or (None if modes == [0o600, 0o600] and records.stat().st_size > 1000 else f"modes {modes}")
+
+
+def bad_numbers() -> Optional[str]:
+    rows = [(word, text) for word in ("--seconds", "--events", "--every", "--least", "--groups", "--tamper", "--collapse")
+            for text in ("nan", "-1", "9" * 40, "")]
+    rows += [("--seconds", "inf"), ("--seconds", "1e999"), ("--seconds", "0"), ("--events", "0"), ("--events", "1.5"),
+             ("--own", "1,2"), ("--own", "0,1,1"), ("--own", "1,2,99999999999"), ("--own", "\u0661,2,3"),
+             ("--order", "10"), ("--order", "4,4"), ("--underused", "512"), ("--user", "no such user")]
+    for word, text in rows:
+        done = run([f"{word}={text}", *(["--", "true"] if word == "--user" else [])])
+        wrong = done.wrong(USAGE, "thprecord: ")
+        if wrong or done.problems.count("\n") != 1:
+            return f"{word} {text}: {wrong or done.problems!r}"
+    return None
+
+
+def status_of_the_command() -> Optional[str]:
+    for words, text in (["sh", "-c", "exit 7"], "the command ended with status 7"), (
+            ["sh", "-c", "kill -SEGV $$"], "the command was killed by SIGSEGV"):
+        wrong = run(["--", *words]).wrong(SKIPPED, text)
+        if wrong:
+            return wrong
+    return None
+
+
+def runs_as_the_user() -> Optional[str]:
+    found = pwd.getpwnam(USER)
+    script = "import os; print(os.getresuid(), os.getresgid(), os.getgroups(), sorted(os.listdir('/proc/self/fd')))"
+    done = run(["--user", USER, "--", PYTHON, "-c", script])
+    groups = os.getgrouplist(USER, found.pw_gid)
+    ids = f"{(found.pw_uid,) * 3} {(found.pw_gid,) * 3} {groups} ['0', '1', '2', '3']"  # 3: of listdir itself
+    return done.wrong(SKIPPED, ids)
+
+
+def one_that_cannot_be_run() -> Optional[str]:
+    path = FOLDER / "not a program"
+    path.write_text("no program\n")
+    path.chmod(0o755)
+    return run(["--", str(path)]).wrong(FAILED, "can't be started: Exec format error")
+
+
+def settings() -> List[str]:
+    """All settings of huge pages, the tool's control groups, and open temporary files of tools that have ended."""
+    out = [f"{path} {read(path)}" for path in sorted(Path(THP).rglob("*"))
+           if path.is_file() and path.stat().st_mode & 0o200 and "stats" not in path.parts]
+    return out + [path for path, _, _ in os.walk(find_hierarchy().top) if "/thprecord" in path]
+
+
+def main() -> int:
+    """Runs all cases."""
+    if os.geteuid() != 0:
+        print("root_record: skipped: not root", file=sys.stderr)
+        return SKIPPED
+    cases, before, files = Cases("root_record"), settings(), sorted(os.listdir("/var/tmp"))
+    each: List[Callable[[], Optional[str]]] = [
+        no_such_command, bad_numbers, outputs_refused, outputs_are_the_callers, one_that_cannot_be_run,
+        status_of_the_command, runs_as_the_user, several_threads, bounded_without_events, bounded_with_events,
+        copies_on_write, ended_by_seconds, ended_by_events, ended_though_it_ignores_that,
+    ]
+    for case in each:
+        cases.run(case.__name__.replace("_", " "), case, 60)
+    for sent in (signal.SIGINT, signal.SIGTERM):
+        cases.run(f"ended by {sent.name}", lambda: interrupted(sent), 60)
+    cases.run("nothing is left", lambda: None if (settings(), sorted(os.listdir("/var/tmp"))) == (before, files) else
+              f"{set(settings()) ^ set(before)} {set(os.listdir('/var/tmp')) ^ set(files)}")
+    return cases.end()
+
+
+if __name__ == "__main__":
+    with tempfile.TemporaryDirectory(prefix="root-record-") as name:
+        FOLDER = Path(name)
+        FOLDER.chmod(0o755)
+        ended = main()
+    sys.exit(ended)

@@ -1,0 +1,300 @@
+#!/usr/bin/env python3
+"""`thpreplay` beside other users who attack it or move the machine's counters (root, a C compiler).
+
+    linux/tests/root_replay.py [PROGRAM [REPLAY]]
+
+PROGRAM is a thpsplit, by default the plain one of this folder; REPLAY the tool. The attacks are those of attacks/, as
+user nobody. The last line is `N passed, M failed`; 77 without root or a compiler.
+"""
+
+from __future__ import annotations
+
+import os
+import random
+import re
+import shutil
+import signal
+import subprocess
+import sys
+import tempfile
+import time
+from contextlib import contextmanager
+from functools import partial
+from pathlib import Path
+from typing import Callable, Dict, Iterator, List, Optional, Set, Tuple
+
+ROOT = Path(__file__).resolve().parent.parent.parent
+sys.path.insert(0, str(ROOT))
+sys.dont_write_bytecode = True
+
+from linux.common.errors import DIFFERS, DONE, INCONCLUSIVE, SKIPPED, USAGE  # noqa: E402
+from linux.common.files import read, read_bytes  # noqa: E402
+from linux.common.text import lines  # noqa: E402
+from linux.common.user import nobody  # noqa: E402
+from linux.tests.cases import Cases  # noqa: E402
+from linux.tests.plain_program import spoilt  # noqa: E402
+
+HERE = Path(__file__).resolve().parent
+SCRIPT = str(ROOT / "examples/first.script")
+RUNS = 50  # beside an attacker
+SECONDS = 40  # that a run of the tool gets
+KILLS = 8
+
+
+class Attackers:
+    """Programs of attacks/, compiled into a folder that every user may search."""
+
+    def __init__(self, folder: str) -> None:
+        os.chmod(folder, 0o755)
+        self._folder = folder
+
+    def compile(self) -> None:
+        """Compiles all of them."""
+        for source in (HERE / "attacks").glob("*.c"):
+            words = ["cc", "-std=c11", "-O2", "-Wall", "-Wextra", "-Werror", "-o", f"{self._folder}/{source.stem}"]
+            subprocess.run([*words, str(source)], check=True, timeout=60)
+
+    @contextmanager
+    def running(self, name: str, *words: str) -> Iterator[subprocess.Popen[bytes]]:
+        """One of them as user nobody, until the end of the `with`."""
+        process = subprocess.Popen([f"{self._folder}/{name}", *words], stdout=subprocess.PIPE, cwd="/",
+                                   **nobody().rights())
+        try:
+            yield process
+        finally:
+            process.kill()
+            process.wait()
+
+
+class Tool:
+    """Calls of the tool."""
+
+    def __init__(self, program: str, replay: str) -> None:
+        self.program, self._replay = program, replay
+
+    def start(self, *words: str, program: Optional[str] = None) -> subprocess.Popen[bytes]:
+        """Starts it; it waits for other tools."""
+        named = ["--program", program or self.program]
+        return subprocess.Popen([sys.executable, self._replay, "--wait", *named, *words], cwd="/",
+                                stdout=subprocess.PIPE, stderr=subprocess.PIPE)
+
+    def call(self, *words: str, program: Optional[str] = None, seconds: int = SECONDS) -> Tuple[int, bytes, bytes]:
+        """Returns its status and what it printed. One that takes too long is killed."""
+        process = self.start(*words, program=program)
+        try:
+            out, problems = process.communicate(timeout=seconds)
+        except BaseException:
+            process.kill()
+            process.wait()
+            raise
+        return process.returncode, out, problems
+
+
+def outcomes(out: bytes) -> List[str]:
+    """Returns the words that scripts ended with."""
+    found = re.findall(r"^\S+: (agrees|differs|inconclusive|skipped)", out.decode("ascii"), re.MULTILINE)
+    return [str(each) for each in found]
+
+
+def mappers() -> Set[int]:
+    """Returns the mapping processes of this machine."""
+    found = set()
+    for path in Path("/proc").glob("[0-9]*"):
+        try:
+            if os.readlink(path / "exe").split(" ")[0].endswith("mapper"):
+                found.add(int(path.name))
+        except OSError:
+            pass
+    return found
+
+
+def named_sockets(processes: Set[int]) -> List[str]:
+    """Returns the names in /proc/net/unix of the sockets that processes have open."""
+    names: Dict[str, str] = {}
+    for line in lines(read_bytes("/proc/net/unix"))[1:]:
+        words = line.decode("ascii", "backslashreplace").split()
+        names[f"socket:[{words[6]}]"] = " ".join(words[7:])
+    found = []
+    for process in processes:
+        try:
+            links = [os.readlink(path) for path in Path(f"/proc/{process}/fd").iterdir()]
+        except OSError:
+            continue  # it has ended
+        found += [names[link] for link in links if names.get(link)]
+    return found
+
+
+def beside_attackers(tool: Tool, attackers: Attackers) -> Optional[str]:
+    """Nobody is killed, nothing is taken, and the runs are as without."""
+    with subprocess.Popen(["sleep", "600"]) as victim:
+        try:
+            with attackers.running("sockets", str(victim.pid), "600") as attacker:
+                for number in range(RUNS):
+                    memory = [] if number % 5 == 0 else ["--no-memory"]
+                    status, out, problems = tool.call(SCRIPT, *memory)
+                    if (status, outcomes(out)) != (DONE, ["agrees"]):
+                        return f"run {number}: status {status}, {problems!r} {out[-200:]!r}"
+                    if victim.poll() is not None:
+                        return f"run {number}: the victim has ended with status {victim.returncode}"
+                attacker.terminate()
+                assert attacker.stdout
+                told = attacker.stdout.read()
+        finally:
+            victim.kill()
+    return None if told == b"ready\n" else f"the attacker was heard: {told[:200]!r}"
+
+
+def has_no_names(tool: Tool) -> Optional[str]:
+    """No socket of a running tool or of its mapping processes has a name, and these have no rights."""
+    process = tool.start("--random", "1000", "--quiet")
+    try:
+        end, seen = time.monotonic() + 10, 0
+        while time.monotonic() < end and seen < 20:
+            found = mappers()
+            names = named_sockets({process.pid, *found})
+            if names:
+                return f"sockets with names: {names}"
+            time.sleep(0.02)  # a mapping process drops its rights at its start
+            wrong = next(filter(None, map(rights_left, found)), None)
+            if wrong:
+                return wrong
+            seen += bool(found)
+        return None if seen else "no mapping process was seen"
+    finally:
+        process.send_signal(signal.SIGTERM)
+        process.communicate(timeout=SECONDS)
+
+
+def rights_left(process: int) -> Optional[str]:
+    """Returns which rights a mapping process has though it should have none."""
+    try:
+        status = dict(line.split(":\t", 1) for line in read(f"/proc/{process}/status").split("\n") if ":\t" in line)
+    except OSError:
+        return None  # it has ended
+    rights = [name for name in ("CapPrm", "CapEff", "CapInh", "CapAmb") if status.get(name, "").strip("0")]
+    rights += [] if status.get("NoNewPrivs") == "1" else ["new ones"]
+    return f"process {process} has rights: {', '.join(rights)}" if rights else None
+
+
+def beside_noise(tool: Tool, attackers: Attackers, pause: str) -> Optional[str]:
+    """Twenty runs of a script and five random ones never differ."""
+    with attackers.running("noise", "600", pause):
+        status, out, problems = tool.call(*[SCRIPT] * 20, "--random", "5", seconds=90)
+    found = outcomes(out)
+    print(f"  beside noise every {pause} us: {found.count('agrees')} agree, {found.count('inconclusive')} inconclusive")
+    if status not in (DONE, INCONCLUSIVE) or len(found) != 25 or not {"agrees", "inconclusive"}.issuperset(found):
+        return f"status {status}, {len(found)} outcomes, {problems!r} {out[-300:]!r}"
+    return None if (status == INCONCLUSIVE) == ("inconclusive" in found) else f"status {status} with {set(found)}"
+
+
+def bug_beside_noise(tool: Tool, attackers: Attackers) -> Optional[str]:
+    """A difference of the own state is found whatever the counters do."""
+    with tempfile.TemporaryDirectory() as folder, attackers.running("noise", "600"):
+        status, out, _ = tool.call(SCRIPT, program=spoilt("unmap-short", folder))
+    if status != DIFFERS or b"map count of page 0 of node 0, subpage 255, kernel 0, thpsplit 1" not in out:
+        return f"status {status}: {out[-300:]!r}"
+    return None
+
+
+def odd_files(folder: str) -> List[str]:
+    """Returns words for files that aren't scripts."""
+    paths = []
+    for name, size in (("long", 65 << 20), ("zeros", 100)):
+        with open(f"{folder}/{name}", "wb") as file:
+            file.truncate(size)
+        paths.append(f"{folder}/{name}")
+    os.mkfifo(f"{folder}/fifo")
+    os.symlink("/dev/zero", f"{folder}/device")
+    chance = random.Random(1)
+    for number in range(6):
+        path = f"{folder}/{number}"
+        Path(path).write_bytes(b"# thpsplit " * (number % 2) + chance.randbytes(200) + b"\xff")
+        paths.append(path)
+    settings = f"{folder}/settings"
+    Path(settings).write_text("# thpsplit --nodes 99999999999999999999\nsetup\n", encoding="ascii")
+    return [*paths[:1], *paths[2:], f"{folder}/fifo", f"{folder}/device", folder, f"{folder}/none", settings]
+
+
+def one_line(status: int, out: bytes, problems: bytes, wanted: int) -> Optional[str]:
+    """What is wrong where a call isn't one line on standard error and a status."""
+    if status == wanted and not out and problems.count(b"\n") == 1 and problems.startswith(b"thpreplay: "):
+        return None
+    return f"status {status}, {out[-200:]!r}, {problems[-300:]!r}"
+
+
+def refuses(tool: Tool) -> Optional[str]:
+    """Files that aren't scripts and words that aren't numbers have one line and status 2."""
+    words = [[option, value] for option in ("--random", "--seed", "--length", "--node-counts", "--page-orders",
+                                            "--thresholds") for value in ("nan", "-1", "9" * 30)]
+    with tempfile.TemporaryDirectory() as folder:
+        for each in [*([path] for path in odd_files(folder)), *words, ["\x1b[2J\x0b\u2028"], ["--\x1b[2J"]]:
+            extra = [] if len(each) == 1 else ["--random=1", "--show"]
+            status, out, problems = tool.call(*extra, *each, seconds=10)
+            wrong = one_line(status, out, problems, USAGE)
+            if wrong or any(byte < 32 and byte != 10 or byte > 126 for byte in problems):
+                return f"{each}: {wrong or problems!r}"
+    return None
+
+
+def prints_names(tool: Tool) -> Optional[str]:
+    """A script's name is printed without its control characters."""
+    with tempfile.TemporaryDirectory() as folder:
+        path = os.path.join(os.fsencode(folder), b"a\x1b[2J\n\x0b\xff\xe2\x80\xa8.script")
+        shutil.copy(os.fsencode(SCRIPT), path)
+        status, out, problems = tool.call(os.fsdecode(path))
+    if status != DONE or b"a\\x1b[2J\\x0a\\x0b\\xff\\xe2\\x80\\xa8.script: agrees\n" not in out:
+        return f"status {status}, {problems!r}, {out!r}"
+    return "control characters" if re.search(rb"[^\n -~]", out) else None
+
+
+def leaves_no_mapper(tool: Tool) -> Optional[str]:
+    """After a kill of the tool no mapping process is left."""
+    before = mappers()
+    for number in range(KILLS):
+        process = tool.start("--random", "1000", "--quiet", "--no-memory")
+        try:
+            wait_until(lambda: bool(mappers() - before), 20)
+            time.sleep(0.07 * number)
+            seen = mappers() - before
+        finally:
+            process.kill()
+            process.communicate(timeout=SECONDS)
+        if not seen or not wait_until(lambda: not mappers() - before, 5):
+            return f"moment {number}: {len(seen)} mapping processes before the kill, {mappers() - before} after it"
+    return None
+
+
+def wait_until(is_so: Callable[[], bool], seconds: float) -> bool:
+    """Waits until something is so, and returns whether it is."""
+    end = time.monotonic() + seconds
+    while not is_so() and time.monotonic() < end:
+        time.sleep(0.02)
+    return is_so()
+
+
+def main() -> int:
+    if os.geteuid() != 0:
+        print("root_replay: skipped: not root", file=sys.stderr)
+        return SKIPPED
+    if not shutil.which("cc"):
+        print("root_replay: skipped: no C compiler (cc)", file=sys.stderr)
+        return SKIPPED
+    program = os.path.abspath(sys.argv[1]) if len(sys.argv) > 1 else str(HERE / "plain_program.py")
+    tool = Tool(program, sys.argv[2] if len(sys.argv) > 2 else str(ROOT / "linux/thpreplay"))
+    cases = Cases("root_replay")
+    with tempfile.TemporaryDirectory() as folder:
+        attackers = Attackers(folder)
+        attackers.compile()
+        cases.run(f"{RUNS} runs beside an attacker of sockets", partial(beside_attackers, tool, attackers))
+        cases.run("sockets without names, processes without rights", partial(has_no_names, tool))
+        for pause in ("1000", "60000"):
+            cases.run(f"25 scripts beside noise, pauses of {pause} us", partial(beside_noise, tool, attackers, pause))
+        cases.run("an injected bug beside noise", partial(bug_beside_noise, tool, attackers))
+        cases.run("files and words that can't be used", partial(refuses, tool))
+        cases.run("a name with control characters", partial(prints_names, tool))
+        cases.run("SIGKILL leaves no mapping process", partial(leaves_no_mapper, tool))
+    return cases.end()
+
+
+if __name__ == "__main__":
+    sys.exit(main())
