@@ -22,7 +22,7 @@ from pathlib import Path
 from large import long_script, pinned_scans, words
 from outside import ILLEGAL, LEGAL
 from process import Call, Ended, Sink, Source, Word, run
-from tally import SKIPPED, Missing, Tally
+from tally import Missing, Tally
 from texts import MOST_BYTES
 
 PART = 65_536
@@ -207,7 +207,7 @@ def main() -> None:
             tracer = Tracer(program, Path(name))
         except Missing as missing:
             tally.skip("reads and writes", str(missing))
-            sys.exit(SKIPPED)
+            tally.end()
         for row in rows:
             tally.run(row.name, partial(row.wrong, tracer))
     tally.end()
