@@ -6,8 +6,9 @@
 #               DESTDIR as usual); make uninstall takes them away
 # make deb:     the Debian packages of the proved programs with thpwhatif, and of the library for C, into DEBS (default out; wants
 #               dpkg-dev, debhelper)
-# make test:    every check (proofs from nothing, must-fail edits, tests, stored runs, examples, documents); ends in
-#               'N passed, M failed'. What a machine lacks is named and counted neither way, or as failed with STRICT=1
+# make test:    every check (proofs from nothing, the must-fail edits in crates/NAME/must-fail, tests, stored runs, examples,
+#               documents); ends in 'N passed, M failed'. What a machine lacks is named and counted neither way, or as failed
+#               with STRICT=1
 # make outside: examples and documents alone; PROGRAM=path: by that program, and all that is asked of it from outside:
 #               each status and stream, large inputs, and wrong programs, which are refused
 # make fuzz:    random scripts, journals and words on the built program and on a plain reading of the model in Python:
@@ -15,8 +16,8 @@
 # make memory:  each growth of memory and each start of a thread refused in turn (wants Python 3 and a C compiler)
 # make c:       proves and builds the library for C and for Rust (docs/C.md) and tests it; PROGRAM=path: on CASES random
 #               scripts against that program, too
-# make edits:   the wrong bodies of tests/edits and those that the gate tries, each of which is to be refused; CRATES=names: of
-#               these alone
+# make edits:   all must-fail edits: the wrong bodies in tests/edits, and those in crates/NAME/must-fail, which make test tries
+#               as well. The prover must refuse each at a clause; ends in a count of each kind. CRATES=names: of these only
 # make linux:   random scripts on the running kernel and on the built program: CASES=n SEED=s PROGRAM=path (wants root;
 #               status 77 where this machine can't compare anything)
 # make root-tests: attacks on the tools that run as root, and what they leave after any end (wants root, some 10 minutes)

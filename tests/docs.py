@@ -66,15 +66,17 @@ def edits_are_told() -> str | None:
 
 
 def edits_apply() -> str | None:
-    """The text that each edit of `make edits` replaces stands once in its file."""
+    """The text that each edit replaces occurs once in its file: those of the gate and those of `make edits`."""
     wrong = []
-    for edit in sorted(ROOT.glob("tests/edits/*/*.edit")):
+    edits = [(path.parts[-3], path) for path in ROOT.glob("crates/*/must-fail/*.edit")]
+    edits += [(path.parts[-2], path) for path in ROOT.glob("tests/edits/*/*.edit")]
+    for crate, edit in sorted(edits):
         texts: dict[Path, str] = {}
         path, old = ROOT, ""
         for line in edit.read_text().splitlines():
             what, _, text = line.partition(": ")
             if what == "file":
-                path = ROOT / "crates" / edit.parent.name / text
+                path = ROOT / "crates" / crate / text
                 texts.setdefault(path, path.read_text())
             elif what == "old":
                 old = text
@@ -83,6 +85,26 @@ def edits_apply() -> str | None:
                     wrong.append(edit.stem)
                 texts[path] = texts[path].replace(old, text)
     return f"doesn't stand once: {', '.join(wrong)}" if wrong else None
+
+
+WRONG_BODY = re.compile(r"^\| `(\w+)` \| [^|]+ \| ([^|]+) \|$", re.M)
+"""A row of the table of wrong bodies: its name, and what refuses it."""
+
+
+def wrong_bodies_are_tried() -> str | None:
+    """Each edit that docs/PROOFS.md lists for a wrong body is where it says: tried by the gate, or by `make edits` only."""
+    text = (ROOT / "docs/PROOFS.md").read_text().partition("## Wrong bodies")[2].partition("\n## ")[0]
+    rows = WRONG_BODY.findall(text)
+    wrong = [f"{len(rows)} rows"] if len(rows) != 25 else []
+    for name, refused_by in rows:
+        for part in refused_by.split("; "):
+            kind, _, told = part.partition(": ")
+            folder = {"gate": "crates/*/must-fail", "edits": "tests/edits/*"}.get(kind)
+            if folder is None:
+                continue
+            named = [word for word in re.findall(r"`(\w+)`", told) if not word.startswith(("thp_", "tests_"))] or [name]
+            wrong += [f"{word} ({kind})" for word in named if not list(ROOT.glob(f"{folder}/{word}.edit"))]
+    return f"isn't there: {', '.join(wrong)}" if wrong else None
 
 
 def words_of_tree() -> set[str]:
@@ -207,7 +229,8 @@ def main() -> None:
     tally.run("README.md shows what is stored of the examples", dialogues_are_true)
     tally.run("docs/PROVED.md tells of each crate", crates_are_told)
     tally.run("docs/PROOFS.md names each must-fail edit", edits_are_told)
-    tally.run("tests/edits apply", edits_apply)
+    tally.run("must-fail edits apply", edits_apply)
+    tally.run("docs/PROOFS.md's wrong bodies are tried", wrong_bodies_are_tried)
     tally.run("docs/PROVED.md names the toolchain", toolchain_is_told)
     tally.run("limits that are told are those of the code", limits_are_told)
     for document in DOCUMENTS:

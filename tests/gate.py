@@ -56,7 +56,7 @@ REFUSED = "memory::node_growths::put_back_without_memory"
 
 COUNT = re.compile(r"(\d+) passed, (\d+) failed$")
 
-TELLS_FAILURE = re.compile(r": failed: |^rt: FAILED|^must-fail .*: NOT |^(FAIL|ERROR): ")
+TELLS_FAILURE = re.compile(r": failed: |^rt: FAILED|^(?:rt: )?must-fail .*: (?:NOT REFUSED|BAD EDIT)|^(FAIL|ERROR): ")
 """Lines that name what failed, which are said again at the end: of a long output often the end alone is kept."""
 
 

@@ -2,9 +2,10 @@
 
     rt must-fail 2>&1 | python3 tests/edits/kinds.py
 
-An edit is refused at a clause if the prover fails at a goal: what a function ensures, what a call requires, an invariant, or
-the end of a loop. It is refused at a name only if every error is a proof file that names what the edit removed; such an edit
-tests no contract. The last line has the count of each kind. The status is 0 if every edit is refused at a clause, and else 1.
+An edit is refused at a clause if the prover fails at a goal: what a function ensures, what a call requires, or an invariant. It is
+refused only at a name if every error is a proof file that names what the edit removed, and without a goal if the prover reports
+none, as for a loop that no proof file gives a measure. Edits of these two kinds test no contract. The last line has the count of
+each kind. The status is 0 if every edit is refused at a clause, and else 1.
 """
 
 from __future__ import annotations
@@ -16,7 +17,7 @@ from typing import Iterable
 EDIT = re.compile(r"^rt: must-fail (\S+)\.edit: (.*)$")
 """A line about one edit: its crate and name, and what the prover did."""
 
-KINDS = ("at a clause", "only at a name", "not refused")
+KINDS = ("at a clause", "only at a name", "without a goal", "not refused")
 """How an edit can end, in the order in which the last line counts them."""
 
 
@@ -24,6 +25,8 @@ def kind_of(result: str) -> str:
     """The kind of a result as `rt must-fail` prints it."""
     if result.startswith("refused, as it must be (only because a proof file names"):
         return "only at a name"
+    if result == "refused, as it must be":
+        return "without a goal"
     if result.startswith("refused, as it must be"):
         return "at a clause"
     return "not refused"
