@@ -91,12 +91,12 @@ def measured(program: str, folder: Path, kind: str, way: str) -> dict[str, float
 
 
 def least_memory() -> float:
-    """What the kernel tells of a run that takes next to nothing, in MiB: a child counts as large as this process when it began."""
+    """The memory that the kernel reports of a run that takes almost none, in MiB: a child counts as large as its parent was at the start."""
     return memory(["true"], Path(os.devnull))
 
 
 def compared(name: str, took: dict[str, float], stored: dict[str, float], tally: Tally) -> None:
-    """Counts each figure of a run against the stored one, of memory against the least that can be told here, if that is more."""
+    """Counts each figure of a run against the stored one, of memory against the least that the kernel reports here, if that is more."""
     for what, before in stored.items():
         if what.startswith("memory"):
             before = max(before, round(least_memory(), 1))

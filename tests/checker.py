@@ -180,7 +180,7 @@ def many_nodes() -> Iterator[Row]:
     yield Row("nodes", "the last event illegal, --summary", late, Ended(1, b"illegal line %d\n" % end + totals))
     for first in (most_nodes, most_nodes + 1):
         call = Call(SUMMARY, text + b"node %d blocks 1\nend\n" % first)
-        yield Row("nodes", f"a node {first} behind 8", call, fault(end, "bad-number"))
+        yield Row("nodes", f"a node {first} after 8", call, fault(end, "bad-number"))
     text = b"".join(b"node %d blocks 1\n0 alloc 0\n" % node for node in range(5_000))
     for words in ((), SUMMARY, EXPLAIN):
         call = Call(words, b"thp-journal 1\n" + text + b"end\n")

@@ -41,9 +41,9 @@ BY_EACH = ("tests/examples.py", "tests/rows.py", "tests/outside.py", "tests/larg
 BY_ONE = ("tests/spoilt.py",)
 """What looks at a program and takes longer: at one of them."""
 
-CEILINGS = ("bench/ceilings.py", "--kinds", "churn,middle,clash")
-"""What looks at the instructions and the memory of a program, as LLVM builds it, by scripts of three kinds: with scans, with
-frees from the middle of a queue, and with as many pages as a node may have."""
+CEILINGS = ("bench/ceilings.py", "--kinds", "churn,counts,clash")
+"""What looks at the instructions and the memory of a program, as LLVM builds it, by scripts of three kinds: with scans, with the
+commands that do least, and with as many pages as a node may have."""
 
 ARCHIVE = "crates/thp_c/out/libthp_c.a"
 """Where the archive of the library for C is built: `rt ci` proves it, and builds nothing of it."""

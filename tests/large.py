@@ -295,8 +295,8 @@ def many_words() -> Iterator[Case]:
     yield Case("10,000 words behind all options", Call((*options, *("zzz",) * 10_000)), unexpected)
     many = ("zzz",) * 20_000
     yield unread("20,000 words", many, usage.unexpected("zzz"))
-    yield unread("20,000 words behind all options", (*options, *many), usage.unexpected("zzz"))
-    yield unread("20,000 words behind `--`", ("--", *many), usage.unexpected("zzz"))
+    yield unread("20,000 words after all options", (*options, *many), usage.unexpected("zzz"))
+    yield unread("20,000 words after `--`", ("--", *many), usage.unexpected("zzz"))
     yield unread("20,000 times --check", ("--check",) * 20_000, usage.doubled("check"))
     yield unread("10,000 times --nodes 2", words("--nodes 2") * 10_000, usage.doubled("nodes"))
     orders = ",".join("9" * 30_000)
@@ -309,7 +309,7 @@ def long_words() -> Iterator[Case]:
     """Command lines with a word of 100,000 bytes. One that is unexpected, or no value of its option, is named whole."""
     word, digits = "z" * 100_000, "9" * 100_000
     yield unread("a word of 100,000 bytes", (word,), usage.unexpected(word))
-    yield unread("a word of 100,000 bytes behind --check", ("--check", word), usage.unexpected(word))
+    yield unread("a word of 100,000 bytes after --check", ("--check", word), usage.unexpected(word))
     yield unread("an option of 100,000 bytes", (f"--{word}",), usage.unexpected(f"--{word}"))
     yield unread("100,000 short options", (f"-{word}",), usage.unexpected("-z"))
     yield unread("a report of 100,000 bytes", (f"--report={word}",), usage.no_report(word))
@@ -337,7 +337,7 @@ SETUP_BYTES = 16 * 2**20
 
 COMMAND_BYTES = 24
 """What a worker's command may take, until it is done. With 6 MiB for the program, the node and the huge pages of a stack and
-of a heap, two million of them take less than 52 MiB: an event that is kept besides doesn't fit."""
+of a heap, two million of them take less than 52 MiB. A list of their events would not fit."""
 
 WORKER_BYTES = PINS * COMMAND_BYTES + 6 * 2**20
 

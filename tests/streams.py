@@ -1,9 +1,9 @@
-"""How the built program reads and writes: by parts of 65,536 bytes, nothing behind the end, and no endless input for ever.
+"""How the built program reads and writes: by parts of 65,536 bytes, nothing after the end, and only a part of an endless input.
 
     tests/streams.py PROGRAM
 
-PROGRAM is `thpsplit` or `thpcheck`, by the front of its file's name. Each read and write is listed by strace; where that
-isn't there or may not trace, by a library that is preloaded (tests/streams.c), which needs a C compiler.
+PROGRAM is `thpsplit` or `thpcheck`, by the front of its file's name. strace lists each read and write. Where it is
+missing or may not trace, a preloaded library does (tests/streams.c), which needs a C compiler.
 """
 
 from __future__ import annotations
@@ -22,7 +22,7 @@ from pathlib import Path
 from large import long_script, pinned_scans, words
 from outside import ILLEGAL, LEGAL
 from process import Call, Ended, Sink, Source, Word, run
-from tally import SKIPPED, Missing, Tally
+from tally import Missing, Tally
 from texts import MOST_BYTES
 
 PART = 65_536
@@ -51,7 +51,7 @@ class Tracer:
             build(self.library)
 
     def words(self, given: tuple[Word, ...]) -> tuple[Path, tuple[Word, ...]]:
-        """The program that is called in place of it, and with which words."""
+        """The program that is called instead, and its words."""
         if self.way == "strace":
             front = words(f"-f -qq -s 0 -e trace=read,write -e signal=none -o {self.log}")
             return Path(shutil.which("strace") or "strace"), (*front, str(self.program), *given)
@@ -69,7 +69,7 @@ class Tracer:
 
 
 def can_trace() -> bool:
-    """Whether strace is there, and may trace."""
+    """Whether strace exists and may trace."""
     if shutil.which("strace") is None:
         return False
     return subprocess.run(["strace", "-qq", "-o", "/dev/null", "true"], capture_output=True, check=False).returncode == 0
@@ -116,12 +116,12 @@ class Row:
             return f"{len(reads)} reads, where none may be" if reads else None
         offered = sorted({it.offered for it in reads})
         if offered != [PART]:
-            return f"reads of {offered} bytes, in place of {PART}"
+            return f"reads of {offered} bytes, where {PART} are due"
         sizes = [it.moved for it in reads]
         if self.read is None:
             return None if MOST_BYTES < sum(sizes) <= MOST_BYTES + PART else f"{sum(sizes)} bytes were read in {len(sizes)} reads"
         if sum(sizes) != self.read or sizes.count(0) != 1 or sizes[-1] != 0:
-            return f"{sum(sizes)} bytes in place of {self.read}, by {len(sizes)} reads, {sizes.count(0)} of them of none"
+            return f"{sum(sizes)} bytes, where {self.read} are due, by {len(sizes)} reads, {sizes.count(0)} of them of none"
         most = -(-self.read // PART) + 1
         return f"{len(sizes)} reads, where {most} do" if self.call.source == Source.FILE and len(sizes) > most else None
 
@@ -135,7 +135,7 @@ def wrong_writes(moved: Iterable[Moved], ended: Ended, row: Row) -> str | None:
                 return f"{len(sizes)} writes to {stream}, of which the first failed"
             continue
         if sum(sizes) != len(text):
-            return f"writes of {sum(sizes)} bytes to {stream}, in place of {len(text)}"
+            return f"writes of {sum(sizes)} bytes to {stream}, where {len(text)} are due"
         odd = [size for size in sizes[:-1] if size < PART // 2] + [size for size in sizes if size > row.most]
         if odd:
             return f"{len(sizes)} writes of {len(text)} bytes to {stream}, some of them of {sorted(set(odd))[:5]}"
@@ -207,7 +207,7 @@ def main() -> None:
             tracer = Tracer(program, Path(name))
         except Missing as missing:
             tally.skip("reads and writes", str(missing))
-            sys.exit(SKIPPED)
+            tally.end()
         for row in rows:
             tally.run(row.name, partial(row.wrong, tracer))
     tally.end()

@@ -11,6 +11,7 @@ from __future__ import annotations
 import copy
 import os
 import sys
+from collections import Counter
 from dataclasses import dataclass, field
 from functools import partial
 from pathlib import Path
@@ -65,6 +66,12 @@ class Script:
     sections: Sections
     legal: dict[str, set[bytes]] = field(default_factory=dict)
     """Each report's texts, by every order."""
+
+    def mirrored(self) -> Script:
+        """The same with the workers' sections in the opposite order: a worker that starts early often ends before the next begins."""
+        workers = [caller for caller in self.sections if caller]
+        swapped = {caller: self.sections[other] for caller, other in zip(workers, reversed(workers))}
+        return Script(f"{self.name}, mirrored", {0: self.sections[0], **swapped})
 
     def text(self) -> bytes:
         """The script's text."""
@@ -177,6 +184,49 @@ def closer_journal(program: Path, script: bytes) -> Optional[str]:
     return None if told in ends else f"journal: {told.status}, {told.output[-80:]!r}"
 
 
+def droppers(program: Path) -> Optional[str]:
+    """63 workers each take a page, find it pinned and put it back over and over, and one of them closes the node halfway."""
+    turn = ["take 0 1", "splitnext 0", "putback 0"]
+    half, closer = turn * (ROUNDS // 2), (MOST_WORKERS + 1) // 2
+    sections = [[*half, *(["close 0"] if worker == closer else []), *half] for worker in range(1, MOST_WORKERS + 1)]
+    script = SETUP + b"".join(b"worker %d\n" % worker + joined(own) for worker, own in enumerate(sections, 1))
+    wrong, lists = own_answers(program, script)
+    if wrong or len(lists[closer]) != len(sections[closer - 1]):
+        return f"answers: {wrong or len(lists[closer])}"
+    if lists[closer].pop(len(half)) != "ok":
+        return "the only close isn't ok"
+    counts: Counter[str] = Counter()
+    for worker, own in enumerate(lists[1:], 1):
+        turns = [turn_word(own[place : place + 3]) for place in range(0, len(own), 3)]
+        counts.update(turns)
+        first = next((place for place, it in enumerate(turns) if it != "back"), len(turns))
+        if len(turns) != ROUNDS or "back" in turns[first:] or "wrong" in turns or (worker == closer and first > ROUNDS // 2):
+            return f"answers of worker {worker}: {len(turns)} turns, {turns[first : first + 5]} from turn {first} on"
+    # Pages go into the queue no more once it is closed: where it was found empty, all of them have been dropped at the end.
+    if counts["dropped"] > MOST_BATCH or (counts["none"] and counts["dropped"] != MOST_BATCH):
+        return f"answers: {counts['dropped']} of {MOST_BATCH} pages were dropped"
+    return dropper_journal(program, script)
+
+
+def turn_word(answers: Sequence[str]) -> str:
+    """What became of a page that was taken: `back`, `dropped`, `none` where the queue was empty, or `wrong`."""
+    taken, tried, ended = answers
+    if taken == "taken 0":
+        return "none" if (tried, ended) == ("done", "back 0 dropped 0") else "wrong"
+    known = {"back 1 dropped 0": "back", "back 0 dropped 1": "dropped"}
+    return known.get(ended, "wrong") if taken == "taken 1" and tried.startswith("pinned ") else "wrong"
+
+
+def dropper_journal(program: Path, script: bytes) -> Optional[str]:
+    """The journal has one close, a try and an end for each take, and is legal."""
+    told = run(program, Call((*OPTIONS, "--report", "journal"), script))
+    events = [line.split(b" ")[1] for line in told.output.splitlines()[2:-1]]
+    taken, tried, back, dropped = (events.count(word) for word in (b"taken", b"pinned", b"back", b"dropped"))
+    if told.status or events.count(b"close") != 1 or not taken == tried == back + dropped or dropped > MOST_BATCH:
+        return f"journal: status {told.status}, {taken} taken, {tried} pinned, {back} back, {dropped} dropped"
+    return run(program, Call(CHECK, told.output)).differs_from(LEGAL)
+
+
 def takers(program: Path) -> Optional[str]:
     """63 workers each take a page of 128 over and over, find it pinned, and put it back, one of them not by a command."""
     turn = ["take 0 1", "splitnext 0", "take 0 0", "putback 0", "take 0 0", "putback 0"]
@@ -212,8 +262,10 @@ def main() -> None:
         sys.exit(__doc__)
     program, tally = Path(sys.argv[1]), Tally()
     for script in SCRIPTS:
-        tally.run(script.name, partial(script.wrong, program))
+        for either in (script, script.mirrored()):
+            tally.run(either.name, partial(either.wrong, program))
     tally.run("63 workers open empty batches and close", lambda: closers(program))
+    tally.run("63 workers put pages back, and one closes", lambda: droppers(program))
     tally.run("63 workers take a page, find it pinned and put it back", lambda: takers(program))
     tally.end()
 

@@ -37,6 +37,7 @@ from typing import Any, Dict, List, Optional, Tuple
 
 PATIENCE = 20.0  # seconds that processes get to end, and control groups to become empty
 GRACE = 0.5  # seconds after a hold's limit at which the standby ends it, where the guardian has not
+STANDBY_PATIENCE = 2.0  # seconds that the standby gets to end
 PACKET = 1 << 17  # bytes of the longest order
 UNDO, HELD = "undo", "held"
 HIERARCHIES = ("freezer", "memory")  # of version 1: those that end or freeze processes
@@ -452,6 +453,13 @@ def serve(tool: socket.socket, guardian: Guardian) -> None:
             return  # the tool ended between order and answer
 
 
+def await_standby(number: int) -> None:
+    """Waits a while until the standby has ended: it has the tool's lock, too."""
+    until = time.monotonic() + STANDBY_PATIENCE
+    while os.waitpid(number, os.WNOHANG)[0] == 0 and time.monotonic() < until:
+        time.sleep(0.001)
+
+
 def main() -> int:
     """Starts the standby, and serves the tool: words are its number, its pidfd, and the tools' folder."""
     for each in (signal.SIGINT, signal.SIGTERM, signal.SIGHUP, signal.SIGQUIT, signal.SIGPIPE, signal.SIGTSTP):
@@ -475,6 +483,7 @@ def main() -> int:
     for problem in problems:
         print(f"guardian: {problem}", file=sys.stderr, flush=True)
     ours.close()
+    await_standby(standby)
     return 1 if problems else 0
 
 

@@ -276,6 +276,10 @@ class KeeperTest(unittest.TestCase):
         self.assertRegex(put_back(entries, is_later=True)[0], "has been changed since to 'by an administrator'")
         self.assertEqual((self.folder / "setting").read_text(), "by an administrator\n")
 
+    def test_the_next_tool_finds_the_lock_free(self) -> None:
+        for _ in range(5):
+            Keeper("test", folder=self.run_folder).close()
+
     def test_one_tool_at_a_time(self) -> None:
         with Keeper("test", folder=self.run_folder):
             with self.assertRaisesRegex(Busy, f"test, process {os.getpid()}, is running"):
