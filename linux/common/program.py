@@ -6,13 +6,13 @@ import os
 import re
 import shutil
 import subprocess
-import tempfile
 from dataclasses import dataclass
 from pathlib import Path
 from typing import IO, Dict, List, Optional, Sequence, Union
 
 from .errors import InputFault, RunFailed, Unavailable
 from .journal import NodeJournal, journal_of
+from .keeper import FOLDER, open_folder
 from .text import escaped, text_lines
 from .user import command_of, nobody
 
@@ -82,22 +82,33 @@ def start(
     """Starts a program that needs no rights: where this tool is root, as user nobody, in an empty folder. Unavailable
     where it can't be run."""
     user = nobody()
-    with tempfile.TemporaryDirectory(prefix="leversorrel-") as empty:
-        os.chmod(empty, 0o555)
-        descriptors: List[int] = []
-        try:
-            word, descriptors = command_of(path, user)
-            return subprocess.Popen(
-                [word, *options], stdin=stdin, stdout=stdout, stderr=stderr, cwd=empty, pass_fds=descriptors,
-                env=ENVIRONMENT, **user.rights(),
-            )
-        except (OSError, ValueError) as error:
-            reason = getattr(error, "strerror", None) or str(error)
-            rights = "" if user.is_caller else " as user nobody (CAP_SETUID, CAP_SETGID)"
-            raise Unavailable(f"{escaped(path)} can't be run{rights}: {reason}") from error
-        finally:
-            for each in descriptors:
-                os.close(each)
+    descriptors: List[int] = []
+    try:
+        word, descriptors = command_of(path, user)
+        return subprocess.Popen(
+            [word, *options], stdin=stdin, stdout=stdout, stderr=stderr, cwd=empty_folder(), pass_fds=descriptors,
+            env=ENVIRONMENT, **user.rights(),
+        )
+    except (OSError, ValueError) as error:
+        reason = getattr(error, "strerror", None) or str(error)
+        rights = "" if user.is_caller else " as user nobody (CAP_SETUID, CAP_SETGID)"
+        raise Unavailable(f"{escaped(path)} can't be run{rights}: {reason}") from error
+    finally:
+        for each in descriptors:
+            os.close(each)
+
+
+def empty_folder() -> str:
+    """Returns the folder in which such programs run: where this tool is root, an empty one in which nobody can write."""
+    if os.geteuid() != 0:
+        return "/"
+    open_folder(FOLDER)
+    path = f"{FOLDER}/empty"
+    try:
+        os.mkdir(path, 0o555)
+    except FileExistsError:
+        pass
+    return path
 
 
 def call(path: str, options: Sequence[str], text: str) -> subprocess.CompletedProcess[str]:

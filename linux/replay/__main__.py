@@ -202,6 +202,7 @@ def replay(asked: argparse.Namespace) -> int:
     if asked.undo:
         for line in recover(NAME):
             print(escaped(line))
+        print("nothing more is to be put back")
         return DONE
     if not asked.script and not asked.random:
         raise InputFault("no script: name one, or ask for random ones (--random COUNT)")

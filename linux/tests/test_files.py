@@ -133,7 +133,8 @@ class UserTest(unittest.TestCase):
         told, _ = child.communicate()
         number = os.geteuid() or user.NOBODY
         groups = os.getgroups() if os.geteuid() else []
-        self.assertEqual(told.decode().strip(), f"{number} {groups} [] ['LC_ALL', 'PATH'] False")
+        files = os.listdir("/") if os.geteuid() else []
+        self.assertEqual(told.decode().strip(), f"{number} {groups} {files} ['LC_ALL', 'PATH'] False")
 
     def test_the_user_behind_sudo(self) -> None:
         if os.geteuid():
