@@ -336,8 +336,7 @@ class Guardian:
         self._limit = float(order["hold"])
         self._began, self._is_late = time.monotonic(), False
         self.deadline = self._began + self._limit
-        if self._standby:
-            self._standby.send(f"limit {self._limit + GRACE}".encode())
+        self._inform(f"limit {self._limit + GRACE}")
         return json.dumps(list(self._own))
 
     def _freeze(self, order: Entry, _descriptors: List[int]) -> str:
@@ -372,8 +371,7 @@ class Guardian:
         clear(self._held)
         for problem in problems:
             print(f"guardian: {problem}", file=sys.stderr, flush=True)
-        if self._standby:
-            self._standby.send(b"released")
+        self._inform("released")
 
     def end(self) -> List[str]:
         """Puts everything back, and returns what could not be put back."""
@@ -385,9 +383,16 @@ class Guardian:
                 pass  # it has ended
         problems = put_back(read_entries(self._undo))
         clear(self._undo)
-        if self._standby:
-            self._standby.send(b"done")
+        self._inform("done")
         return problems
+
+    def _inform(self, word: str) -> None:
+        """Tells the standby. One that was killed is done without: what it was for is done here."""
+        try:
+            if self._standby:
+                self._standby.send(word.encode())
+        except OSError:
+            self._standby = None
 
 
 def put_back_all(folder: str, is_later: bool) -> Tuple[List[Entry], List[str]]:

@@ -185,7 +185,7 @@ class Keeper:
     def begin_hold(self, limit: float) -> List[int]:
         """Begins a time of at most `limit` seconds in which processes are held, and returns those that must not be: the
         tool and its guardians."""
-        return [int(number) for number in json.loads(self._ask({"hold": limit}))]
+        return [int(number) for number in self._facts({"hold": limit})]
 
     def freeze(self, file: str, text: str, former: str) -> None:
         """Freezes a control group by its freezer's file, until `end_hold`. RunFailed where the tool itself or its
@@ -200,8 +200,8 @@ class Keeper:
     def end_hold(self) -> Tuple[float, bool]:
         """Lets all held processes run on; returns for how many seconds they were held, and whether the limit ended
         it."""
-        answer = json.loads(self._ask({"release": 1}))
-        return float(answer["seconds"]), bool(answer["late"])
+        facts = self._facts({"release": 1})
+        return float(facts["seconds"]), bool(facts["late"])
 
     def close(self) -> None:
         """Has everything put back, and waits for it. The guardian reports on standard error what could not be."""
@@ -216,6 +216,14 @@ class Keeper:
         answer = self._ask(order, descriptors)
         if answer != "ok":
             raise RunFailed(answer)
+
+    def _facts(self, order: Dict[str, Any]) -> Any:
+        """The JSON value that answers an order."""
+        answer = self._ask(order)
+        try:
+            return json.loads(answer)
+        except ValueError as error:
+            raise RunFailed(answer) from error
 
     def _ask(self, order: Dict[str, Any], descriptors: Sequence[int] = ()) -> str:
         if self._guardian is None:

@@ -185,6 +185,14 @@ def kill_both(tool: subprocess.Popen[str]) -> None:
         os.kill(number, signal.SIGKILL)
 
 
+def kill_standby(tool: subprocess.Popen[str]) -> None:
+    """The standby alone; then the tool."""
+    for number in descendants(tool.pid)[1:2]:
+        os.kill(number, signal.SIGKILL)
+    time.sleep(0.02)
+    tool.kill()
+
+
 def kill_guardian(tool: subprocess.Popen[str]) -> None:
     for number in descendants(tool.pid)[:1]:
         os.kill(number, signal.SIGKILL)
@@ -325,14 +333,16 @@ def main() -> int:
     for file in ("cgroup.freeze", "freezer.state", ""):
         what = file or "SIGSTOP"
         for name, kill in (("the tool is killed", kill_tool), ("tool and guardian are killed", kill_both),
-                           ("the guardian is killed", kill_guardian), ("the tool is stopped", stop_tool),
+                           ("the guardian is killed", kill_guardian), ("standby and tool are killed", kill_standby),
+                           ("the tool is stopped", stop_tool),
                            ("tool and guardian are stopped", stop_both)):
             if name.endswith("stopped"):
                 cases.run(f"{what}: {name}", lambda: once(kill, file))
             else:
                 cases.run(f"{what}: {name}", lambda: spared_after(kill, file))
         cases.run(f"{what}: all three are killed", lambda: next_start_lets_run_on(file))
-    for name, kill in (("the tool", kill_tool), ("tool and guardian", kill_both), ("all three", kill_all)):
+    for name, kill in (("the tool", kill_tool), ("tool and guardian", kill_both), ("standby and tool", kill_standby),
+                       ("all three", kill_all)):
         cases.run(f"settings after {name} were killed", lambda: settings_are_put_back(kill))
     cases.run("a setting that was changed since", changed_since_is_left)
     for file in ("cgroup.freeze", "freezer.state"):

@@ -4,6 +4,7 @@ from __future__ import annotations
 
 import os
 import signal
+import socket
 import subprocess
 import sys
 import tempfile
@@ -18,7 +19,7 @@ from ..common.btf import Missing, Types
 from ..common.errors import Busy, InputFault, Unavailable
 from ..common.files import chosen
 from ..common.groups import find_hierarchy
-from ..common.guardian import Entry, put_back, write
+from ..common.guardian import Entry, Guardian, put_back, write
 from ..common.holding import held
 from ..common.journal import journal_of, journal_text
 from ..common.keeper import Keeper
@@ -269,6 +270,18 @@ class KeeperTest(unittest.TestCase):
         self.assertEqual((self.folder / "setting").read_text(), "new")
         with Keeper("test", wait=True, folder=self.run_folder):
             self.assert_as_before()
+
+    def test_a_guardian_whose_standby_was_killed_puts_everything_back(self) -> None:
+        ours, theirs = socket.socketpair(socket.AF_UNIX, socket.SOCK_SEQPACKET)
+        theirs.close()
+        os.mkdir(self.run_folder)
+        guardian = Guardian(self.run_folder, {}, ours)
+        setting = str(self.folder / "setting")
+        guardian.take({"file": setting, "text": "old", "set": "new"}, [])
+        Path(setting).write_text("new")
+        guardian.take({"hold": 5}, [])
+        self.assertEqual((guardian.end(), Path(setting).read_text()), ([], "old"))
+        ours.close()
 
     def test_a_setting_that_was_changed_since_is_left(self) -> None:
         entries: List[Entry] = [{"file": str(self.folder / "setting"), "text": "former", "set": "new"}]
