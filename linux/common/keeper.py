@@ -16,6 +16,7 @@ import errno
 import fcntl
 import json
 import os
+import re
 import socket
 import stat
 import subprocess
@@ -25,9 +26,9 @@ from types import TracebackType
 from typing import Any, Dict, List, Optional, Sequence, Tuple, Type
 
 from .errors import Busy, RunFailed, Unavailable
-from .files import PathText, chosen, read, write
+from .files import PathText, chosen, read, read_bytes, write
 from .guardian import HELD, PACKET, UNDO, put_back_all
-from .text import escaped
+from .text import escaped, lines
 
 FOLDER = "/run/leversorrel"  # the tools' own: root's, mode 0700; gone with the next start of the machine
 LOCK = "lock"
@@ -108,6 +109,16 @@ def recover(name: str, folder: str = FOLDER) -> List[str]:
         os.close(lock)
 
 
+def process_of(pidfd: int) -> int:
+    """Returns the number of the process that a pidfd refers to (proc(5), fdinfo, in the namespace of /proc). RunFailed
+    where the process has ended."""
+    for line in lines(read_bytes(f"/proc/self/fdinfo/{pidfd}")):
+        found = re.fullmatch(rb"Pid:\t([1-9][0-9]{0,9})", line)
+        if found:
+            return int(found[1])
+    raise RunFailed("a process of the tool has ended")
+
+
 class Keeper:
     """Holds the lock from its making to its end. Busy where another tool has it; `wait`: waits for that tool's end."""
 
@@ -176,7 +187,7 @@ class Keeper:
 
     def own_descriptor(self, descriptor: int, number: int = 0) -> None:
         """Hands the guardian a process by its pidfd, which the caller may close afterwards."""
-        self._tell({"keep": number or self._number_of(descriptor)}, [descriptor])
+        self._tell({"keep": number or process_of(descriptor)}, [descriptor])
 
     def disown(self, process: int) -> None:
         """Such a process has ended."""
@@ -236,11 +247,3 @@ class Keeper:
         if not answer:
             raise RunFailed(ENDED)
         return answer.decode("utf-8", "replace")
-
-    @staticmethod
-    def _number_of(descriptor: int) -> int:
-        """The process number of a pidfd (proc(5), fdinfo)."""
-        for line in read(f"/proc/self/fdinfo/{descriptor}").split("\n"):
-            if line.startswith("Pid:") and int(line.split()[1]) > 0:
-                return int(line.split()[1])
-        raise RunFailed("a process of the tool has ended")

@@ -16,17 +16,15 @@ import subprocess
 from typing import Dict, List, Optional, Tuple
 
 from ..common.errors import RunFailed, Unavailable
-from ..common.files import BASE, read_bytes
+from ..common.files import BASE
 from ..common.helpers import helper
-from ..common.keeper import Keeper
+from ..common.keeper import Keeper, process_of
 from ..common.page_files import NumberFile, frame_of_entry
-from ..common.text import lines
 
 PATIENCE = 20.0  # seconds until a reply
 MOST_REPLY = 64  # bytes
 
 _REPLY = re.compile(rb"(ok|error) (0|[1-9][0-9]{0,17})")
-_PID = re.compile(rb"Pid:\t([1-9][0-9]{0,9})")
 
 
 class Refusal(RunFailed):
@@ -39,15 +37,6 @@ def parse_reply(data: bytes) -> Tuple[bool, int]:
     if not found:
         raise RunFailed(f"a mapping process sends what is no reply: {data!r}")
     return found[1] == b"ok", int(found[2])
-
-
-def number_of(pidfd: int) -> int:
-    """Returns the number of the process that a pidfd refers to (/proc/self/fdinfo, in the namespace of /proc)."""
-    found = [_PID.fullmatch(line) for line in lines(read_bytes(f"/proc/self/fdinfo/{pidfd}"))]
-    numbers = [int(each[1]) for each in found if each]
-    if len(numbers) != 1:
-        raise RunFailed("a mapping process has ended")
-    return numbers[0]
 
 
 def has_ended(pidfd: int) -> bool:
@@ -178,7 +167,7 @@ class Mapper:
 
     def _open_pagemap(self) -> NumberFile:
         try:
-            pagemap = NumberFile(f"/proc/{number_of(self.pidfd)}/pagemap")
+            pagemap = NumberFile(f"/proc/{process_of(self.pidfd)}/pagemap")
         except Unavailable as error:
             raise RunFailed(str(error)) from error
         if has_ended(self.pidfd):

@@ -17,6 +17,7 @@ from ..common.checker import Checker, find_judge
 from ..common.errors import InputFault, Unavailable
 from ..common.program import Program
 from ..common.journal import journal_of
+from ..common.text import text_lines
 from ..record.journalist import Journalist
 from ..record.judging import JournalFile, Judged, judge
 from ..record.state import Settings
@@ -71,13 +72,13 @@ class ExplainedTest(unittest.TestCase):
         text, line = spoilt_copy()
         judged = judged_text(text, self.checker(True))
         self.assertEqual((judged.legal, judged.text.split(" (")[0]), (False, f"illegal line {line}"))
-        self.assertEqual(judged.why[0], f"line {line}: {text.splitlines()[line - 1]}")
+        self.assertEqual(judged.why[0], f"line {line}: {text_lines(text)[line - 1]}")
 
     def test_a_checker_that_does_not_explain_is_not_asked_to(self) -> None:
         text, line = spoilt_copy()
         judged = judged_text(text, self.checker(False))
         self.assertEqual((judged.legal, judged.why), (False, []))
-        self.assertTrue(judged.text.startswith(f"illegal line {line}: {text.splitlines()[line - 1]} ("))
+        self.assertTrue(judged.text.startswith(f"illegal line {line}: {text_lines(text)[line - 1]} ("))
 
     def test_a_legal_journal_has_nothing_to_explain(self) -> None:
         judged = judged_text(journal_of_one_thread(), self.checker(True))
@@ -99,7 +100,7 @@ class BuiltTest(unittest.TestCase):
         verdict = checker.check(text)
         self.assertEqual((verdict.text, verdict.line), (f"illegal line {line}", line))
         if verdict.why:
-            self.assertEqual(verdict.why.splitlines()[0], f"line {line}: {text.splitlines()[line - 1]}")
+            self.assertEqual(text_lines(verdict.why)[0], f"line {line}: {text_lines(text)[line - 1]}")
             self.assertIn("\nwhy: ", verdict.why)
 
 

@@ -15,8 +15,9 @@ from typing import ClassVar, List, Optional, Tuple
 from unittest import mock
 
 from ..common.errors import RunFailed
+from ..common.keeper import process_of
 from ..replay import mappers
-from ..replay.mappers import Line, Refusal, has_ended, number_of, parse_reply, socket_pair
+from ..replay.mappers import Line, Refusal, has_ended, parse_reply, socket_pair
 
 SOURCE = Path(__file__).resolve().parent.parent / "replay/mapper.c"
 WRONG = [
@@ -130,7 +131,7 @@ class MapperTest(unittest.TestCase):
         with its:
             _, pidfd = line.ask("fork", its.fileno())
         assert pidfd is not None
-        self.assertNotIn(number_of(pidfd), (0, self.process.pid))
+        self.assertNotIn(process_of(pidfd), (0, self.process.pid))
         mine.send(b"unpin")
         self.assertEqual(mine.recv(100), b"error 2")
         line.close()
@@ -209,5 +210,5 @@ class LineTest(unittest.TestCase):
     def test_a_descriptor_that_is_no_pidfd_has_no_number(self) -> None:
         found: List[int] = []
         with tempfile.TemporaryFile() as file, self.assertRaises(RunFailed):
-            found.append(number_of(file.fileno()))
+            found.append(process_of(file.fileno()))
         self.assertEqual(found, [])
